@@ -1,0 +1,5 @@
+pub mod Vector
+pub mod SquareRoot
+pub mod Nearest
+pub mod Quaternion
+pub mod Order

@@ -1,0 +1,82 @@
+// FORMAT 9.3: vectors of three f32, their length, and normalising.
+ghost use mathlib.Core.Path.{_≡_};
+ghost use Rattle.math.specs.Vector.{vadd, vsub, vscale, vdot, vcross, vlen, unitOf};
+use crate::square_root::root;
+use crate::word::is_finite;
+
+pub struct V3 {
+    pub x: f32,
+    pub y: f32,
+    pub z: f32,
+}
+
+// A direction: a vector scaled to length 1, or none.
+pub enum Unit {
+    Of(V3),
+    Nothing,
+}
+
+pub fn add(a: V3, b: V3) -> V3
+    ensures { λ r. ⌜ r ≡ vadd a b ⌝ }
+{
+    V3 {
+        x: a.x + b.x,
+        y: a.y + b.y,
+        z: a.z + b.z,
+    }
+}
+
+pub fn sub(a: V3, b: V3) -> V3
+    ensures { λ r. ⌜ r ≡ vsub a b ⌝ }
+{
+    V3 {
+        x: a.x - b.x,
+        y: a.y - b.y,
+        z: a.z - b.z,
+    }
+}
+
+pub fn scale(a: V3, s: f32) -> V3
+    ensures { λ r. ⌜ r ≡ vscale a s ⌝ }
+{
+    V3 {
+        x: a.x * s,
+        y: a.y * s,
+        z: a.z * s,
+    }
+}
+
+pub fn dot(a: V3, b: V3) -> f32
+    ensures { λ r. ⌜ r ≡ vdot a b ⌝ }
+{
+    a.x * b.x + a.y * b.y + a.z * b.z
+}
+
+pub fn cross(a: V3, b: V3) -> V3
+    ensures { λ r. ⌜ r ≡ vcross a b ⌝ }
+{
+    V3 {
+        x: a.y * b.z - a.z * b.y,
+        y: a.z * b.x - a.x * b.z,
+        z: a.x * b.y - a.y * b.x,
+    }
+}
+
+pub fn len(a: V3) -> f32
+    ensures { λ r. ⌜ r ≡ vlen a ⌝ }
+{
+    root(dot(a, a))
+}
+
+// None for a vector whose length is not finite, or not above 1e-20.
+pub fn normalize(a: V3) -> Unit
+    ensures { λ r. ⌜ r ≡ unitOf a ⌝ }
+{
+    let l = len(a);
+    if is_finite(l) {
+        if l > 1e-20 {
+            return Unit::Of(scale(a, 1.0 / l));
+        }
+    }
+    Unit::Nothing
+}
