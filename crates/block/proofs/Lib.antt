@@ -1,0 +1,10 @@
+-- The laws that other crates cite.
+pub mod ListLaws
+pub mod Table
+pub mod TableRows
+pub mod TextureRows
+pub mod SettingsRows
+pub mod RunLaws
+pub mod ValueLaws
+pub mod StreamLaws
+pub mod RunRows

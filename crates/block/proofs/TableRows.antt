@@ -1,0 +1,48 @@
+-- Rows of the table of refusals, of whole blocks, at the limit 8,192. FORMAT 3.
+use Prim.Native.Nat.{ℕ, _/_, _%_, _^_}
+use mathlib.Core.Path.{_≡_, refl}
+use mathlib.Core.List.{List, [], _∷_, _++_}
+use lib.ListN.{take, set}
+use Rattle.bits.specs.Bits.{field}
+use Rattle.block.specs.Header.{headerOf, countsOf}
+use Rattle.block.specs.Lists.{widths, wordsIn, wordCount}
+use Rattle.block.specs.Refusal.{anyAbove, conditionsOf, conditions, firstFrom, firstOf}
+
+-- the bytes of words
+abbrev pub bytesOf : List ℕ → List ℕ
+bytesOf [] = []
+bytesOf (w ∷ ws) = w / 2 ^ 24 ∷ w / 2 ^ 16 % 256 ∷ w / 2 ^ 8 % 256 ∷ w % 256 ∷ bytesOf ws
+
+-- a grid of 2 by 2 points: edition 1, kind 2, ccw, convex and solid
+unfoldable pub gridHeader : List ℕ
+gridHeader = bytesOf (0x15c0_0000 ∷ 0x8002_0000 ∷ 0x0040_0000 ∷ 0 ∷ 0 ∷ [])
+
+abbrev pub oneWord : ℕ
+oneWord = 0x3f80_0000
+
+-- its twelve words (crease angle 0 and its cosine, spacing 1, a transform that changes nothing), and four heights 0
+unfoldable pub gridRest : List ℕ
+gridRest = bytesOf (0 ∷ oneWord ∷ oneWord ∷ oneWord ∷ 0 ∷ 0 ∷ 0 ∷ oneWord ∷ oneWord ∷ oneWord ∷ 0 ∷ 0 ∷ 0 ∷ 0 ∷ 0 ∷ 0 ∷ [])
+
+-- the grid with another header
+unfoldable pub grid : List ℕ → List ℕ
+grid header = header ++ gridRest
+
+pub grid-counts : headerOf (grid gridHeader) .counts ≡ 2 ∷ 2 ∷ 0 ∷ 4 ∷ 0 ∷ 0 ∷ 0 ∷ 0 ∷ []
+unfolding grid gridHeader gridRest headerOf countsOf field
+grid-counts = refl
+
+abbrev pub number : List ℕ → ℕ
+number bs = firstOf (conditions 8192 bs)
+
+-- byte 0 is 4 bits of edition, 3 of kind, ccw; count 0 is the last 4 bits of byte 2, byte 3 and the first 2 bits of byte 4
+pub table-rows : (number (grid gridHeader) ≡ 0)  -- the grid is taken
+    × (number (take 19 gridHeader) ≡ 1)  -- its first 19 bytes
+    × (number (grid (set gridHeader 0 37)) ≡ 2)  -- edition 2
+    × (number (grid (set gridHeader 0 25)) ≡ 3)  -- kind 4
+    × (number (grid (set gridHeader 19 1)) ≡ 3)  -- the last of the 28 bits is set
+    × (number (grid (set (set gridHeader 2 8) 4 64)) ≡ 4)  -- count 0 is 8,193
+    × (number (grid (set (set gridHeader 2 8) 4 0)) ≡ 0)  -- count 0 is 8,192: a side has no words
+    × (number (grid gridHeader ++ 0 ∷ []) ≡ 5)  -- a byte too many
+unfolding grid gridHeader gridRest conditionsOf firstFrom anyAbove headerOf countsOf widths wordsIn wordCount field
+table-rows = (refl, refl, refl, refl, refl, refl, refl, refl)

@@ -1,0 +1,10 @@
+-- The definitions that the contracts of `block` cite.
+pub mod Header
+pub mod Lists
+pub mod Refusal
+pub mod Crease
+pub mod Texture
+pub mod Settings
+pub mod Runs
+pub mod Value
+pub mod Stream

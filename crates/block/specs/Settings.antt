@@ -1,0 +1,56 @@
+-- The twelve words after the header, with what is read for those that are not finite. FORMAT 2.3.
+use Prim.Native.Nat.{ℕ, _+_, _*_}
+use mathlib.Core.Bool.{_&&_, cond}
+use mathlib.Core.List.{List}
+use lib.Ieee.{Float, binary32, ofBits}
+use lib.Ieee.Scale.{finite}
+use Rattle.bits.specs.Bits.{field}
+use Rattle.block.specs.Crease.{zero, creaseOf}
+use Rattle.block.specs.Texture.{one}
+use Rattle.block.specs.declared.texture.Pair.{Pair}
+use Rattle.block.specs.declared.texture.TexTransform.{TexTransform}
+use Rattle.block.specs.declared.settings.Settings.{Settings}
+
+-- FORMAT 2.3: float k of the twelve, after 160 bits
+abbrev pub floatAt : List ℕ → ℕ → Float
+floatAt bs k = ofBits binary32 (field bs (160 + 32 * k) 32)
+
+-- FORMAT 2.3: x, or the other where x is not finite
+abbrev pub finiteOr : Float → Float → Float
+finiteOr x other = cond (finite x) x other
+
+-- FORMAT 2.3: both of a pair change together
+unfoldable pub pairOr : Pair → Pair → Pair
+pairOr p other = cond (finite (p .s) && finite (p .t)) p other
+
+-- FORMAT 2.3: floats k and k + 1, or (s, t)
+abbrev pub pairAt : List ℕ → ℕ → Float → Float → Pair
+pairAt bs k s t = pairOr (record { s = floatAt bs k; t = floatAt bs (k + 1) }) (record { s = s; t = t })
+
+-- FORMAT 2.3, TexTransform::from_node: centre, sine and cosine of the rotation, scale, translation
+unfoldable pub transformOf : List ℕ → TexTransform
+transformOf bs =
+    let center = pairAt bs 4 zero zero in
+    let rotation = pairAt bs 6 zero one in
+    let scale = pairAt bs 8 one one in
+    let translation = pairAt bs 10 zero zero in
+    record {
+      «center_s» = center .s;
+      «center_t» = center .t;
+      sine = rotation .s;
+      cosine = rotation .t;
+      «scale_s» = scale .s;
+      «scale_t» = scale .t;
+      «translation_s» = translation .s;
+      «translation_t» = translation .t;
+    }
+
+-- FORMAT 2.3: crease angle, its cosine as given, each spacing alone, the texture transform
+unfoldable pub settingsOf : List ℕ → Settings
+settingsOf bs =
+    record {
+      crease = creaseOf (finiteOr (floatAt bs 0) zero) (floatAt bs 1);
+      «x_spacing» = finiteOr (floatAt bs 2) one;
+      «z_spacing» = finiteOr (floatAt bs 3) one;
+      transform = transformOf bs;
+    }

@@ -1,0 +1,79 @@
+// What is refused of a block (FORMAT 3): the table's answers, and its rows 1 to 5.
+ghost use mathlib.Core.Path.{_≡_};
+ghost use lib.Dec.{eqb};
+ghost use Rattle.block.specs.Refusal.{anyAbove, conditions, firstOf, numberOf};
+use crate::header::read_header;
+use crate::lists::block_bytes;
+
+pub enum Refusal {
+    Stub,
+    Edition,
+    Kind,
+    ListLimit,
+    Length,
+    NoShape,
+    Corners,
+    Buffer,
+    Nothing,
+}
+
+// The table's number of an answer; 0 where nothing is refused.
+pub fn number_of(answer: Refusal) -> u32
+    ensures { λ r. ⌜ r ≡ numberOf answer ⌝ }
+{
+    match answer {
+        Refusal::Stub => 1,
+        Refusal::Edition => 2,
+        Refusal::Kind => 3,
+        Refusal::ListLimit => 4,
+        Refusal::Length => 5,
+        Refusal::NoShape => 6,
+        Refusal::Corners => 7,
+        Refusal::Buffer => 8,
+        Refusal::Nothing => 0,
+    }
+}
+
+pub fn is_taken(answer: Refusal) -> bool
+    ensures { λ r. ⌜ r ≡ eqb (numberOf answer) 0 ⌝ }
+{
+    number_of(answer) == 0
+}
+
+fn over_limit(n: [u32; 8], limit: u32) -> bool
+    ensures { λ r. ⌜ r ≡ anyAbove limit n ⌝ }
+{
+    for k in 0..8usize {
+        if limit < n[k] {
+            return true;
+        }
+    }
+    false
+}
+
+// The first of the rows 1 to 5 that holds.
+pub fn refusal_of(block: &[u8], limit: u32) -> Refusal
+    ensures { λ r. ⌜ numberOf r ≡ firstOf (conditions limit (now (block .entry))) ⌝ }
+{
+    if block.len() < 20 {
+        return Refusal::Stub;
+    }
+    let h = read_header(block);
+    if h.edition != 1 {
+        return Refusal::Edition;
+    }
+    if 3 < h.kind {
+        return Refusal::Kind;
+    }
+    if h.zeros != 0 {
+        return Refusal::Kind;
+    }
+    let n = h.counts;
+    if over_limit(n, limit) {
+        return Refusal::ListLimit;
+    }
+    if block.len() != block_bytes(h) {
+        return Refusal::Length;
+    }
+    Refusal::Nothing
+}
