@@ -170,7 +170,7 @@ pub below-all : (p : ℕ) (ws : List ℕ) (k : ℕ) → length ws ≤ k → allB
 unfolding allBelow
 below-all p ws k l e = rw (← e, drop-of-length-le ws l)
 
-below-at : (p : ℕ) (ws : List ℕ) → T (allBelow p ws) → (k : ℕ) → k < length ws → getD ws k 0 < p
+pub below-at : (p : ℕ) (ws : List ℕ) → T (allBelow p ws) → (k : ℕ) → k < length ws → getD ws k 0 < p
 unfolding allBelow
 below-at p [] t k h = absurd (not-suc-le-zero h)
 below-at p (w ∷ ws) t zero h = ltb→lt w p (and-l (ltb w p) _ t)

@@ -1,16 +1,16 @@
 -- The table of refusals: which number the conditions give, what a block has that is not refused, and how the table goes on. Assumes nothing.
 use Prim.Native.Nat.{ℕ, zero, suc, _+_, _*_, _≤_, _<_}
-use mathlib.Core.Path.{_≡_, refl, ap, sym, _∙_}
+use mathlib.Core.Path.{_≡_, refl, ap, sym, _∙_, subst}
 use mathlib.Core.Bool.{Bool, true, false, not, _||_, cond, true≢false}
 use mathlib.Core.List.{List, [], _∷_, _++_}
 use native.Mathlib.Omega.{arith}
-use native.Mathlib.Numerals.{add-one}
-use lib.Dec.{ltb, eqb}
-use lib.ListN.{length, getD, drop, drop-of-length-le}
-use lib.Seq.{drop-cons}
-use borrow.Author.Tests.{lt-ltb, le-ltb, eq-eqb, ne-eqb, ltb-false, eqb-true, not-false}
+use lib.Dec.{T, ltb, eqb}
+use lib.ListN.{length, getD, List·getD-eq-default}
+use borrow.Author.Tests.{lt-ltb, le-ltb, eq-eqb, ne-eqb, ltb-false, ltb-true, eqb-true, not-false}
 use Rattle.block.specs.Lists.{wordCount}
-use Rattle.block.specs.Refusal.{numberOf, anyAbove, isOverLimit, isOtherLength, conditionsOf, firstFrom, firstOf, Taken}
+use Rattle.block.specs.Runs.{allBelow}
+use Rattle.block.proofs.RunLaws.{below-at}
+use Rattle.block.specs.Refusal.{numberOf, isOverLimit, isOtherLength, conditionsOf, firstFrom, firstOf, Taken}
 use Rattle.block.specs.declared.header.Header.{Header}
 use Rattle.block.specs.declared.refusal.Refusal.{Refusal}
 use Rattle.block.specs.declared.refusal.Refusal.the-variants.{Stub, Edition, Kind, ListLimit, Length, NoShape, Corners, Buffer, Nothing}
@@ -41,20 +41,6 @@ answer-of-number Nothing = refl
 
 pub number-one-to-one : (a b : Refusal) → numberOf a ≡ numberOf b → a ≡ b
 number-one-to-one a b e = sym (answer-of-number a) ∙ ap answerOf e ∙ answer-of-number b
-
--- ---- whether a count is above the limit, from the front
-module _ (limit : ℕ) (l : List ℕ) (k : ℕ) (e : anyAbove limit (drop k l) ≡ anyAbove limit l) where
-  pub above-here : k < length l → limit < getD l k 0 → true ≡ anyAbove limit l
-  unfolding anyAbove
-  above-here h t = rw (← e, drop-cons l k 0 h, lt-ltb limit _ t)
-
-  pub above-step : k < length l → getD l k 0 ≤ limit → anyAbove limit (drop (k + 1) l) ≡ anyAbove limit l
-  unfolding anyAbove
-  above-step h t = rw (← e, drop-cons l k 0 h, le-ltb limit _ t, add-one)
-
-  pub above-none : length l ≤ k → false ≡ anyAbove limit l
-  unfolding anyAbove
-  above-none h = rw (← e, drop-of-length-le l h)
 
 -- ---- a row for each return
 -- what the first three rows leave
@@ -88,11 +74,11 @@ module _ (limit : ℕ) (bs : List ℕ) (h : Header) where
     unfolding conditionsOf firstFrom
     rest = rw (le-ltb _ 20 (k .whole), eq-eqb _ 1 (k .edition-is), le-ltb 3 _ (k .kind-is), eq-eqb _ 0 (k .zeros-are))
 
-    pub row-limit : anyAbove limit (h .counts) ≡ true → 4 ≡ firstOf (conditionsOf limit bs h)
+    pub row-limit : not (allBelow (suc limit) (h .counts)) ≡ true → 4 ≡ firstOf (conditionsOf limit bs h)
     unfolding firstFrom
     row-limit t = rw (rest, t)
 
-    module _ (t : anyAbove limit (h .counts) ≡ false) where
+    module _ (t : not (allBelow (suc limit) (h .counts)) ≡ false) where
       pub row-length : (length bs ≡ 4 * wordCount (h .kind) (h .alpha) (h .counts) → ⊥) → 5 ≡ firstOf (conditionsOf limit bs h)
       unfolding firstFrom
       row-length u = rw (rest, t, ne-eqb _ _ u)
@@ -117,11 +103,13 @@ or-none false false e = (refl, refl)
 or-none false true e = absurd (true≢false e)
 or-none true b e = absurd (true≢false e)
 
-within : (limit : ℕ) (ns : List ℕ) → anyAbove limit ns ≡ false → (k : ℕ) → getD ns k 0 ≤ limit
-unfolding anyAbove
-within limit [] e k = omega arith
-within limit (n ∷ ns) e zero = ltb-false limit n (or-none (ltb limit n) (anyAbove limit ns) e .0)
-within limit (n ∷ ns) e (suc k) = within limit ns (or-none (ltb limit n) (anyAbove limit ns) e .1) k
+-- what lies past the eight counts reads as 0
+counts-within : (limit : ℕ) (ns : List ℕ) → allBelow (suc limit) ns ≡ true → (k : ℕ) → getD ns k 0 ≤ limit
+counts-within limit ns e k = go (ltb k (length ns)) refl
+  where
+    go : (t : Bool) → ltb k (length ns) ≡ t → getD ns k 0 ≤ limit
+    go true q = omega (arith, below-at (suc limit) ns (subst T (sym e) tt) k (ltb-true k _ q))
+    go false q = omega (arith, List·getD-eq-default ns 0 {n = k} (ltb-false k _ q))
 
 pub taken-of : (limit : ℕ) (bs : List ℕ) (h : Header) → firstOf (conditionsOf limit bs h) ≡ 0 → Taken limit bs h
 unfolding conditionsOf
@@ -133,7 +121,7 @@ taken-of limit bs h e =
       edition-is = eqb-true _ _ (not-false _ (a .1 .0));
       kind-is = ltb-false 3 _ (k .0);
       zeros-are = eqb-true _ _ (not-false _ (k .1));
-      counts-are = within limit (h .counts) (a .1 .1 .1 .0);
+      counts-are = λ k. counts-within limit (h .counts) (not-false _ (a .1 .1 .1 .0)) k;
       length-is = eqb-true _ _ (not-false _ (a .1 .1 .1 .1 .0));
     }
 

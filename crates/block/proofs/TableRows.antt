@@ -6,7 +6,8 @@ use lib.ListN.{take, set}
 use Rattle.bits.specs.Bits.{field}
 use Rattle.block.specs.Header.{headerOf, countsOf}
 use Rattle.block.specs.Lists.{widths, wordsIn, wordCount}
-use Rattle.block.specs.Refusal.{anyAbove, conditionsOf, conditions, firstFrom, firstOf}
+use Rattle.block.specs.Runs.{allBelow}
+use Rattle.block.specs.Refusal.{conditionsOf, conditions, firstFrom, firstOf}
 
 -- the bytes of words
 abbrev pub bytesOf : List ℕ → List ℕ
@@ -44,5 +45,5 @@ pub table-rows : (number (grid gridHeader) ≡ 0)  -- the grid is taken
     × (number (grid (set (set gridHeader 2 8) 4 64)) ≡ 4)  -- count 0 is 8,193
     × (number (grid (set (set gridHeader 2 8) 4 0)) ≡ 0)  -- count 0 is 8,192: a side has no words
     × (number (grid gridHeader ++ 0 ∷ []) ≡ 5)  -- a byte too many
-unfolding grid gridHeader gridRest conditionsOf firstFrom anyAbove headerOf countsOf widths wordsIn wordCount field
+unfolding grid gridHeader gridRest conditionsOf firstFrom allBelow headerOf countsOf widths wordsIn wordCount field
 table-rows = (refl, refl, refl, refl, refl, refl, refl, refl)

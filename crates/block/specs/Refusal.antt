@@ -7,6 +7,7 @@ use lib.Dec.{eqb, ltb}
 use lib.ListN.{length, getD}
 use Rattle.block.specs.Header.{headerOf}
 use Rattle.block.specs.Lists.{wordCount}
+use Rattle.block.specs.Runs.{allBelow}
 use Rattle.block.specs.declared.header.Header.{Header}
 use Rattle.block.specs.declared.refusal.Refusal.{Refusal}
 use Rattle.block.specs.declared.refusal.Refusal.the-variants.{Stub, Edition, Kind, ListLimit, Length, NoShape, Corners, Buffer, Nothing}
@@ -23,11 +24,6 @@ numberOf Corners = 7
 numberOf Buffer = 8
 numberOf Nothing = 0
 
--- whether one of the numbers is above the limit
-unfoldable pub anyAbove : ℕ → List ℕ → Bool
-anyAbove limit [] = false
-anyAbove limit (n ∷ ns) = ltb limit n || anyAbove limit ns
-
 -- FORMAT 3, 1, stub: fewer than 20 bytes
 abbrev pub isStub : List ℕ → Bool
 isStub bs = ltb (length bs) 20
@@ -42,7 +38,7 @@ isOtherKind h = ltb 3 (h .kind) || not (eqb (h .zeros) 0)
 
 -- FORMAT 3, 4, list limit: a count above the limit
 abbrev pub isOverLimit : ℕ → Header → Bool
-isOverLimit limit h = anyAbove limit (h .counts)
+isOverLimit limit h = not (allBelow (suc limit) (h .counts))
 
 -- FORMAT 3, 5, length: bytes do not end with the last word
 abbrev pub isOtherLength : List ℕ → Header → Bool

@@ -1,7 +1,10 @@
 // What is refused of a block (FORMAT 3): the table's answers, and its rows 1 to 5.
 ghost use mathlib.Core.Path.{_≡_};
+ghost use mathlib.Core.Bool.{not};
+ghost use Prim.Native.Nat.{suc};
 ghost use lib.Dec.{eqb};
-ghost use Rattle.block.specs.Refusal.{anyAbove, conditions, firstOf, numberOf};
+ghost use Rattle.block.specs.Runs.{allBelow};
+ghost use Rattle.block.specs.Refusal.{conditions, firstOf, numberOf};
 use crate::header::read_header;
 use crate::lists::block_bytes;
 
@@ -41,7 +44,7 @@ pub fn is_taken(answer: Refusal) -> bool
 }
 
 fn over_limit(n: [u32; 8], limit: u32) -> bool
-    ensures { λ r. ⌜ r ≡ anyAbove limit n ⌝ }
+    ensures { λ r. ⌜ r ≡ not (allBelow (suc limit) n) ⌝ }
 {
     for k in 0..8usize {
         if limit < n[k] {

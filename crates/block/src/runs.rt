@@ -90,10 +90,12 @@ pub fn face_totals(list: &[u8], points: u32) -> Totals
     Totals { corners, triangles }
 }
 
-// The point that entry `k` of a run names.
+// The point that entry `k` of a run names; beyond the run, point 0.
 pub fn point_at(run: &[u8], k: usize) -> PointNumber
-    requires { ⌜ k < length (now run) / 4 ⌝ }
     ensures { λ r. ⌜ r .0 ≡ getD (entries (now (run .entry))) k 0 ⌝ }
 {
-    PointNumber(bits::entry(run, k) as usize)
+    if k < run.len() / 4 {
+        return PointNumber(bits::entry(run, k) as usize);
+    }
+    PointNumber(0)
 }
