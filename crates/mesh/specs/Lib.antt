@@ -1,0 +1,20 @@
+-- The mesh of a soup, the soups of the four kinds, and what one changed run leaves as it was, by definition.
+pub mod Lists
+pub mod Words
+pub mod Soup
+pub mod Normals
+pub mod Vertices
+pub mod Mend
+pub mod Mesh
+pub mod Texture
+pub mod FaceSet
+pub mod Quads
+pub mod Grid
+pub mod Frames
+pub mod SourceFrames
+pub mod Arcs
+pub mod Extrusion
+pub mod Lines
+pub mod Sizes
+pub mod Result
+pub mod OneRun

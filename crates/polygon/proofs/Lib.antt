@@ -1,0 +1,13 @@
+pub mod Laws
+pub mod Lists
+pub mod Count
+pub mod Corners
+pub mod Boundary
+pub mod EdgeSums
+pub mod Shadows
+pub mod Whole
+pub mod Keep
+pub mod Tables
+pub mod Turns
+pub mod Triangles
+pub mod Rows

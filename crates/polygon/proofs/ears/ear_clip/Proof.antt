@@ -1,0 +1,35 @@
+use mathlib.Core.Path.{ap, _∙_}
+use Prim.Native.Nat.{_*_, _≤_}
+use native.Mathlib.Omega.{arith}
+use lib.Ieee.{Float, lt}
+use lib.ListN.{length}
+use borrow.Author.Needs.{needs}
+use Rattle.polygon.specs.Ears.{+0, isReversed}
+use Rattle.polygon.proofs.Turns.{held-start}
+use Rattle.polygon.proofs.Whole.{whole}
+use Rattle.polygon.proofs.ears.ear_clip.Statement.{statement}
+use Rattle.polygon.proofs.ears.ear_clip.Tie as tie
+
+area-of-requires : tie.Need-area-of-requires
+area-of-requires c κs = search needs
+
+start-requires : tie.Need-start-requires
+start-requires c κs = search needs
+
+clip-all-requires : tie.Need-clip-all-requires
+clip-all-requires c κs = let h : c .before .before .before .before .before .before .before .before .before .before .args .n * 2 ≤ length (c .before .before .before .before .start .last .0) = omega (arith, c .before .before .before .before .start .kept .0) in (c .before .before .before .before .before .before .before .before .before .before .pre .0, h, held-start _ _ _ _ h (c .before .before .before .before .start .ensures))
+
+same-length : tie.Need-same-length
+same-length c = search needs
+
+same-length-2 : tie.Need-same-length-2
+same-length-2 c = search needs
+
+returns : tie.Need-returns
+unfolding isReversed
+returns c = c .before .before .before .before .clip-all .ensures ∙ whole (c .before .before .before .before .before .before .before .before .before .before .before .before .before .before .before .args .p .now) (c .before .before .before .before .before .before .before .before .before .before .before .before .before .before .before .args .n) _ _ _ (ap (λ (y : Float). lt y +0) (c .before .before .before .before .before .before .before .before .before .before .before .area-of .ensures)) (c .before .before .before .before .before .before .before .before .before .start .ensures .order)
+
+pub ear-clip-spec : {M : Type 1} → statement M
+ear-clip-spec =
+    tie.close
+    (tie.spec area-of-requires start-requires clip-all-requires same-length same-length-2 returns)

@@ -1,0 +1,65 @@
+use mathlib.Core.Path.{_≡_, refl, sym, _∙_}
+use Prim.Native.Nat.{_-_, _≤_}
+use native.Mathlib.Nat.{sub-zero}
+use native.Mathlib.Omega.{arith}
+use lib.ListN.{length, take}
+use lib.Seq.{length-take-le}
+use borrow.Author.Needs.{needs}
+use Rattle.polygon.specs.Ears.{isEar, firstEar}
+use Rattle.polygon.specs.Loops.{first}
+use Rattle.polygon.specs.Memo.{xy, Searched}
+use Rattle.polygon.proofs.Laws.{first-go, first-stop, first-end}
+use Rattle.polygon.proofs.Tables.{as-was}
+use Rattle.polygon.proofs.Turns.{searched-ear, searched-tells, searched-sound, searched-then}
+use Rattle.polygon.proofs.memo.first_ear.Statement.{statement}
+use Rattle.polygon.proofs.memo.first_ear.Tie as tie
+
+abbrev Inv-loop : tie.InvT-loop
+Inv-loop p w₀ n m i₀ w i = (i ≤ m) × (first (isEar (xy p) (take m w₀)) (m - i) i ≡ firstEar (xy p) (take m w₀)) × (length w ≡ length w₀) × Searched (xy p) n w₀ w
+
+abbrev μ-loop : tie.MeasureT-loop
+μ-loop p w₀ n m i₀ w i = m - i
+
+loop-holds : tie.Need-loop-holds Inv-loop μ-loop
+unfolding firstEar
+loop-holds c = let h : c .before .before .args .m ≤ length (c .before .before .args .w .now) = omega arith in (omega arith, rw (sub-zero, length-take-le (c .before .before .args .m) (c .before .before .args .w .now) h), refl, as-was _ _ _ (c .before .before .pre .4))
+
+is-ear-requires : tie.Need-is-ear-requires Inv-loop μ-loop
+is-ear-requires c κs = let S = c .before .before .loop .inv .3 in (c .before .loop-test .taken, c .before .before .before .before .before .pre .0, c .before .before .before .before .before .pre .1, omega arith, searched-tells _ _ _ _ S _ (c .before .before .before .before .before .pre .0) (c .before .before .before .before .before .pre .3), searched-sound _ _ _ _ S)
+
+same-length : tie.Need-same-length Inv-loop μ-loop
+same-length c = c .before .before .before .is-ear .kept .1 .0 ∙ c .before .before .before .before .before .before .loop .inv .2
+
+returns : tie.Need-returns Inv-loop μ-loop
+returns c = let S = c .before .before .before .before .before .before .loop .inv .3 in (sym (first-stop _ _ _ (c .before .before .before .before .before .loop-test .taken) (searched-ear _ _ _ _ S _ (c .before .before .before .before .before .before .before .before .before .pre .0) _ _ (c .before .before .before .is-ear .ensures .0) ∙ c .if1 .taken)) ∙ c .before .before .before .before .before .before .loop .inv .1, searched-then _ _ _ _ S _ (c .before .before .before .is-ear .ensures .1))
+
+add-i : tie.Need-add-i Inv-loop μ-loop
+add-i c = search needs
+
+loop-less : tie.Need-loop-less Inv-loop μ-loop
+loop-less c = search needs
+
+loop-again : tie.Need-loop-again Inv-loop μ-loop
+loop-again c = let S = c .before .before .before .before .before .before .loop .inv .3 in (omega arith, sym (first-go _ _ _ (c .before .before .before .before .before .loop-test .taken) (searched-ear _ _ _ _ S _ (c .before .before .before .before .before .before .before .before .before .pre .0) _ _ (c .before .before .before .is-ear .ensures .0) ∙ c .if1 .left)) ∙ c .before .before .before .before .before .before .loop .inv .1, c .before .before .before .is-ear .kept .1 .0 ∙ c .before .before .before .before .before .before .loop .inv .2, searched-then _ _ _ _ S _ (c .before .before .before .is-ear .ensures .1))
+
+same-length-2 : tie.Need-same-length-2 Inv-loop μ-loop
+same-length-2 c = c .before .loop .inv .2
+
+returns-2 : tie.Need-returns-2 Inv-loop μ-loop
+returns-2 c = (sym (first-end _ _ _ (c .loop-test .left)) ∙ c .before .loop .inv .1, c .before .loop .inv .3)
+
+pub first-ear-spec : {M : Type 1} → statement M
+first-ear-spec =
+    tie.close
+    (tie.spec
+    Inv-loop
+    μ-loop
+    loop-holds
+    is-ear-requires
+    same-length
+    returns
+    add-i
+    loop-less
+    loop-again
+    same-length-2
+    returns-2)

@@ -1,0 +1,68 @@
+use native.Mathlib.Numerals.{add-one}
+use borrow.Author.Needs.{needs}
+use Rattle.polygon.specs.Plane.{flat2, shadow}
+use Rattle.polygon.proofs.plane.put_shadow.Statement.{statement}
+use Rattle.polygon.proofs.plane.put_shadow.Tie as tie
+
+add-entry-of : tie.Need-add-entry-of
+add-entry-of c = search needs
+
+entry-of-requires : tie.Need-entry-of-requires
+entry-of-requires c κs = search needs
+
+add-entry-of-2 : tie.Need-add-entry-of-2
+add-entry-of-2 c = search needs
+
+entry-of-requires-2 : tie.Need-entry-of-requires-2
+entry-of-requires-2 c κs = search needs
+
+put-float-requires : tie.Need-put-float-requires
+put-float-requires c κs = search needs
+
+add-put-float : tie.Need-add-put-float
+add-put-float c = search needs
+
+put-float-requires-2 : tie.Need-put-float-requires-2
+put-float-requires-2 c κs = search needs
+
+put-float-requires-3 : tie.Need-put-float-requires-3
+put-float-requires-3 c κs = search needs
+
+add-put-float-2 : tie.Need-add-put-float-2
+add-put-float-2 c = search needs
+
+put-float-requires-4 : tie.Need-put-float-requires-4
+put-float-requires-4 c κs = search needs
+
+same-length : tie.Need-same-length
+same-length c = search needs
+
+returns : tie.Need-returns
+unfolding flat2 shadow
+returns c = rw (c .before .before .before .before .before .before .before .before .if1 .taken, c .before .before .put-float2 .ensures, c .before .before .before .before .before .before .put-float .ensures, c .before .before .before .before .before .before .before .before .before .entry-of2 .ensures, c .before .before .before .before .before .before .before .before .before .before .entry-of .ensures, add-one (c .before .before .before .before .before .before .before .before .before .before .before .before .args .k))
+
+same-length-2 : tie.Need-same-length-2
+same-length-2 c = search needs
+
+returns-2 : tie.Need-returns-2
+unfolding flat2 shadow
+returns-2 c = rw (c .before .before .before .before .before .before .before .before .if1 .left, c .before .before .put-float4 .ensures, c .before .before .before .before .before .before .put-float3 .ensures, c .before .before .before .before .before .before .before .before .before .entry-of2 .ensures, c .before .before .before .before .before .before .before .before .before .before .entry-of .ensures, add-one (c .before .before .before .before .before .before .before .before .before .before .before .before .args .k))
+
+pub put-shadow-spec : {M : Type 1} → statement M
+put-shadow-spec =
+    tie.close
+    (tie.spec
+    add-entry-of
+    entry-of-requires
+    add-entry-of-2
+    entry-of-requires-2
+    put-float-requires
+    add-put-float
+    put-float-requires-2
+    put-float-requires-3
+    add-put-float-2
+    put-float-requires-4
+    same-length
+    returns
+    same-length-2
+    returns-2)

@@ -1,0 +1,8 @@
+pub mod Loops
+pub mod Points
+pub mod Facing
+pub mod Ears
+pub mod Plane
+pub mod Face
+pub mod Edges
+pub mod Memo

@@ -1,0 +1,227 @@
+// FORMAT 12.3, ear_clip: whether a corner is an ear. What an earlier search found is kept, so that a corner is looked at anew only where its neighbours changed.
+ghost use mathlib.Core.Path.{_≡_};
+ghost use mathlib.Core.Bool.{false};
+ghost use mathlib.Core.List.{[], _∷_};
+ghost use Prim.Native.Nat.{_+_, _-_, _*_, _%_, _^_, _≤_, _<_};
+ghost use lib.ListN.{length, getD, take, set};
+ghost use lib.Seq.{sets};
+ghost use lib.Ieee.{nan, le};
+ghost use Rattle.polygon.specs.Loops.{first};
+ghost use Rattle.polygon.specs.Ears.{+0, cross2, pointInTri, blocks, isEar, firstEar};
+ghost use Rattle.polygon.specs.Memo.{xy, dotOf, spotOf, inWay, hits, Clear, Tells, earOf, Known, Sound, entry, flags, kept, Searched};
+use crate::points::get;
+use crate::points::put;
+
+// A corner: its number, and where it lies in the plane.
+pub struct Dot {
+    pub j: u32,
+    pub x: f32,
+    pub y: f32,
+}
+
+fn coord(p: &[f32], k: usize) -> f32
+    ensures { λ r. ⌜ r ≡ getD (now (p .entry)) k nan ⌝ }
+{
+    if k < p.len() {
+        return p[k];
+    }
+    0.0 / 0.0
+}
+
+pub fn dot_at(p: &[f32], j: u32) -> Dot
+    ensures { λ r. ⌜ r ≡ dotOf (xy (now (p .entry))) j ⌝ }
+{
+    let k = j as usize * 2;
+    Dot {
+        j,
+        x: coord(p, k),
+        y: coord(p, k + 1),
+    }
+}
+
+// ---- the tests
+
+fn cross(o: Dot, a: Dot, b: Dot) -> f32
+    ensures { λ r. ⌜ r ≡ cross2 (spotOf o) (spotOf a) (spotOf b) ⌝ }
+{
+    (a.x - o.x) * (b.y - o.y) - (a.y - o.y) * (b.x - o.x)
+}
+
+fn in_tri(p: Dot, a: Dot, b: Dot, c: Dot) -> bool
+    ensures { λ r. ⌜ r ≡ pointInTri (spotOf p) (spotOf a) (spotOf b) (spotOf c) ⌝ }
+{
+    if !(cross(a, b, p) >= 0.0) {
+        return false;
+    }
+    if !(cross(b, c, p) >= 0.0) {
+        return false;
+    }
+    cross(c, a, p) >= 0.0
+}
+
+fn is_bent(p: &[f32], a: u32, b: u32, c: u32) -> bool
+    ensures { λ r. ⌜ r ≡ le (cross2 (xy (now (p .entry)) a) (xy (now (p .entry)) b) (xy (now (p .entry)) c)) +0 ⌝ }
+{
+    cross(dot_at(p, a), dot_at(p, b), dot_at(p, c)) <= 0.0
+}
+
+fn is_in_way(k: Dot, a: Dot, b: Dot, c: Dot) -> bool
+    ensures { λ r. ⌜ r ≡ inWay k a b c ⌝ }
+{
+    if k.j == a.j {
+        return false;
+    }
+    if k.j == b.j {
+        return false;
+    }
+    if k.j == c.j {
+        return false;
+    }
+    in_tri(k, a, b, c)
+}
+
+// ---- what is kept of earlier searches: the working slice `w` holds the working order, then a word for each corner, 1 while it is left, then three words for each
+
+fn is_hit(p: &[f32], left: &[u32], k: usize, a: Dot, b: Dot, c: Dot) -> bool
+    requires { ⌜ k < 2 ^ 31 ⌝ }
+    ensures { λ r. ⌜ r ≡ hits (now (left .entry)) (λ j. inWay (dotOf (xy (now (p .entry))) j) a b c) k ⌝ }
+{
+    if get(left, k) != 1 {
+        return false;
+    }
+    is_in_way(dot_at(p, k as u32), a, b, c)
+}
+
+// The first corner from `from` on that is left and lies in the triangle a b c, which is read once.
+fn next_hit(p: &[f32], left: &[u32], from: usize, a: u32, b: u32, c: u32) -> usize
+    requires { ⌜ length (now left) ≤ 2 ^ 31 ⌝ }
+    ensures { λ r. ⌜ r ≡ first (hits (now (left .entry)) (blocks (xy (now (p .entry))) a b c)) (length (now (left .entry)) - from) from ⌝ }
+{
+    let da = dot_at(p, a);
+    let db = dot_at(p, b);
+    let dc = dot_at(p, c);
+    let mut k = from;
+    while k < left.len() {
+        if is_hit(p, left, k, da, db, dc) {
+            return k;
+        }
+        k += 1;
+    }
+    k
+}
+
+fn look(w: &[u32], n: usize, a: u32, b: u32, c: u32) -> u32
+    requires { ⌜ n ≤ 2 ^ 31 ⌝ }
+    ensures { λ r. ⌜ r ≡ entry (kept n (now (w .entry))) a b c ⌝ }
+{
+    let k = n * 2 + b as usize * 3;
+    if get(w, k) != a {
+        return 0;
+    }
+    if get(w, k + 1) != c {
+        return 0;
+    }
+    get(w, k + 2)
+}
+
+fn store(w: &mut [u32], n: usize, a: u32, b: u32, c: u32, s: u32)
+    requires { ⌜ n ≤ 2 ^ 31 ⌝ }
+    ensures { λ _. ⌜ now (w .exit) ≡ sets (now (w .entry)) (n + (n + b * 3)) (a ∷ c ∷ s ∷ []) ⌝ }
+{
+    let k = n * 2 + b as usize * 3;
+    put(w, k, a);
+    put(w, k + 1, c);
+    put(w, k + 2, s);
+}
+
+// Whether b, which is convex, is an ear between a and c; no corner before `from` that is left lies in it.
+fn search(p: &[f32], w: &mut [u32], n: usize, a: u32, b: u32, c: u32, from: usize) -> bool
+    requires { ⌜ (n ≤ 2 ^ 31) × (n * 2 ≤ length (now w)) × (from ≤ n) × (le (cross2 (xy (now p) a) (xy (now p) b) (xy (now p) c)) +0 ≡ false)
+        × Clear (xy (now p)) (flags n (now w)) a b c from × Sound (xy (now p)) (flags n (now w)) (kept n (now w)) ⌝ }
+    ensures { λ r. ⌜ (r ≡ earOf (xy (now (p .entry))) (flags n (now (w .entry))) a b c) × Searched (xy (now (p .entry))) n (now (w .entry)) (now (w .exit)) ⌝ }
+{
+    let e = n * 2;
+    let k = next_hit(p, &w[n..e], from, a, b, c);
+    if n <= k {
+        return true;
+    }
+    store(w, n, a, b, c, k as u32 + 2);
+    false
+}
+
+// Whether b is an ear between a and c, of which s is known.
+fn decide(p: &[f32], w: &mut [u32], n: usize, a: u32, b: u32, c: u32, s: u32) -> bool
+    requires { ⌜ (n ≤ 2 ^ 31) × (n * 2 ≤ length (now w)) × Known (xy (now p)) (flags n (now w)) a b c s × Sound (xy (now p)) (flags n (now w)) (kept n (now w)) ⌝ }
+    ensures { λ r. ⌜ (r ≡ earOf (xy (now (p .entry))) (flags n (now (w .entry))) a b c) × Searched (xy (now (p .entry))) n (now (w .entry)) (now (w .exit)) ⌝ }
+{
+    if s == 1 {
+        return false;
+    }
+    if s == 0 {
+        if is_bent(p, a, b, c) {
+            store(w, n, a, b, c, 1);
+            return false;
+        }
+        return search(p, w, n, a, b, c, 0);
+    }
+    if get(w, n + (s as usize - 2)) == 1 {
+        return false;
+    }
+    search(p, w, n, a, b, c, s as usize - 1)
+}
+
+pub fn place_before(m: usize, i: usize) -> usize
+    requires { ⌜ i < m ⌝ }
+    ensures { λ r. ⌜ r ≡ (i + m - 1) % m ⌝ }
+{
+    if i == 0 {
+        return m - 1;
+    }
+    i - 1
+}
+
+pub fn place_after(m: usize, i: usize) -> usize
+    requires { ⌜ i < m ⌝ }
+    ensures { λ r. ⌜ r ≡ (i + 1) % m ⌝ }
+{
+    if i + 1 == m {
+        return 0;
+    }
+    i + 1
+}
+
+fn is_ear(p: &[f32], w: &mut [u32], n: usize, m: usize, i: usize) -> bool
+    requires { ⌜ (i < m) × (m ≤ n) × (n ≤ 2 ^ 31) × (n * 2 ≤ length (now w)) × Tells (flags n (now w)) (take m (now w)) × Sound (xy (now p)) (flags n (now w)) (kept n (now w)) ⌝ }
+    ensures { λ r. ⌜ (r ≡ isEar (xy (now (p .entry))) (take m (now (w .entry))) i) × Searched (xy (now (p .entry))) n (now (w .entry)) (now (w .exit)) ⌝ }
+{
+    let a = get(w, place_before(m, i));
+    let b = get(w, i);
+    let c = get(w, place_after(m, i));
+    let s = look(w, n, a, b, c);
+    decide(p, w, n, a, b, c, s)
+}
+
+pub fn first_ear(p: &[f32], w: &mut [u32], n: usize, m: usize) -> usize
+    requires { ⌜ (m ≤ n) × (n ≤ 2 ^ 31) × (n * 2 ≤ length (now w)) × Tells (flags n (now w)) (take m (now w)) × Sound (xy (now p)) (flags n (now w)) (kept n (now w)) ⌝ }
+    ensures { λ r. ⌜ (r ≡ firstEar (xy (now (p .entry))) (take m (now (w .entry)))) × Searched (xy (now (p .entry))) n (now (w .entry)) (now (w .exit)) ⌝ }
+{
+    let mut i = 0;
+    while i < m {
+        if is_ear(p, w, n, m, i) {
+            return i;
+        }
+        i += 1;
+    }
+    i
+}
+
+// The corner b is no longer left.
+pub fn clear_flag(w: &mut [u32], n: usize, b: u32)
+    requires { ⌜ n ≤ 2 ^ 31 ⌝ }
+    ensures { λ _. ⌜ (take n (now (w .exit)) ≡ take n (now (w .entry))) × (flags n (now (w .exit)) ≡ set (flags n (now (w .entry))) b 0) × (kept n (now (w .exit)) ≡ kept n (now (w .entry))) ⌝ }
+{
+    let j = b as usize;
+    if j < n {
+        put(w, n + j, 0);
+    }
+}

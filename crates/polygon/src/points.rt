@@ -1,0 +1,35 @@
+// Tables of words, and FORMAT 9.1: points as words, three a point.
+ghost use mathlib.Core.Path.{_≡_};
+ghost use lib.ListN.{getD, set};
+ghost use Rattle.polygon.specs.Points.{spot};
+use math::V3;
+
+// A read past the end is 0.
+pub fn get(table: &[u32], k: usize) -> u32
+    ensures { λ r. ⌜ r ≡ getD (now (table .entry)) k 0 ⌝ }
+{
+    if k < table.len() {
+        return table[k];
+    }
+    0
+}
+
+// A write past the end does nothing.
+pub fn put(table: &mut [u32], k: usize, v: u32)
+    ensures { λ _. ⌜ now (table .exit) ≡ set (now (table .entry)) k v ⌝ }
+{
+    if k < table.len() {
+        table[k] = v;
+    }
+}
+
+pub fn spot(points: &[u32], p: u32) -> V3
+    ensures { λ r. ⌜ r ≡ spot (now (points .entry)) p ⌝ }
+{
+    let k = p as usize * 3;
+    V3 {
+        x: math::of_bits(get(points, k)),
+        y: math::of_bits(get(points, k + 1)),
+        z: math::of_bits(get(points, k + 2)),
+    }
+}
