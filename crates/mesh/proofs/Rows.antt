@@ -15,7 +15,7 @@ use Rattle.math.specs.Order.{magnitude}
 use Rattle.polygon.specs.Loops.{tab}
 use Rattle.polygon.specs.Points.{spot, spots}
 use Rattle.polygon.specs.Facing.{newellFrom, newell}
-use Rattle.polygon.specs.Plane.{handed, axisOf, flipOf, shadow, shadows}
+use Rattle.polygon.specs.Plane.{handed, axisOf, flipOf, projected, projection}
 use Rattle.polygon.specs.Ears.{fanFrom, fan, outline as numbers}
 use Rattle.polygon.specs.Face.{faceTris, triangles}
 use Rattle.mesh.specs.Lists.{mapN, joinN, has, place, meet, firsts, sameWords}
@@ -143,5 +143,5 @@ pub rows : (mesh square ((at 0 ∷ at 2 ∷ at 3 ∷ at 1 ∷ []) ∷ []) ≡ gr
     × (mesh (roof false false Every) quads ≡ roofEveryMesh)
     × (mesh (roof true false (Bound (ofBits binary32 half))) quads ≡ roofNearMesh)
     × (mesh (roof true true Own) given ≡ roofGivenMesh)
-unfolding mesh vertices keysOf keyOf cornerNormal generated orElse incident hitsOf hits facing outline indicesOf faceIndices locals wound meshOf mended mendBy orWords renorm firstNormal vertexSpot triNormal pointWords joinN mapN firsts meet has place sameKey sameWords sumAll nearStep sumNear nearSum creaseSum isNear spots spot newell newellFrom handed triangles faceTris shadows shadow axisOf flipOf fan fanFrom numbers tab unitOf vlen rootOf magnitude ofBits toBits add sub mul div neg lt
+unfolding mesh vertices keysOf keyOf cornerNormal generated orElse incident hitsOf hits facing outline indicesOf faceIndices locals wound meshOf mended mendBy orWords renorm firstNormal vertexSpot triNormal pointWords joinN mapN firsts meet has place sameKey sameWords sumAll nearStep sumNear nearSum creaseSum isNear spots spot newell newellFrom handed triangles faceTris projection projected axisOf flipOf fan fanFrom numbers tab unitOf vlen rootOf magnitude ofBits toBits add sub mul div neg lt
 rows = (refl, refl, refl, refl, refl)

@@ -4,7 +4,7 @@ pub mod Count
 pub mod Corners
 pub mod Boundary
 pub mod EdgeSums
-pub mod Shadows
+pub mod Projection
 pub mod Whole
 pub mod Keep
 pub mod Tables

@@ -9,7 +9,7 @@ use Rattle.math.specs.Order.{magnitude}
 use Rattle.polygon.specs.Loops.{any, tab, run, first}
 use Rattle.polygon.specs.Facing.{newellFrom, newell}
 use Rattle.polygon.specs.Ears.{triple, earClip, earClipBy, cross2, pointInTri, blocks, isEar, firstEar, remove, fanFrom, fan, goes, clip, areaTerm, area, isReversed, place, order, turn, outline}
-use Rattle.polygon.specs.Plane.{axisOf, flipOf, handed, shadow, shadows}
+use Rattle.polygon.specs.Plane.{axisOf, flipOf, handed, projected, projection}
 use Rattle.polygon.specs.Face.{faceTris, triangles}
 
 abbrev o : Float
@@ -39,5 +39,5 @@ pub faces :
     (triangles true false (v3 o o o ∷ v3 l o o ∷ v3 l l o ∷ v3 o l o ∷ []) (v3 o o l) ≡ triple 3 0 1 ∷ triple 1 2 3 ∷ [])
     × (triangles false false (v3 o o o ∷ v3 l o o ∷ v3 l l o ∷ v3 o l o ∷ []) (v3 o o (neg l)) ≡ triple 3 0 1 ∷ triple 1 2 3 ∷ [])
     × (triangles true true (v3 o o o ∷ v3 l o o ∷ v3 l l o ∷ v3 o l o ∷ []) (v3 o o l) ≡ triple 0 1 2 ∷ triple 0 2 3 ∷ [])
-unfolding triangles faceTris outline shadows shadow handed axisOf flipOf earClip earClipBy cross2 pointInTri blocks isEar firstEar remove fanFrom fan goes clip areaTerm area isReversed place order turn any tab run first add sub mul lt le neg ofBits magnitude
+unfolding triangles faceTris outline projection projected handed axisOf flipOf earClip earClipBy cross2 pointInTri blocks isEar firstEar remove fanFrom fan goes clip areaTerm area isReversed place order turn any tab run first add sub mul lt le neg ofBits magnitude
 faces = (refl, refl, refl)

@@ -12,7 +12,7 @@ use Rattle.math.specs.declared.vector.V3.{V3}
 use Rattle.polygon.specs.Loops.{tab, All}
 use Rattle.polygon.specs.Points.{spots}
 use Rattle.polygon.specs.Ears.{Tri, triple, fanFrom, fan, outline, turn, flat}
-use Rattle.polygon.specs.Plane.{pairs, shadows, flat2}
+use Rattle.polygon.specs.Plane.{pairs, projection, flat2}
 use Rattle.polygon.specs.Face.{faceTris, triangles}
 use Rattle.polygon.specs.Edges.{Within, edge, named, tris, around}
 use Rattle.polygon.proofs.Count.{length-outline, count-face, face-convex}
@@ -20,7 +20,7 @@ use Rattle.polygon.proofs.Corners.{face-within, below}
 use Rattle.polygon.proofs.Boundary.{face-boundary}
 use Rattle.polygon.proofs.Lists.{fan-start, fan-write, fan-written}
 use Rattle.polygon.proofs.Whole.{length-pairs, length-flat, map-same}
-use Rattle.polygon.proofs.Shadows.{length-shadows, length-spots, written}
+use Rattle.polygon.proofs.Projection.{length-projection, length-spots, written}
 
 -- ---- the fan of an outline
 
@@ -60,13 +60,13 @@ module _ (n : ℕ) (out : List ℕ) where
 
 -- after `project`, `triangulate` writes the face's triangles
 pub by-plane : (ccw convex : Bool) (points names : List ℕ) (normal : V3) (n : ℕ) (before after : List Float) → length names ≡ n → n * 2 ≤ length before
-    → after ≡ sets before 0 (flat2 (shadows ccw normal (spots points names)))
+    → after ≡ sets before 0 (flat2 (projection ccw normal (spots points names)))
     → faceTris convex (pairs (take (n * 2) after)) ≡ triangles ccw convex (spots points names) normal
 unfolding triangles
 by-plane ccw convex points names normal n before after e h w =
     let ps = spots points names in
     ap (λ (l : List Float). faceTris convex (pairs (take (n * 2) l))) w
-    ∙ ap (faceTris convex) (written (shadows ccw normal ps) n before (length-shadows ccw normal ps ∙ length-spots points names ∙ e) h)
+    ∙ ap (faceTris convex) (written (projection ccw normal ps) n before (length-projection ccw normal ps ∙ length-spots points names ∙ e) h)
 
 -- of a convex face the plane is not looked at
 pub by-fan : (ccw convex : Bool) (points names : List ℕ) (normal : V3) (n : ℕ) (plane : List Float) → length names ≡ n → n * 2 ≤ length plane → convex ≡ true
@@ -75,7 +75,7 @@ unfolding triangles
 by-fan ccw convex points names normal n plane e h c =
     let ps = spots points names in
     face-convex convex (pairs (take (n * 2) plane)) n (length-pairs (take (n * 2) plane) n (length-take-le (n * 2) plane h)) c
-    ∙ sym (face-convex convex (shadows ccw normal ps) n (length-shadows ccw normal ps ∙ length-spots points names ∙ e) c)
+    ∙ sym (face-convex convex (projection ccw normal ps) n (length-projection ccw normal ps ∙ length-spots points names ∙ e) c)
 
 -- ---- the laws, for any floats
 
@@ -83,13 +83,13 @@ module _ (ccw convex : Bool) (points : List V3) (normal : V3) where
   -- FORMAT 12.1: n - 2 triangles, and none below three corners
   pub triangles-count : length (triangles ccw convex points normal) ≡ length points - 2
   unfolding triangles
-  triangles-count = count-face convex (shadows ccw normal points) ∙ ap (λ (k : ℕ). k - 2) (length-shadows ccw normal points)
+  triangles-count = count-face convex (projection ccw normal points) ∙ ap (λ (k : ℕ). k - 2) (length-projection ccw normal points)
 
   -- FORMAT 12.1: each names corners of the face
   pub triangles-within : All (Within (length points)) (triangles ccw convex points normal)
   unfolding triangles
   triangles-within =
-      subst (λ (k : ℕ). All (Within k) (faceTris convex (shadows ccw normal points))) (length-shadows ccw normal points) (face-within convex (shadows ccw normal points))
+      subst (λ (k : ℕ). All (Within k) (faceTris convex (projection ccw normal points))) (length-projection ccw normal points) (face-within convex (projection ccw normal points))
 
   -- as they are written: three numbers each, all below n
   pub triangles-length : length (flat (triangles ccw convex points normal)) ≡ (length points - 2) * 3
@@ -105,6 +105,6 @@ module _ (ccw convex : Bool) (points : List V3) (normal : V3) where
   unfolding triangles
   triangles-boundary f u v =
       subst
-      (λ (k : ℕ). tris (named f (edge u v)) (faceTris convex (shadows ccw normal points)) + around (named f (edge v u)) (outline k)
-      ≡ tris (named f (edge v u)) (faceTris convex (shadows ccw normal points)) + around (named f (edge u v)) (outline k))
-      (length-shadows ccw normal points) (face-boundary convex (shadows ccw normal points) f u v)
+      (λ (k : ℕ). tris (named f (edge u v)) (faceTris convex (projection ccw normal points)) + around (named f (edge v u)) (outline k)
+      ≡ tris (named f (edge v u)) (faceTris convex (projection ccw normal points)) + around (named f (edge u v)) (outline k))
+      (length-projection ccw normal points) (face-boundary convex (projection ccw normal points) f u v)

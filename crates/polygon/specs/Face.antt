@@ -7,7 +7,7 @@ use lib.ListN.{length}
 use Rattle.math.specs.declared.vector.V3.{V3}
 use Rattle.polygon.specs.Loops.{pick}
 use Rattle.polygon.specs.Ears.{Pt, Tri, triple, outline, fan, earClip}
-use Rattle.polygon.specs.Plane.{shadows}
+use Rattle.polygon.specs.Plane.{projection}
 
 -- FORMAT 12.1, EAR_CLIP_MAX: a face of more corners is a fan
 abbrev pub earClipMax : ℕ
@@ -23,4 +23,4 @@ faceTris convex pts =
 
 -- FORMAT 12.1, triangulate: the triangles of a face of these points with this facing normal
 unfoldable pub triangles : Bool → Bool → List V3 → V3 → List Tri
-triangles ccw convex points normal = faceTris convex (shadows ccw normal points)
+triangles ccw convex points normal = faceTris convex (projection ccw normal points)

@@ -36,12 +36,12 @@ unfoldable pub flipOf : V3 → Bool
 flipOf n = lt (entry n (axisOf n)) (ofBits binary32 0)
 
 -- FORMAT 12.2, triangulate (pts): a point without its entry at the axis; the two after it in turn, or swapped
-unfoldable pub shadow : ℕ → Bool → V3 → Pt
-shadow axis flip p = pick flip (entry p ((axis + 2) % 3), entry p ((axis + 1) % 3)) (entry p ((axis + 1) % 3), entry p ((axis + 2) % 3))
+unfoldable pub projected : ℕ → Bool → V3 → Pt
+projected axis flip p = pick flip (entry p ((axis + 2) % 3), entry p ((axis + 1) % 3)) (entry p ((axis + 1) % 3), entry p ((axis + 2) % 3))
 
 -- FORMAT 12.2, triangulate: the face's points in the plane
-unfoldable pub shadows : Bool → V3 → List V3 → List Pt
-shadows ccw n ps = map (shadow (axisOf (handed ccw n)) (flipOf (handed ccw n))) ps
+unfoldable pub projection : Bool → V3 → List V3 → List Pt
+projection ccw n ps = map (projected (axisOf (handed ccw n)) (flipOf (handed ccw n))) ps
 
 -- FORMAT 12.2: the coordinates of points in the plane, as a slice holds them
 unfoldable pub flat2 : List Pt → List Float

@@ -5,7 +5,7 @@ ghost use Prim.Native.Nat.{_^_, _≤_, _<_};
 ghost use lib.ListN.{length, set};
 ghost use lib.Seq.{sets};
 ghost use Rattle.polygon.specs.Points.{spots};
-ghost use Rattle.polygon.specs.Plane.{entry, handed, most, axisOf, shadow, shadows, flat2};
+ghost use Rattle.polygon.specs.Plane.{entry, handed, most, axisOf, projected, projection, flat2};
 use crate::points::spot;
 use math::V3;
 
@@ -64,9 +64,9 @@ fn put_float(out: &mut [f32], k: usize, x: f32)
     }
 }
 
-fn put_shadow(out: &mut [f32], k: usize, p: V3, axis: u32, flip: bool)
+fn put_projected(out: &mut [f32], k: usize, p: V3, axis: u32, flip: bool)
     requires { ⌜ (k < 2 ^ 40) × (axis < 3) ⌝ }
-    ensures { λ _. ⌜ now (out .exit) ≡ sets (now (out .entry)) k (flat2 (shadow axis flip p ∷ [])) ⌝ }
+    ensures { λ _. ⌜ now (out .exit) ≡ sets (now (out .entry)) k (flat2 (projected axis flip p ∷ [])) ⌝ }
 {
     let u = entry_of(p, (axis + 1) % 3);
     let v = entry_of(p, (axis + 2) % 3);
@@ -79,13 +79,13 @@ fn put_shadow(out: &mut [f32], k: usize, p: V3, axis: u32, flip: bool)
     }
 }
 
-fn put_shadows(points: &[u32], names: &[u32], axis: u32, flip: bool, out: &mut [f32])
+fn put_projection(points: &[u32], names: &[u32], axis: u32, flip: bool, out: &mut [f32])
     requires { ⌜ (axis < 3) × (length (now names) ≤ 2 ^ 31) ⌝ }
-    ensures { λ _. ⌜ now (out .exit) ≡ sets (now (out .entry)) 0 (flat2 (map (shadow axis flip) (spots (now (points .entry)) (now (names .entry))))) ⌝ }
+    ensures { λ _. ⌜ now (out .exit) ≡ sets (now (out .entry)) 0 (flat2 (map (projected axis flip) (spots (now (points .entry)) (now (names .entry))))) ⌝ }
 {
     let mut i = 0;
     while i < names.len() {
-        put_shadow(out, i * 2, spot(points, names[i]), axis, flip);
+        put_projected(out, i * 2, spot(points, names[i]), axis, flip);
         i += 1;
     }
 }
@@ -93,10 +93,10 @@ fn put_shadows(points: &[u32], names: &[u32], axis: u32, flip: bool, out: &mut [
 // The coordinates of a face's points in the plane, two a corner, to the front of `plane`.
 pub fn project(points: &[u32], names: &[u32], normal: V3, ccw: bool, plane: &mut [f32])
     requires { ⌜ length (now names) ≤ 2 ^ 31 ⌝ }
-    ensures { λ _. ⌜ now (plane .exit) ≡ sets (now (plane .entry)) 0 (flat2 (shadows ccw normal (spots (now (points .entry)) (now (names .entry))))) ⌝ }
+    ensures { λ _. ⌜ now (plane .exit) ≡ sets (now (plane .entry)) 0 (flat2 (projection ccw normal (spots (now (points .entry)) (now (names .entry))))) ⌝ }
 {
     let n = handed_of(ccw, normal);
     let axis = axis_of(n);
     let flip = entry_of(n, axis) < 0.0;
-    put_shadows(points, names, axis, flip, plane);
+    put_projection(points, names, axis, flip, plane);
 }

@@ -1,6 +1,6 @@
 use mathlib.Core.Path.{sym}
 use borrow.Author.Needs.{needs}
-use Rattle.polygon.proofs.Shadows.{entry-last}
+use Rattle.polygon.proofs.Projection.{entry-last}
 use Rattle.polygon.proofs.plane.entry_of.Statement.{statement}
 use Rattle.polygon.proofs.plane.entry_of.Tie as tie
 

@@ -1,5 +1,5 @@
 use borrow.Author.Needs.{needs}
-use Rattle.polygon.specs.Plane.{shadows, flipOf}
+use Rattle.polygon.specs.Plane.{projection, flipOf}
 use Rattle.polygon.proofs.plane.project.Statement.{statement}
 use Rattle.polygon.proofs.plane.project.Tie as tie
 
@@ -12,15 +12,15 @@ axis-of-requires c κs = search needs
 entry-of-requires : tie.Need-entry-of-requires
 entry-of-requires c κs = search needs
 
-put-shadows-requires : tie.Need-put-shadows-requires
-put-shadows-requires c κs = search needs
+put-projection-requires : tie.Need-put-projection-requires
+put-projection-requires c κs = search needs
 
 same-length : tie.Need-same-length
 same-length c = search needs
 
 returns : tie.Need-returns
-unfolding shadows flipOf
-returns c = rw (c .before .before .put-shadows .ensures, c .before .before .before .before .entry-of .ensures, c .before .before .before .before .before .axis-of .ensures .0, c .before .before .before .before .before .before .handed-of .ensures)
+unfolding projection flipOf
+returns c = rw (c .before .before .put-projection .ensures, c .before .before .before .before .entry-of .ensures, c .before .before .before .before .before .axis-of .ensures .0, c .before .before .before .before .before .before .handed-of .ensures)
 
 pub project-spec : {M : Type 1} → statement M
 project-spec =
@@ -29,6 +29,6 @@ project-spec =
     handed-of-requires
     axis-of-requires
     entry-of-requires
-    put-shadows-requires
+    put-projection-requires
     same-length
     returns)

@@ -1,8 +1,8 @@
 use native.Mathlib.Numerals.{add-one}
 use borrow.Author.Needs.{needs}
-use Rattle.polygon.specs.Plane.{flat2, shadow}
-use Rattle.polygon.proofs.plane.put_shadow.Statement.{statement}
-use Rattle.polygon.proofs.plane.put_shadow.Tie as tie
+use Rattle.polygon.specs.Plane.{flat2, projected}
+use Rattle.polygon.proofs.plane.put_projected.Statement.{statement}
+use Rattle.polygon.proofs.plane.put_projected.Tie as tie
 
 add-entry-of : tie.Need-add-entry-of
 add-entry-of c = search needs
@@ -38,18 +38,18 @@ same-length : tie.Need-same-length
 same-length c = search needs
 
 returns : tie.Need-returns
-unfolding flat2 shadow
+unfolding flat2 projected
 returns c = rw (c .before .before .before .before .before .before .before .before .if1 .taken, c .before .before .put-float2 .ensures, c .before .before .before .before .before .before .put-float .ensures, c .before .before .before .before .before .before .before .before .before .entry-of2 .ensures, c .before .before .before .before .before .before .before .before .before .before .entry-of .ensures, add-one (c .before .before .before .before .before .before .before .before .before .before .before .before .args .k))
 
 same-length-2 : tie.Need-same-length-2
 same-length-2 c = search needs
 
 returns-2 : tie.Need-returns-2
-unfolding flat2 shadow
+unfolding flat2 projected
 returns-2 c = rw (c .before .before .before .before .before .before .before .before .if1 .left, c .before .before .put-float4 .ensures, c .before .before .before .before .before .before .put-float3 .ensures, c .before .before .before .before .before .before .before .before .before .entry-of2 .ensures, c .before .before .before .before .before .before .before .before .before .before .entry-of .ensures, add-one (c .before .before .before .before .before .before .before .before .before .before .before .before .args .k))
 
-pub put-shadow-spec : {M : Type 1} → statement M
-put-shadow-spec =
+pub put-projected-spec : {M : Type 1} → statement M
+put-projected-spec =
     tie.close
     (tie.spec
     add-entry-of

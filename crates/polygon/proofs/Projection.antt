@@ -11,7 +11,7 @@ use lib.Ieee.{Float}
 use Rattle.math.specs.declared.vector.V3.{V3}
 use Rattle.polygon.specs.Points.{spot, spots}
 use Rattle.polygon.specs.Ears.{Pt}
-use Rattle.polygon.specs.Plane.{pairs, entry, handed, axisOf, flipOf, shadow, shadows, flat2}
+use Rattle.polygon.specs.Plane.{pairs, entry, handed, axisOf, flipOf, projected, projection, flat2}
 
 pub entry-last : (v : V3) (k : ℕ) → (k ≡ 0 → ⊥) → (k ≡ 1 → ⊥) → entry v k ≡ v .z
 entry-last v zero h g = absurd (h refl)
@@ -20,20 +20,20 @@ entry-last v (suc (suc k)) h g = refl
 
 -- one turn of the loop over the names, and the end
 module _ (S : V3 → Pt) (ps names : List ℕ) (out : List Float) (i : ℕ) where
-  pub shadow-go : i < length names
+  pub projected-go : i < length names
       → sets (sets out (i * 2) (flat2 (S (spot ps (getD names i 0)) ∷ []))) ((i + 1) * 2) (flat2 (map S (spots ps (drop (i + 1) names))))
       ≡ sets out (i * 2) (flat2 (map S (spots ps (drop i names))))
   unfolding flat2 spots
-  shadow-go h =
+  projected-go h =
       let e : suc (suc (i * 2)) ≡ (i + 1) * 2 = omega arith in
       let p : Pt = S (spot ps (getD names i 0)) in
       sym (ap (λ (l : List ℕ). sets out (i * 2) (flat2 (map S (spots ps l)))) (drop-cons names i 0 h)
       ∙ ap (λ (j : ℕ). sets (sets out (i * 2) (flat2 (p ∷ []))) j (flat2 (map S (spots ps (drop (suc i) names))))) e
       ∙ ap (λ (j : ℕ). sets (sets out (i * 2) (flat2 (p ∷ []))) ((i + 1) * 2) (flat2 (map S (spots ps (drop j names))))) (sym (add-one i)))
 
-  pub shadow-end : length names ≤ i → sets out (i * 2) (flat2 (map S (spots ps (drop i names)))) ≡ out
+  pub projected-end : length names ≤ i → sets out (i * 2) (flat2 (map S (spots ps (drop i names)))) ≡ out
   unfolding flat2 spots
-  shadow-end h = ap (λ (l : List ℕ). sets out (i * 2) (flat2 (map S (spots ps l)))) (drop-of-length-le names h)
+  projected-end h = ap (λ (l : List ℕ). sets out (i * 2) (flat2 (map S (spots ps l)))) (drop-of-length-le names h)
 
 pairs-flat2 : (l : List Pt) → pairs (flat2 l) ≡ l
 unfolding pairs flat2
@@ -49,9 +49,9 @@ pub length-spots : (points names : List ℕ) → length (spots points names) ≡
 unfolding spots
 length-spots points names = length-map names (spot points)
 
-pub length-shadows : (ccw : Bool) (n : V3) (ps : List V3) → length (shadows ccw n ps) ≡ length ps
-unfolding shadows
-length-shadows ccw n ps = length-map ps (shadow (axisOf (handed ccw n)) (flipOf (handed ccw n)))
+pub length-projection : (ccw : Bool) (n : V3) (ps : List V3) → length (projection ccw n ps) ≡ length ps
+unfolding projection
+length-projection ccw n ps = length-map ps (projected (axisOf (handed ccw n)) (flipOf (handed ccw n)))
 
 -- what `project` wrote, read as points
 pub written : (l : List Pt) (n : ℕ) (plane : List Float) → length l ≡ n → n * 2 ≤ length plane → pairs (take (n * 2) (sets plane 0 (flat2 l))) ≡ l

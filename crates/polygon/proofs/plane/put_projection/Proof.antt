@@ -1,0 +1,68 @@
+use mathlib.Core.List.{map}
+use mathlib.Core.Path.{_≡_, refl, sym, _∙_}
+use Prim.Native.Nat.{_≤_, _-_, _*_}
+use lib.ListN.{length, drop}
+use lib.Seq.{sets}
+use borrow.Author.Needs.{needs}
+use Rattle.polygon.specs.Plane.{flat2, projected}
+use Rattle.polygon.specs.Points.{spots}
+use Rattle.polygon.proofs.Projection.{projected-go, projected-end}
+use Rattle.polygon.proofs.plane.put_projection.Statement.{statement}
+use Rattle.polygon.proofs.plane.put_projection.Tie as tie
+
+abbrev Inv-loop : tie.InvT-loop
+Inv-loop ps names axis flip out₀ i₀ out i = (i ≤ length names) × (length out ≡ length out₀) × (sets out (i * 2) (flat2 (map (projected axis flip) (spots ps (drop i names)))) ≡ sets out₀ 0 (flat2 (map (projected axis flip) (spots ps names))))
+
+abbrev μ-loop : tie.MeasureT-loop
+μ-loop ps names axis flip out₀ i₀ out i = length names - i
+
+loop-holds : tie.Need-loop-holds Inv-loop μ-loop
+loop-holds c = (search needs, refl, refl)
+
+mul-put-projected : tie.Need-mul-put-projected Inv-loop μ-loop
+mul-put-projected c = search needs
+
+mul-spot : tie.Need-mul-spot Inv-loop μ-loop
+mul-spot c = search needs
+
+shared-slice-read-spot : tie.Need-shared-slice-read-spot Inv-loop μ-loop
+shared-slice-read-spot c = search needs
+
+spot-requires : tie.Need-spot-requires Inv-loop μ-loop
+spot-requires c κs = search needs
+
+put-projected-requires : tie.Need-put-projected-requires Inv-loop μ-loop
+put-projected-requires c κs = search needs
+
+add-i : tie.Need-add-i Inv-loop μ-loop
+add-i c = search needs
+
+loop-less : tie.Need-loop-less Inv-loop μ-loop
+loop-less c = search needs
+
+loop-again : tie.Need-loop-again Inv-loop μ-loop
+loop-again c = (search needs, c .before .before .put-projected .kept .0 ∙ c .before .before .before .before .before .before .before .loop .inv .1, rw (c .before .before .put-projected .ensures, c .before .before .before .spot .ensures) (projected-go _ _ _ _ _ (c .before .before .before .before .before .before .loop-test .taken) ∙ c .before .before .before .before .before .before .before .loop .inv .2))
+
+same-length : tie.Need-same-length Inv-loop μ-loop
+same-length c = c .before .loop .inv .1
+
+returns : tie.Need-returns Inv-loop μ-loop
+returns c = sym (projected-end (projected (c .before .before .before .before .before .args .axis) (c .before .before .before .before .before .args .flip)) (c .before .before .before .before .before .args .points .now) _ _ (c .before .loop .i) (c .loop-test .left)) ∙ c .before .loop .inv .2
+
+pub put-projection-spec : {M : Type 1} → statement M
+put-projection-spec =
+    tie.close
+    (tie.spec
+    Inv-loop
+    μ-loop
+    loop-holds
+    mul-put-projected
+    mul-spot
+    shared-slice-read-spot
+    spot-requires
+    put-projected-requires
+    add-i
+    loop-less
+    loop-again
+    same-length
+    returns)
