@@ -21,7 +21,7 @@ use Rattle.polygon.specs.Face.{faceTris, triangles}
 use Rattle.mesh.specs.Lists.{mapN, joinN, has, place, meet, firsts, sameWords}
 use Rattle.mesh.specs.Words.{no2, no3, no4, pointWords}
 use Rattle.mesh.specs.Soup.{Corner, Face, Frame}
-use Rattle.mesh.specs.Normals.{outline, facing, hits, hitsOf, incident, sumAll, isNear, nearStep, sumNear, nearSum, creaseSum, orElse, generated, cornerNormal}
+use Rattle.mesh.specs.Normals.{outline, facing, hits, hitsOf, incident, sumAll, isNear, nearBy, nearStep, sumNear, nearSum, creaseSum, orElse, generated, cornerNormal}
 use Rattle.mesh.specs.Vertices.{sameKey, keyOf, keysOf, vertices, wound, locals, faceIndices, indicesOf}
 use Rattle.mesh.specs.Mend.{orWords, renorm, vertexSpot, triNormal, firstNormal, mendBy, mended}
 use Rattle.mesh.specs.Mesh.{Mesh, meshOf, mesh}
@@ -143,5 +143,5 @@ pub rows : (mesh square ((at 0 ∷ at 2 ∷ at 3 ∷ at 1 ∷ []) ∷ []) ≡ gr
     × (mesh (roof false false Every) quads ≡ roofEveryMesh)
     × (mesh (roof true false (Bound (ofBits binary32 half))) quads ≡ roofNearMesh)
     × (mesh (roof true true Own) given ≡ roofGivenMesh)
-unfolding mesh vertices keysOf keyOf cornerNormal generated orElse incident hitsOf hits facing outline indicesOf faceIndices locals wound meshOf mended mendBy orWords renorm firstNormal vertexSpot triNormal pointWords joinN mapN firsts meet has place sameKey sameWords sumAll nearStep sumNear nearSum creaseSum isNear spots spot newell newellFrom handed triangles faceTris projection projected axisOf flipOf fan fanFrom numbers tab unitOf vlen rootOf magnitude ofBits toBits add sub mul div neg lt
+unfolding mesh vertices keysOf keyOf cornerNormal generated orElse incident hitsOf hits facing outline indicesOf faceIndices locals wound meshOf mended mendBy orWords renorm firstNormal vertexSpot triNormal pointWords joinN mapN firsts meet has place sameKey sameWords sumAll nearStep nearBy sumNear nearSum creaseSum isNear spots spot newell newellFrom handed triangles faceTris projection projected axisOf flipOf fan fanFrom numbers tab unitOf vlen rootOf magnitude ofBits toBits add sub mul div neg lt
 rows = (refl, refl, refl, refl, refl)

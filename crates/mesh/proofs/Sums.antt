@@ -7,7 +7,7 @@ use borrow.Author.Tests.{eq-eqb, ne-eqb}
 use lib.Ieee.{Float}
 use Rattle.math.specs.declared.vector.V3.{V3}
 use Rattle.math.specs.Vector.{vadd, unitOf}
-use Rattle.mesh.specs.Normals.{Hit, sumAll, isNear, nearStep, sumNear}
+use Rattle.mesh.specs.Normals.{Hit, sumAll, isNear, nearBy, nearStep, sumNear}
 
 pub all-append : (s : V3) (hs ks : List Hit) → sumAll s (hs ++ ks) ≡ sumAll (sumAll s hs) ks
 unfolding sumAll
@@ -22,9 +22,9 @@ near-append b own u s (h ∷ hs) ks = near-append b own u (nearStep b own u s h)
 -- the face itself adds nothing; another one its normal, if it is near
 module _ (b : Float) (own : ℕ) (u s : V3) (h : Hit) where
   pub step-own : h .face ≡ own → nearStep b own u s h ≡ s
-  unfolding nearStep
+  unfolding nearStep nearBy
   step-own e = rw (eq-eqb (h .face) own e)
 
   pub step-other : (h .face ≡ own → ⊥) → nearStep b own u s h ≡ cond (isNear b u (unitOf (h .normal))) (vadd s (h .normal)) s
-  unfolding nearStep
+  unfolding nearStep nearBy
   step-other e = rw (ne-eqb (h .face) own e)

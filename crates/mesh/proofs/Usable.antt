@@ -21,7 +21,7 @@ use Rattle.block.specs.declared.crease.CreaseRule.{CreaseRule}
 use Rattle.block.specs.declared.crease.CreaseRule.the-variants.{Own, Every, Bound}
 use Rattle.mesh.specs.Words.{floats, bits}
 use Rattle.mesh.specs.Soup.{Face, Frame}
-use Rattle.mesh.specs.Normals.{outline, facing, Hit, incident, sumAll, isNear, nearStep, sumNear, nearSum, creaseSum, orElse, generated}
+use Rattle.mesh.specs.Normals.{outline, facing, Hit, incident, sumAll, isNear, nearBy, nearStep, sumNear, nearSum, creaseSum, orElse, generated}
 use Rattle.mesh.specs.Mend.{Usable, renorm, mendBy}
 use Rattle.mesh.proofs.Sums.{step-own, step-other}
 

@@ -54,11 +54,12 @@ unfoldable pub isNear : Float → V3 → Unit → Bool
 isNear b u Nothing = false
 isNear b u (Of v) = lt b (vdot u v)
 
--- FORMAT 10.2, generate_normals: one face more; the face numbered `own` is left out
+-- FORMAT 10.2, generate_normals: one face more, numbered g, with the unit normal k and the facing normal n; the face numbered `own` is left out
+unfoldable pub nearBy : Float → ℕ → V3 → ℕ → Unit → V3 → V3 → V3
+nearBy b own u g k s n = let more = cond (isNear b u k) (vadd s n) s in cond (eqb g own) s more
+
 unfoldable pub nearStep : Float → ℕ → V3 → V3 → Hit → V3
-nearStep b own u s h =
-    let more = cond (isNear b u (unitOf (h .normal))) (vadd s (h .normal)) s in
-    cond (eqb (h .face) own) s more
+nearStep b own u s h = nearBy b own u (h .face) (unitOf (h .normal)) s (h .normal)
 
 -- FORMAT 10.2, generate_normals: s and the normals of the near faces
 unfoldable pub sumNear : Float → ℕ → V3 → V3 → List Hit → V3

@@ -21,7 +21,8 @@ fn entry_of(v: V3, k: u32) -> f32
     v.z
 }
 
-fn handed_of(ccw: bool, n: V3) -> V3
+// Turned where ccw is off; done twice it is as it was.
+pub fn handed_of(ccw: bool, n: V3) -> V3
     ensures { λ r. ⌜ r ≡ handed ccw n ⌝ }
 {
     if ccw {

@@ -1,0 +1,9 @@
+-- The theorems that callers cite.
+pub mod MendedWords
+pub mod Renaming
+pub mod Rows
+-- The laws behind the functions.
+mod Threes
+mod Lent
+mod Table
+mod Fixing

@@ -1,0 +1,61 @@
+-- One law for each way out of the functions that branch.
+use mathlib.Core.Path.{_≡_, ap, _∙_}
+use mathlib.Core.Bool.{true, false}
+use mathlib.Core.List.{List}
+use Prim.Native.Nat.{ℕ}
+use borrow.Author.Tests.{eq-eqb, ne-eqb}
+use lib.Ieee.{Float, lt}
+use Rattle.math.specs.declared.vector.V3.{V3}
+use Rattle.math.specs.declared.vector.Unit.{Unit}
+use Rattle.math.specs.declared.vector.Unit.the-variants.{Of, Nothing}
+use Rattle.math.specs.Vector.{v3, zero, yAxis, vadd, vdot, unitOf}
+use Rattle.block.specs.declared.crease.CreaseRule.{CreaseRule}
+use Rattle.block.specs.declared.crease.CreaseRule.the-variants.{Own, Every, Bound}
+use Rattle.mesh.specs.Normals.{Hit, isNear, sumAll, sumNear, nearSum, creaseSum, orElse}
+use Rattle.tables.specs.declared.layout.Plan.{Plan}
+use Rattle.normals.specs.Rows.{normalIn, hitsAt}
+use Rattle.mesh.specs.Normals.{nearBy}
+use Rattle.normals.specs.Written.{normalAt}
+
+module _ (b : Float) (own : ℕ) (u : V3) (g : ℕ) (s n : V3) where
+  pub near-own : (k : Unit) → g ≡ own → s ≡ nearBy b own u g k s n
+  unfolding nearBy
+  near-own k e = rw (eq-eqb g own e)
+
+  pub near-none : (k k′ : Unit) → (g ≡ own → ⊥) → k′ ≡ k → k′ ≡ Nothing → s ≡ nearBy b own u g k s n
+  unfolding nearBy isNear
+  near-none k k′ d e f = rw (ne-eqb g own d, ← e, f)
+
+  module _ (k k′ : Unit) (v : V3) (d : g ≡ own → ⊥) (e : k′ ≡ k) (f : k′ ≡ Of v) (c : Float) (h : c ≡ vdot u v) where
+    pub near-far : lt b c ≡ false → s ≡ nearBy b own u g k s n
+    unfolding nearBy isNear
+    near-far q = rw (ne-eqb g own d, ← e, f, ← h, q)
+
+    pub near-yes : (m r : V3) → lt b c ≡ true → m ≡ n → r ≡ vadd s m → r ≡ nearBy b own u g k s n
+    unfolding nearBy isNear
+    near-yes m r q i j = rw (ne-eqb g own d, ← e, f, ← h, q) (j ∙ ap (vadd s) i)
+
+module _ (own : ℕ) (n : V3) (hs : List Hit) (rule : CreaseRule) (r : V3) where
+  pub sum-own : rule ≡ Own → r ≡ n → r ≡ creaseSum rule own n hs
+  unfolding creaseSum
+  sum-own e q = rw e q
+
+  pub sum-every : rule ≡ Every → r ≡ sumAll (v3 zero zero zero) hs → r ≡ creaseSum rule own n hs
+  unfolding creaseSum
+  sum-every e q = rw e q
+
+  module _ (b : Float) (e : rule ≡ Bound b) (k k′ : Unit) (f : k′ ≡ k) (h : k ≡ unitOf n) where
+    pub sum-bound : (u : V3) → k′ ≡ Of u → r ≡ sumNear b own u n hs → r ≡ creaseSum rule own n hs
+    unfolding creaseSum nearSum
+    sum-bound u i q = rw (e, ← h, ← f, i) q
+
+    pub sum-bound-none : k′ ≡ Nothing → r ≡ n → r ≡ creaseSum rule own n hs
+    unfolding creaseSum nearSum
+    sum-bound-none i q = rw (e, ← h, ← f, i) q
+
+pub normal-made : (w : List ℕ) (t : Plan) (rule : CreaseRule) (own p : ℕ) (m d r : V3) (k j i : Unit)
+    → m ≡ creaseSum rule own (normalIn w t own) (hitsAt w t p) → k ≡ unitOf m → j ≡ i → i ≡ unitOf (normalIn w t own) → d ≡ orElse j yAxis → r ≡ orElse k d
+    → r ≡ normalAt w t rule own p
+unfolding normalAt
+normal-made w t rule own p m d r k j i em ek ej ei ed er =
+    er ∙ λ z. orElse ((ek ∙ ap unitOf em) z) ((ed ∙ ap (λ (q : Unit). orElse q yAxis) (ej ∙ ei)) z)

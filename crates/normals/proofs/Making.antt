@@ -1,0 +1,218 @@
+-- The tables, written one after another: what was written stays.
+use mathlib.Core.Path.{_≡_, refl, sym, ap, ap₂, _∙_}
+use mathlib.Core.Logic.{_⊎_, inl, inr, ⊎-elim}
+use mathlib.Core.Bool.{Bool, true, false, cond}
+use mathlib.Core.List.{List}
+use Prim.Native.Nat.{ℕ, zero, suc, _+_, _*_, _-_, _≤_, _<_}
+use native.Mathlib.Nat.{eq-or-lt-of-le, le-of-suc-le-suc, not-suc-le-zero}
+use native.Mathlib.Numerals.{add-one}
+use native.Mathlib.Omega.{arith}
+use lib.Dec.{T, eqb, leb}
+use borrow.Author.Tests.{leb-true, leb-false}
+use lib.ListN.{length, getD, set, length-set}
+use lib.Ieee.{Float, binary32, ofBits, toBits, fits}
+use lib.Ieee.Bits.{ofBits-toBits}
+use Rattle.math.specs.declared.vector.V3.{V3}
+use Rattle.math.specs.declared.vector.Unit.{Unit}
+use Rattle.math.specs.declared.vector.Unit.the-variants.{Of, Nothing}
+use Rattle.math.specs.Vector.{v3, unitOf}
+use Rattle.block.specs.declared.crease.CreaseRule.the-variants.{Own}
+use Rattle.polygon.specs.Points.{spots}
+use Rattle.polygon.specs.Facing.{newell}
+use Rattle.polygon.specs.Plane.{handed}
+use Rattle.mesh.specs.Soup.{pointsOf}
+use Rattle.mesh.specs.Normals.{outline, facing}
+use Rattle.tables.specs.declared.layout.Plan.{Plan}
+use Rattle.tables.specs.Kept.{seg, Kept, AllAre}
+use Rattle.tables.specs.Soups.{gatherIn, ownerIn, startIn, pointsIn, faceIn, frameIn, Sound}
+use Rattle.tables.proofs.Keep.{kept-all, kept-set, kept-then, kept-at, kept-seg, set-hit, set-miss}
+use Rattle.tables.proofs.Stays.{rise, start-le, owner-kept, start-kept, sound-kept, face-kept, frame-kept, names-in}
+use Rattle.normals.specs.Chain.{Chained, Chainable}
+use Rattle.normals.specs.Rows.{at3, unitAt, normalIn, unitIn, facingIn, gathersIn, OwnedTo, Rowed, Owned, Made}
+
+-- ---- rows that are kept
+
+module _ {b : ℕ} {v w : List ℕ} (K : Kept b v w) where
+  at3-kept : (a : ℕ) → a + 3 ≤ b → at3 w a ≡ at3 v a
+  unfolding at3
+  at3-kept a h = λ i. v3 (ofBits binary32 (kept-at K a (omega arith) i)) (ofBits binary32 (kept-at K (a + 1) (omega arith) i)) (ofBits binary32 (kept-at K (a + 2) (omega arith) i))
+
+  unit-kept : (a : ℕ) → a + 4 ≤ b → unitAt w a ≡ unitAt v a
+  unfolding unitAt
+  unit-kept a h = λ i. cond (eqb (kept-at K a (omega arith) i) 0) Nothing (Of (at3-kept (a + 1) (omega arith) i))
+
+  module _ (t : Plan) where
+    normal-kept : (g : ℕ) → t .rows + 7 * g + 3 ≤ b → normalIn w t g ≡ normalIn v t g
+    unfolding normalIn
+    normal-kept g h = at3-kept (t .rows + 7 * g) h
+
+    unitIn-kept : (g : ℕ) → t .rows + 7 * g + 7 ≤ b → unitIn w t g ≡ unitIn v t g
+    unfolding unitIn
+    unitIn-kept g h = unit-kept (t .rows + 7 * g + 3) (omega arith)
+
+    facing-kept : t .named ≤ b → Sound v t → (ccw : Bool) (g : ℕ) → g < t .faces → facingIn w t ccw g ≡ facingIn v t ccw g
+    unfolding facingIn
+    facing-kept h S ccw g k = ap₂ facing (frame-kept K t h S ccw Own) (face-kept K t h S g k)
+
+-- the facing normal, from the two parts of the words that are lent
+pub facing-made : {w : List ℕ} {t : Plan} → Sound w t → (ccw : Bool) (g a b : ℕ) → g < t .faces → a ≡ startIn w t g → b ≡ startIn w t (suc g)
+    → (points names : List ℕ) → points ≡ seg w (t .points) (t .points + 3 * t .spots - t .points) → names ≡ seg w (t .corners + a) (t .corners + b - (t .corners + a))
+    → (n r : V3) → n ≡ newell (spots points names) → r ≡ handed ccw n → r ≡ facingIn w t ccw g
+unfolding facingIn facing outline frameIn pointsIn
+facing-made {w} {t} S ccw g a b h ea eb points names ep en n r e er =
+    let s : t .points + 3 * t .spots - t .points ≡ 3 * t .spots = omega arith in
+    let d : t .corners + b - (t .corners + a) ≡ b - a = omega arith in
+    let q : names ≡ pointsOf (faceIn w t g)
+    = en ∙ ap (seg w (t .corners + a)) d ∙ ap₂ (λ (x y : ℕ). seg w (t .corners + x) (y - x)) ea eb ∙ sym (names-in S g h) in
+    er ∙ ap (handed ccw) (e ∙ ap₂ (λ (x y : List ℕ). newell (spots x y)) (ep ∙ ap (seg w (t .points)) s) q)
+
+-- ---- one step more
+
+le-or-lt : (a b : ℕ) → (a ≤ b) ⊎ (b < a)
+le-or-lt a b = go (leb a b) refl
+  where
+    go : (r : Bool) → leb a b ≡ r → (a ≤ b) ⊎ (b < a)
+    go true e = inl (leb-true a b e)
+    go false e = inr (leb-false a b e)
+
+last-or : (g n : ℕ) → g < n + 1 → (g ≡ n) ⊎ (g < n)
+last-or g n h = eq-or-lt-of-le (le-of-suc-le-suc (rw add-one at h))
+
+owned-step : {v w w′ : List ℕ} {t : Plan} (g a b r : ℕ) → Sound v t → OwnedTo v w t g → g < t .faces → a ≡ startIn v t g → b ≡ startIn v t (suc g)
+    → Kept (t .owners + a) w w′ → AllAre w′ (t .owners + a) (b - a) r → r ≡ g → OwnedTo v w′ t (g + 1)
+unfolding ownerIn
+owned-step {v} {w} {w′} {t} g a b r S O k ea eb K A er = record {
+  owner = λ h c l lo hi. ⊎-elim
+      (λ (e : h ≡ g).
+      let lo′ : startIn v t g ≤ c = rw e at lo in
+      let hi′ : c < startIn v t (suc g) = rw e at hi in
+      let s : t .owners + a + (c - a) ≡ t .owners + c = omega arith in
+      ap (λ (j : ℕ). getD w′ j 0) (sym s) ∙ A .at (c - a) (omega arith) ∙ er ∙ sym e)
+      (λ (e : h < g).
+      let s : suc h + (g - suc h) ≡ g = omega arith in
+      let u = rw s at (rise S (suc h) (g - suc h) (omega arith)) in
+      kept-at K (t .owners + c) (omega arith) ∙ O .owner h c e lo hi)
+      (last-or h g l);
+}
+
+rowed-step : {v w w′ : List ℕ} {t : Plan} {ccw : Bool} (g : ℕ) (n : V3) → Rowed v w t ccw g → Kept (t .rows + 7 * g) w w′
+    → at3 w′ (t .rows + 7 * g) ≡ n → unitAt w′ (t .rows + 7 * g + 3) ≡ unitOf n → n ≡ facingIn v t ccw g → Rowed v w′ t ccw (g + 1)
+unfolding normalIn unitIn
+rowed-step {v} {w} {w′} {t} {ccw} g n R K en eu f = record {
+  normal = λ h l. ⊎-elim
+      (λ (e : h ≡ g). rw e (en ∙ f))
+      (λ (e : h < g). normal-kept K t h (omega arith) ∙ R .normal h e)
+      (last-or h g l);
+  unit = λ h l. ⊎-elim
+      (λ (e : h ≡ g). rw e (eu ∙ ap unitOf (sym en)))
+      (λ (e : h < g). unitIn-kept K t h (omega arith) ∙ R .unit h e ∙ ap unitOf (sym (normal-kept K t h (omega arith))))
+      (last-or h g l);
+}
+
+-- ---- a turn of the loops
+
+pub owners-next : {v w w′ : List ℕ} {t : Plan} (g a b r : ℕ) → Sound v t → Kept (t .owners) v w → OwnedTo v w t g → g < t .faces
+    → a ≡ startIn w t g → b ≡ startIn w t (suc g) → Kept (t .owners + a) w w′ → AllAre w′ (t .owners + a) (b - a) r → r ≡ g
+    → Kept (t .owners) v w′ × Sound w′ t × OwnedTo v w′ t (g + 1)
+owners-next {v} {w} {w′} {t} g a b r S K O k ea eb L A er =
+    let R = S .room in
+    let M = kept-then K L (omega arith) in (
+      M,
+      sound-kept M t (omega arith) S,
+      owned-step g a b r S O k (ea ∙ start-kept K t g (omega arith)) (eb ∙ start-kept K t (suc g) (omega arith)) L A er,
+    )
+
+pub rows-next : {v w w′ : List ℕ} {t : Plan} {ccw : Bool} (g : ℕ) (n : V3) → Sound v t → Kept (t .rows) v w → Rowed v w t ccw g → g < t .faces
+    → n ≡ facingIn w t ccw g → Kept (t .rows + 7 * g) w w′ → at3 w′ (t .rows + 7 * g) ≡ n → unitAt w′ (t .rows + 7 * g + 3) ≡ unitOf n
+    → Kept (t .rows) v w′ × Sound w′ t × Rowed v w′ t ccw (g + 1)
+rows-next {v} {w} {w′} {t} {ccw} g n S K P k en L e3 eu =
+    let R = S .room in
+    let M = kept-then K L (omega arith) in
+    (M, sound-kept M t (omega arith) S, rowed-step g n P L e3 eu (en ∙ facing-kept K t (omega arith) S ccw g k))
+
+-- ---- three words stored
+
+pub stored : (w : List ℕ) (a x y z : ℕ) (v : V3) → a + 3 ≤ length w → T (fits binary32 (v .x)) → T (fits binary32 (v .y)) → T (fits binary32 (v .z))
+    → x ≡ toBits binary32 (v .x) → y ≡ toBits binary32 (v .y) → z ≡ toBits binary32 (v .z)
+    → Kept a w (set (set (set w a x) (a + 1) y) (a + 2) z) × (at3 (set (set (set w a x) (a + 1) y) (a + 2) z) a ≡ v)
+unfolding at3
+stored w a x y z v h fx fy fz ex ey ez =
+    let l₁ = length-set w a x in
+    let l₂ = length-set (set w a x) (a + 1) y in
+    let px = set-miss (set (set w a x) (a + 1) y) (a + 2) z a (λ q. omega arith) ∙ set-miss (set w a x) (a + 1) y a (λ q. omega arith) ∙ set-hit w a x a (omega arith) refl in
+    let py = set-miss (set (set w a x) (a + 1) y) (a + 2) z (a + 1) (λ q. omega arith) ∙ set-hit (set w a x) (a + 1) y (a + 1) (omega arith) refl in
+    let pz = set-hit (set (set w a x) (a + 1) y) (a + 2) z (a + 2) (omega arith) refl in
+    let back : (n : ℕ) (u : Float) → n ≡ toBits binary32 u → T (fits binary32 u) → ofBits binary32 n ≡ u = λ n u e f. ap (ofBits binary32) e ∙ ofBits-toBits binary32 u f in (
+      kept-set (a + 2) z (kept-set (a + 1) y (kept-set a x kept-all (omega arith)) (omega arith)) (omega arith),
+      λ i. v3 ((ap (ofBits binary32) px ∙ back x (v .x) ex fx) i) ((ap (ofBits binary32) py ∙ back y (v .y) ey fy) i) ((ap (ofBits binary32) pz ∙ back z (v .z) ez fz) i),
+    )
+
+-- ---- a row
+
+module _ (w w₁ : List ℕ) (a : ℕ) (v : V3) (k : Unit) (h : a + 7 ≤ length w) (K : Kept a w w₁) (e : at3 w₁ a ≡ v) (ek : k ≡ unitOf v) where
+  pub row-some : (w₃ : List ℕ) (u : V3) → Kept (a + 4) (set w₁ (a + 3) 1) w₃ → at3 w₃ (a + 4) ≡ u → k ≡ Of u
+      → Kept a w w₃ × (at3 w₃ a ≡ v) × (unitAt w₃ (a + 3) ≡ unitOf v)
+  unfolding unitAt
+  row-some w₃ u L f g =
+      let M : Kept (a + 3) w₁ (set w₁ (a + 3) 1) = kept-set (a + 3) 1 kept-all (omega arith) in
+      let N = kept-then M L (omega arith) in
+      let l = K .len in
+      let one : getD w₃ (a + 3) 0 ≡ 1 = kept-at L (a + 3) (omega arith) ∙ set-hit w₁ (a + 3) 1 (a + 3) (omega arith) refl in
+      let s : a + 3 + 1 ≡ a + 4 = omega arith in
+      (kept-then K N (omega arith), at3-kept N a (omega arith) ∙ e, rw (one, s, f) (sym g ∙ ek))
+
+  pub row-none : k ≡ Nothing → Kept a w (set w₁ (a + 3) 0) × (at3 (set w₁ (a + 3) 0) a ≡ v) × (unitAt (set w₁ (a + 3) 0) (a + 3) ≡ unitOf v)
+  unfolding unitAt
+  row-none g =
+      let M : Kept (a + 3) w₁ (set w₁ (a + 3) 0) = kept-set (a + 3) 0 kept-all (omega arith) in
+      let l = K .len in
+      let nul : getD (set w₁ (a + 3) 0) (a + 3) 0 ≡ 0 = set-hit w₁ (a + 3) 0 (a + 3) (omega arith) refl in
+      (kept-then K M (omega arith), at3-kept M a (omega arith) ∙ e, rw nul (sym g ∙ ek))
+
+-- ---- all tables
+
+-- every corner is in a face: the owners are faces
+below : {w : List ℕ} {t : Plan} → Sound w t → Owned w t → (n c : ℕ) → n ≤ t .faces → c < startIn w t n → ownerIn w t c < t .faces
+below {w} {t} S O zero c h l = absurd (not-suc-le-zero (rw (S .first) at l))
+below {w} {t} S O (suc n) c h l =
+    ⊎-elim (λ (b : startIn w t n ≤ c). rw (O .owner n c h b l) h) (λ (b : c < startIn w t n). below S O n c (omega arith) b) (le-or-lt (startIn w t n) c)
+
+pub made : {v w x y : List ℕ} {t : Plan} {ccw : Bool} → Sound v t → Kept (t .owners) v w → OwnedTo v w t (t .faces)
+    → Kept (t .rows) w x → Rowed w x t ccw (t .faces) → Kept (t .heads) x y → Chained (seg x (t .gathers) (t .count)) y (t .heads) (t .spots) (t .nexts) 0 → Made v y t ccw
+unfolding gathersIn
+made {v} {w} {x} {y} {t} {ccw} S K O L P M C =
+    let R = S .room in
+    let LM = kept-then L M (omega arith) in
+    let KLM = kept-then K LM (omega arith) in
+    let S′ = sound-kept KLM t (omega arith) S in
+    let len = KLM .len in
+    let lx = M .len in
+    let own : Owned y t = record {
+      owner = λ g c k lo hi.
+          let e = start-kept KLM t g (omega arith) in
+          let f = start-kept KLM t (suc g) (omega arith) in
+          let m = start-le S (suc g) k in
+          owner-kept LM t c (omega arith) ∙ O .owner g c k (omega arith) (omega arith);
+    } in
+    record {
+      kept = KLM;
+      sound = S′;
+      owned = own;
+      ready = record {
+        room = S′ .room;
+        chained = rw (kept-seg M (t .gathers) (t .count) (omega arith) (omega arith)) C;
+        owned = λ c k. below S′ own (t .faces) c (omega arith) (rw (S′ .last) k);
+        units = λ g k. unitIn-kept M t g (omega arith) ∙ P .unit g k ∙ ap unitOf (sym (normal-kept M t g (omega arith)));
+      };
+      normals = λ g k. normal-kept M t g (omega arith) ∙ P .normal g k ∙ facing-kept K t (omega arith) S ccw g k;
+    }
+
+pub after-owners : {v w : List ℕ} {t : Plan} → Sound v t → Kept (t .owners) v w → Sound w t
+after-owners S K = sound-kept K _ (omega arith) S
+
+pub after-rows : {v w : List ℕ} {t : Plan} → Sound v t → Kept (t .rows) v w → Sound w t
+after-rows S K = let R = S .room in sound-kept K _ (omega arith) S
+
+pub chainable-of : {w : List ℕ} {t : Plan} → Sound w t → Chainable w (t .gathers) (t .count) (t .heads) (t .spots) (t .nexts)
+unfolding gatherIn
+chainable-of S = let R = S .room in record { few = R .few; corners = omega arith; heads = R .heads; nexts = R .nexts; points = S .gathers }

@@ -1,0 +1,127 @@
+-- What the tables say of the corners is what the mesh's definition says of the soup that they hold.
+use mathlib.Core.Path.{_≡_, refl, sym, ap, _∙_}
+use mathlib.Core.Bool.{Bool, true, false, cond}
+use mathlib.Core.List.{List, [], _∷_, _++_, map}
+use Prim.Native.Nat.{ℕ, zero, suc, _+_, _-_, _≤_, _<_}
+use native.Mathlib.Nat.{add-zero, add-suc, suc-add}
+use native.Mathlib.Omega.{arith}
+use lib.Dec.{eqb}
+use lib.ListN.{length, drop, drop-of-length-le}
+use lib.Seq.{drop-cons}
+use Rattle.math.specs.declared.vector.V3.{V3}
+use Rattle.math.specs.Vector.{yAxis, unitOf}
+use Rattle.block.specs.declared.crease.CreaseRule.{CreaseRule}
+use Rattle.polygon.specs.Loops.{tab}
+use Rattle.mesh.specs.Soup.{Corner, Frame}
+use Rattle.mesh.specs.Normals.{outline, facing, Hit, hits, hitsOf, incident, creaseSum, orElse, generated}
+use Rattle.tables.specs.declared.layout.Plan.{Plan}
+use Rattle.tables.specs.Layout.{Room}
+use Rattle.tables.specs.Soups.{gatherIn, startIn, cornerIn, faceIn, soupIn, frameIn, Sound}
+use Rattle.tables.proofs.Keep.{length-seg, seg-at}
+use Rattle.tables.proofs.Tabs.{tab-ext, tab-add, map-tab}
+use Rattle.tables.proofs.Stays.{start-le, face-kept, soup-kept}
+use Rattle.tables.proofs.Joins.{join-soup}
+use Rattle.normals.specs.Chain.{uses, usesFrom}
+use Rattle.normals.specs.Rows.{normalIn, facingIn, gathersIn, hitIn, hitsFrom, hitsAt, Owned, Made}
+use Rattle.normals.specs.Written.{normalAt, cornerNormalIn, faceNormals, normalsOf}
+
+abbrev hit : ℕ → V3 → Hit
+hit g n = record { face = g; normal = n }
+
+cond-map : {A B : Type 0} (f : A → B) (c : Bool) (x : A) (l : List A) → map f (cond c (x ∷ l) l) ≡ cond c (f x ∷ map f l) (map f l)
+cond-map f true x l = refl
+cond-map f false x l = refl
+
+module _ (w : List ℕ) (t : Plan) (room : Room (length w) t) where
+  hits-here : (p a : ℕ) → a < t .count → hitsFrom w t p a ≡ cond (eqb (gatherIn w t a) p) (hitIn w t a ∷ hitsFrom w t p (suc a)) (hitsFrom w t p (suc a))
+  unfolding hitsFrom usesFrom uses gathersIn gatherIn
+  hits-here p a b =
+      let r = room in
+      let G = gathersIn w t in
+      let U = uses p (suc a) (drop (suc a) G) in
+      let l = length-seg w (t .gathers) (t .count) (omega arith) in
+      ap (λ (x : List ℕ). map (hitIn w t) (uses p a x)) (drop-cons G a 0 (omega arith))
+      ∙ ap (λ (x : ℕ). map (hitIn w t) (cond (eqb x p) (a ∷ U) U)) (seg-at w (t .gathers) (t .count) a b)
+      ∙ cond-map (hitIn w t) (eqb (gatherIn w t a) p) a U
+
+  -- n corners from a that are all of one face, and the corners after them
+  hits-run : (p : ℕ) (h : Hit) (n a : ℕ) → a + n ≤ t .count → ((j : ℕ) → j < n → hitIn w t (a + j) ≡ h)
+      → hits p h (tab (cornerIn w t) n a) ++ hitsFrom w t p (a + n) ≡ hitsFrom w t p a
+  unfolding hits tab cornerIn
+  hits-run p h zero a b e = ap (hitsFrom w t p) (add-zero a)
+  hits-run p h (suc n) a b e =
+      let s : a + suc n ≡ suc a + n = omega arith in
+      let i : hitIn w t a ≡ h = sym (ap (hitIn w t) (add-zero a)) ∙ e 0 (omega arith) in
+      let later = hits-run p h n (suc a) (omega arith) (λ j k. ap (hitIn w t) (suc-add a j ∙ sym (add-suc a j)) ∙ e (suc j) (omega arith)) in
+      rw s (one (eqb (gatherIn w t a) p) i later ∙ sym (hits-here p a (omega arith)))
+    where
+      one : (c : Bool) → hitIn w t a ≡ h → hits p h (tab (cornerIn w t) n (suc a)) ++ hitsFrom w t p (suc a + n) ≡ hitsFrom w t p (suc a)
+          → cond c (h ∷ hits p h (tab (cornerIn w t) n (suc a))) (hits p h (tab (cornerIn w t) n (suc a))) ++ hitsFrom w t p (suc a + n)
+          ≡ cond c (hitIn w t a ∷ hitsFrom w t p (suc a)) (hitsFrom w t p (suc a))
+      one true i q = λ z. sym i z ∷ q z
+      one false i q = q
+
+  hits-end : (p : ℕ) → hitsFrom w t p (t .count) ≡ []
+  unfolding hitsFrom usesFrom uses gathersIn
+  hits-end p =
+      let r = room in
+      let l = length-seg w (t .gathers) (t .count) (omega arith) in
+      ap (λ (x : List ℕ). map (hitIn w t) (uses p (t .count) x)) (drop-of-length-le (gathersIn w t) {i = t .count} (omega arith))
+
+-- the rows hold the facing normals of F
+module _ {w : List ℕ} {t : Plan} (S : Sound w t) (O : Owned w t) (F : Frame) (E : (g : ℕ) → g < t .faces → normalIn w t g ≡ facing F (faceIn w t g)) where
+  hits-incident : (p : ℕ) → hitsAt w t p ≡ incident F (soupIn w t) p
+  unfolding incident hitIn hitsOf faceIn
+  hits-incident p = sym (join-soup S (hitsOf F p) (hitsFrom w t p) (hits-end w t (S .room) p) (λ n h.
+      let a = startIn w t n in
+      let b = startIn w t (suc n) in
+      let r = S .rises n h in
+      let m = start-le S (suc n) h in
+      let d : a + (b - a) ≡ b = omega arith in
+      let H = hit n (facing F (faceIn w t n)) in
+      let same : (j : ℕ) → j < b - a → hitIn w t (a + j) ≡ H = λ j k.
+      ap (λ (o : ℕ). hit o (normalIn w t o)) (O .owner n (a + j) h (omega arith) (omega arith)) ∙ ap (hit n) (E n h) in
+      rw d at (hits-run w t (S .room) p H (b - a) a (omega arith) same)))
+
+  normal-generated : (g p : ℕ) → g < t .faces → normalAt w t (F .crease) g p ≡ generated F (soupIn w t) g (faceIn w t g) p
+  unfolding normalAt generated
+  normal-generated g p h = λ z. orElse (unitOf (creaseSum (F .crease) g (E g h z) (hits-incident p z))) (orElse (unitOf (E g h z)) yAxis)
+
+  corners-all : tab (cornerNormalIn w t (F .crease)) (t .count) 0 ≡ normalsOf F (soupIn w t)
+  unfolding normalsOf faceNormals faceIn cornerIn cornerNormalIn tab
+  corners-all =
+      let C = cornerNormalIn w t (F .crease) in
+      let whole : t .count ≡ t .count - 0 = omega arith in
+      ap (λ (k : ℕ). tab C k 0) whole
+      ∙ sym (join-soup S (faceNormals F (soupIn w t)) (λ (c : ℕ). tab C (t .count - c) c) (none C) (λ n h.
+      let a = startIn w t n in
+      let b = startIn w t (suc n) in
+      let r = S .rises n h in
+      let m = start-le S (suc n) h in
+      let d : a + (b - a) ≡ b = omega arith in
+      let k : b - a + (t .count - b) ≡ t .count - a = omega arith in
+      let N : ℕ → V3 = λ (c : ℕ). generated F (soupIn w t) n (faceIn w t n) (gatherIn w t c) in
+      let same : (j : ℕ) → j < b - a → N (a + j) ≡ C (a + j) = λ j l. sym (ap (λ (o : ℕ). normalAt w t (F .crease) o (gatherIn w t (a + j))) (O .owner n (a + j) h (omega arith) (omega arith))
+      ∙ normal-generated n (gatherIn w t (a + j)) h) in
+      let f : faceNormals F (soupIn w t) n (faceIn w t n) ≡ tab C (b - a) a
+      = map-tab (cornerIn w t) (λ (c : Corner). generated F (soupIn w t) n (faceIn w t n) (c .gather)) (b - a) a ∙ tab-ext N C (b - a) a same in
+      ap (λ (l : List V3). l ++ tab C (t .count - b) b) f
+      ∙ ap (λ (x : ℕ). tab C (b - a) a ++ tab C (t .count - b) x) (sym d) ∙ tab-add C (b - a) (t .count - b) a ∙ ap (λ (x : ℕ). tab C x a) k))
+    where
+      none : (f : ℕ → V3) → tab f (t .count - t .count) (t .count) ≡ []
+      none f = let z : t .count - t .count ≡ 0 = omega arith in rw z
+
+-- the facing normals do not depend on the crease rule
+facing-rule : (w : List ℕ) (t : Plan) (ccw : Bool) (rule : CreaseRule) (g : ℕ) → facingIn w t ccw g ≡ facing (frameIn w t ccw rule) (faceIn w t g)
+unfolding facingIn facing outline frameIn
+facing-rule w t ccw rule g = refl
+
+-- by the tables that were made from the words v
+pub generated-all : {v w : List ℕ} {t : Plan} {ccw : Bool} → Sound v t → Made v w t ccw → (rule : CreaseRule)
+    → tab (cornerNormalIn w t rule) (t .count) 0 ≡ normalsOf (frameIn v t ccw rule) (soupIn v t)
+unfolding frameIn
+generated-all {v} {w} {t} {ccw} S M rule =
+    let F = frameIn v t ccw rule in
+    let E : (g : ℕ) → g < t .faces → normalIn w t g ≡ facing F (faceIn w t g)
+    = λ g h. M .normals g h ∙ facing-rule v t ccw rule g ∙ ap (facing F) (sym (face-kept (M .kept) t (omega arith) S g h)) in
+    corners-all (M .sound) (M .owned) F E ∙ ap (normalsOf F) (soup-kept (M .kept) t (omega arith) S)

@@ -1,0 +1,124 @@
+use native.Mathlib.Omega.{arith}
+use mathlib.Core.Path.{_≡_, _∙_}
+use Prim.Native.Nat.{_-_, _≤_}
+use lib.ListN.{length-set}
+use Rattle.tables.specs.Kept.{seg, Kept}
+use Rattle.normals.specs.Chain.{Chained, Chainable}
+use Rattle.tables.proofs.Keep.{kept-all, kept-then, kept-seg}
+use Rattle.normals.proofs.Links.{chain-start, chain-next, chainable-kept}
+use borrow.Author.Needs.{needs}
+use Rattle.normals.proofs.chains.chain.Statement.{statement}
+use Rattle.normals.proofs.chains.chain.Tie as tie
+
+abbrev Inv-loop : tie.InvT-loop
+Inv-loop work₀ a n h p x i₀ work i = (i ≤ n) × Kept h work₀ work × Chainable work a n h p x × Chained (seg work₀ a n) work h p x i
+
+abbrev μ-loop : tie.MeasureT-loop
+μ-loop work₀ a n h p x i₀ work i = i
+
+narrow-requires : tie.Need-narrow-requires Inv-loop μ-loop
+narrow-requires c κs = search needs
+
+fill-requires : tie.Need-fill-requires Inv-loop μ-loop
+fill-requires c κs = search needs
+
+loop-holds : tie.Need-loop-holds Inv-loop μ-loop
+loop-holds c =
+    let C = chainable-kept (c .before .before .fill .ensures .kept) (c .before .before .before .before .before .before .pre) in
+    (omega arith, kept-all, C, chain-start C (λ v b. c .before .before .fill .ensures .all .at v b ∙ c .before .before .before .narrow .ensures))
+
+sub-i : tie.Need-sub-i Inv-loop μ-loop
+sub-i c = search needs
+
+add-wide : tie.Need-add-wide Inv-loop μ-loop
+add-wide c = search needs
+
+mul-wide : tie.Need-mul-wide Inv-loop μ-loop
+mul-wide c = search needs
+
+slice-read-wide : tie.Need-slice-read-wide Inv-loop μ-loop
+slice-read-wide c = search needs
+
+wide-requires : tie.Need-wide-requires Inv-loop μ-loop
+wide-requires c κs = search needs
+
+add-work : tie.Need-add-work Inv-loop μ-loop
+add-work c = omega (arith, c .before .before .before .loop .inv .2 .points (c .before .before .before .loop .i - 1) (omega arith), c .wide .ensures)
+
+mul-work : tie.Need-mul-work Inv-loop μ-loop
+mul-work c = omega (arith, c .before .before .before .loop .inv .2 .points (c .before .before .before .loop .i - 1) (omega arith), c .wide .ensures)
+
+slice-read-work : tie.Need-slice-read-work Inv-loop μ-loop
+slice-read-work c = omega (arith, c .before .before .before .before .loop .inv .2 .points (c .before .before .before .before .loop .i - 1) (omega arith), c .before .wide .ensures)
+
+add-work-2 : tie.Need-add-work-2 Inv-loop μ-loop
+add-work-2 c = search needs
+
+mul-work-2 : tie.Need-mul-work-2 Inv-loop μ-loop
+mul-work-2 c = search needs
+
+slice-write-work : tie.Need-slice-write-work Inv-loop μ-loop
+slice-write-work c = search needs
+
+narrow-requires-2 : tie.Need-narrow-requires-2 Inv-loop μ-loop
+narrow-requires-2 c κs = search needs
+
+add-work-3 : tie.Need-add-work-3 Inv-loop μ-loop
+add-work-3 c = omega (arith, c .before .before .before .before .before .loop .inv .2 .points (c .before .before .before .before .before .loop .i - 1) (omega arith), c .before .before .wide .ensures)
+
+mul-work-3 : tie.Need-mul-work-3 Inv-loop μ-loop
+mul-work-3 c = omega (arith, c .before .before .before .before .before .loop .inv .2 .points (c .before .before .before .before .before .loop .i - 1) (omega arith), c .before .before .wide .ensures)
+
+slice-write-work-2 : tie.Need-slice-write-work-2 Inv-loop μ-loop
+slice-write-work-2 c = simp length-set (omega (arith, c .before .before .before .before .before .loop .inv .2 .points (c .before .before .before .before .before .loop .i - 1) (omega arith), c .before .before .wide .ensures))
+
+loop-less : tie.Need-loop-less Inv-loop μ-loop
+loop-less c = search needs
+
+loop-again : tie.Need-loop-again Inv-loop μ-loop
+loop-again c =
+    let I = c .before .before .before .before .before .loop .inv in
+    let k = chain-next (c .before .before .before .before .before .before .before .before .fill .last .0) (c .before .before .before .before .before .loop .work) (c .before .before .before .before .before .before .before .before .before .before .before .before .args .a) (c .before .before .before .before .before .before .before .before .before .before .before .before .args .n) (c .before .before .before .before .before .before .before .before .before .before .before .before .args .h) (c .before .before .before .before .before .before .before .before .before .before .before .before .args .p) (c .before .before .before .before .before .before .before .before .before .before .before .before .args .x) (c .before .before .before .before .before .loop .i) (c .before .before .before .before .before .loop .i - 1) (c .before .before .wide .result) (c .narrow2 .result)
+    (omega arith) (omega arith) (I .1) (I .2) (I .3) (c .before .before .wide .ensures) (c .narrow2 .ensures) in
+    (omega arith, k .0, k .1, k .2)
+
+same-length : tie.Need-same-length Inv-loop μ-loop
+same-length c = c .before .loop .inv .1 .len ∙ c .before .before .before .before .fill .ensures .kept .len
+
+returns : tie.Need-returns Inv-loop μ-loop
+returns c =
+    let I = c .before .loop .inv in
+    let z : c .before .loop .i ≡ 0 = omega arith in
+    let P = c .before .before .before .before .before .before .before .before .pre in
+    let K = c .before .before .before .before .fill .ensures .kept in
+    let s : seg (c .before .before .before .before .fill .last .0) (c .before .before .before .before .before .before .before .before .args .a) (c .before .before .before .before .before .before .before .before .args .n) ≡ seg (c .before .before .before .before .before .before .before .before .args .work .now) (c .before .before .before .before .before .before .before .before .args .a) (c .before .before .before .before .before .before .before .before .args .n) = kept-seg K (c .before .before .before .before .before .before .before .before .args .a) (c .before .before .before .before .before .before .before .before .args .n) (omega arith) (omega arith) in
+    (kept-then K (I .1) (omega arith), rw z at (rw s at (I .3)))
+
+pub chain-spec : {M : Type 1} → statement M
+chain-spec =
+    tie.close
+    (tie.spec
+    Inv-loop
+    μ-loop
+    narrow-requires
+    fill-requires
+    loop-holds
+    sub-i
+    add-wide
+    mul-wide
+    slice-read-wide
+    wide-requires
+    add-work
+    mul-work
+    slice-read-work
+    add-work-2
+    mul-work-2
+    slice-write-work
+    narrow-requires-2
+    add-work-3
+    mul-work-3
+    slice-write-work-2
+    loop-less
+    loop-again
+    same-length
+    returns)

@@ -1,0 +1,47 @@
+use Rattle.normals.specs.Rows.{unitIn}
+use Rattle.normals.proofs.Arms.{normal-made}
+use borrow.Author.Needs.{needs}
+use Rattle.normals.proofs.sums.corner_normal.Statement.{statement}
+use Rattle.normals.proofs.sums.corner_normal.Tie as tie
+
+crease-sum-requires : tie.Need-crease-sum-requires
+crease-sum-requires c κs = search needs
+
+normalize-requires : tie.Need-normalize-requires
+normalize-requires c κs = search needs
+
+mul-row : tie.Need-mul-row
+mul-row c = search needs
+
+add-row : tie.Need-add-row
+add-row c = search needs
+
+add-row-2 : tie.Need-add-row-2
+add-row-2 c = search needs
+
+load-unit-requires : tie.Need-load-unit-requires
+load-unit-requires c κs = search needs
+
+or-else-requires : tie.Need-or-else-requires
+or-else-requires c κs = search needs
+
+or-else-requires-2 : tie.Need-or-else-requires-2
+or-else-requires-2 c κs = search needs
+
+returns : tie.Need-returns
+unfolding unitIn
+returns c = normal-made _ _ _ _ _ _ _ _ _ _ _ (c .before .before .before .before .before .crease-sum .ensures) (c .before .before .before .before .normalize .ensures) (c .before .before .load-unit .ensures) (c .before .before .before .before .before .before .before .pre .0 .units _ (c .before .before .before .before .before .before .before .pre .2)) (c .before .or-else .ensures) (c .or-else2 .ensures)
+
+pub corner-normal-spec : {M : Type 1} → statement M
+corner-normal-spec =
+    tie.close
+    (tie.spec
+    crease-sum-requires
+    normalize-requires
+    mul-row
+    add-row
+    add-row-2
+    load-unit-requires
+    or-else-requires
+    or-else-requires-2
+    returns)

@@ -1,0 +1,32 @@
+use mathlib.Core.Path.{ap, _∙_}
+use mathlib.Core.List.{List, _++_}
+use Prim.Native.Nat.{_*_}
+use lib.ListN.{drop}
+use Rattle.math.specs.declared.vector.V3.{V3}
+use Rattle.normals.specs.Written.{spread}
+use Rattle.normals.proofs.Soups.{generated-all}
+use borrow.Author.Needs.{needs}
+use Rattle.normals.proofs.whole.generate.Statement.{statement}
+use Rattle.normals.proofs.whole.generate.Tie as tie
+
+prepare-requires : tie.Need-prepare-requires
+prepare-requires c κs = search needs
+
+corner-normals-requires : tie.Need-corner-normals-requires
+corner-normals-requires c κs = search needs
+
+same-length : tie.Need-same-length
+same-length c = search needs
+
+same-length-2 : tie.Need-same-length-2
+same-length-2 c = search needs
+
+returns : tie.Need-returns
+returns c = record {
+  kept = c .before .before .before .before .before .before .before .prepare .ensures .kept;
+  normals = c .before .before .corner-normals .ensures ∙ ap (λ (l : List V3). spread l ++ drop (3 * c .before .before .before .before .before .before .before .before .before .before .before .args .t .count) (c .before .before .before .before .before .before .before .before .before .before .before .args .floats .now)) (generated-all (c .before .before .before .before .before .before .before .before .before .before .before .pre .0) (c .before .before .before .before .before .before .before .prepare .ensures) _);
+}
+
+pub generate-spec : {M : Type 1} → statement M
+generate-spec =
+    tie.close (tie.spec prepare-requires corner-normals-requires same-length same-length-2 returns)

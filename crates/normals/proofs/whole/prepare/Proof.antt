@@ -1,0 +1,23 @@
+use Rattle.normals.proofs.Making.{made, after-owners, after-rows, chainable-of}
+use borrow.Author.Needs.{needs}
+use Rattle.normals.proofs.whole.prepare.Statement.{statement}
+use Rattle.normals.proofs.whole.prepare.Tie as tie
+
+owners-requires : tie.Need-owners-requires
+owners-requires c κs = search needs
+
+rows-requires : tie.Need-rows-requires
+rows-requires c κs = after-owners (c .before .before .before .before .before .before .pre) (c .before .before .before .owners .ensures .0)
+
+chain-requires : tie.Need-chain-requires
+chain-requires c κs = chainable-of (after-rows (after-owners (c .before .before .before .before .before .before .before .before .before .before .pre) (c .before .before .before .before .before .before .before .owners .ensures .0)) (c .before .before .before .rows .ensures .0))
+
+same-length : tie.Need-same-length
+same-length c = search needs
+
+returns : tie.Need-returns
+returns c = made (c .before .before .before .before .before .before .before .before .before .before .before .before .before .pre) (c .before .before .before .before .before .before .before .before .before .before .owners .ensures .0) (c .before .before .before .before .before .before .before .before .before .before .owners .ensures .1) (c .before .before .before .before .before .before .rows .ensures .0) (c .before .before .before .before .before .before .rows .ensures .1) (c .before .before .chain .ensures .0) (c .before .before .chain .ensures .1)
+
+pub prepare-spec : {M : Type 1} → statement M
+prepare-spec =
+    tie.close (tie.spec owners-requires rows-requires chain-requires same-length returns)

@@ -1,0 +1,80 @@
+-- FORMAT 10.1, 10.2: the tables that are made: owners, rows of faces, chains; and what they say of the faces at a corner.
+use mathlib.Core.Path.{_≡_}
+use mathlib.Core.Bool.{Bool, cond}
+use mathlib.Core.List.{List, map}
+use Prim.Native.Nat.{ℕ, suc, _+_, _*_, _≤_, _<_}
+use lib.Dec.{eqb}
+use lib.ListN.{length, getD}
+use lib.Ieee.{binary32, ofBits}
+use Rattle.math.specs.declared.vector.V3.{V3}
+use Rattle.math.specs.declared.vector.Unit.{Unit}
+use Rattle.math.specs.declared.vector.Unit.the-variants.{Of, Nothing}
+use Rattle.math.specs.Vector.{v3, unitOf}
+use Rattle.block.specs.declared.crease.CreaseRule.the-variants.{Own}
+use Rattle.mesh.specs.Normals.{facing, Hit}
+use Rattle.tables.specs.declared.layout.Plan.{Plan}
+use Rattle.tables.specs.Kept.{seg, Kept}
+use Rattle.tables.specs.Layout.{Room}
+use Rattle.tables.specs.Soups.{ownerIn, startIn, faceIn, frameIn, Sound}
+use Rattle.normals.specs.Chain.{usesFrom, Chained}
+
+-- three words from a, as a vector
+unfoldable pub at3 : List ℕ → ℕ → V3
+at3 w a = v3 (ofBits binary32 (getD w a 0)) (ofBits binary32 (getD w (a + 1) 0)) (ofBits binary32 (getD w (a + 2) 0))
+
+-- four words: 0 for no unit vector, or 1 and the vector
+unfoldable pub unitAt : List ℕ → ℕ → Unit
+unitAt w a = cond (eqb (getD w a 0) 0) Nothing (Of (at3 w (a + 1)))
+
+-- a face's row of seven words: its facing normal, and its unit vector
+unfoldable pub normalIn : List ℕ → Plan → ℕ → V3
+normalIn w t g = at3 w (t .rows + 7 * g)
+
+unfoldable pub unitIn : List ℕ → Plan → ℕ → Unit
+unitIn w t g = unitAt w (t .rows + 7 * g + 3)
+
+-- FORMAT 10.1: the facing normal of kept face g, by the points and corners in w
+unfoldable pub facingIn : List ℕ → Plan → Bool → ℕ → V3
+facingIn w t ccw g = facing (frameIn w t ccw Own) (faceIn w t g)
+
+-- the numbers that the corners are gathered by
+unfoldable pub gathersIn : List ℕ → Plan → List ℕ
+gathersIn w t = seg w (t .gathers) (t .count)
+
+-- FORMAT 10.2, generate_normals (incident): the face of corner c; the faces at p, in order, once for each use, by the corners from x on; by all corners
+unfoldable pub hitIn : List ℕ → Plan → ℕ → Hit
+hitIn w t c = record { face = ownerIn w t c; normal = normalIn w t (ownerIn w t c) }
+
+unfoldable pub hitsFrom : List ℕ → Plan → ℕ → ℕ → List Hit
+hitsFrom w t p x = map (hitIn w t) (usesFrom (gathersIn w t) p x)
+
+abbrev pub hitsAt : List ℕ → Plan → ℕ → List Hit
+hitsAt w t p = hitsFrom w t p 0
+
+-- the corners of the first n faces have their owners, by the words v
+pub record OwnedTo (v w : List ℕ) (t : Plan) (n : ℕ) : Type 0 where
+  pub owner : (g c : ℕ) → g < n → startIn v t g ≤ c → c < startIn v t (suc g) → ownerIn w t c ≡ g
+
+-- the first n rows are made, from the words v
+pub record Rowed (v w : List ℕ) (t : Plan) (ccw : Bool) (n : ℕ) : Type 0 where
+  pub normal : (g : ℕ) → g < n → normalIn w t g ≡ facingIn v t ccw g
+  pub unit : (g : ℕ) → g < n → unitIn w t g ≡ unitOf (normalIn w t g)
+
+-- each corner's face is in the table of owners
+abbrev pub Owned : List ℕ → Plan → Type 0
+Owned w t = OwnedTo w w t (t .faces)
+
+-- the tables that a corner's normal is read from
+pub record Ready (w : List ℕ) (t : Plan) : Type 0 where
+  pub room : Room (length w) t
+  pub chained : Chained (gathersIn w t) w (t .heads) (t .spots) (t .nexts) 0
+  pub owned : (c : ℕ) → c < t .count → ownerIn w t c < t .faces
+  pub units : (g : ℕ) → g < t .faces → unitIn w t g ≡ unitOf (normalIn w t g)
+
+-- all tables are made, from the words v
+pub record Made (v w : List ℕ) (t : Plan) (ccw : Bool) : Type 0 where
+  pub kept : Kept (t .owners) v w
+  pub sound : Sound w t
+  pub owned : Owned w t
+  pub ready : Ready w t
+  pub normals : (g : ℕ) → g < t .faces → normalIn w t g ≡ facingIn v t ccw g

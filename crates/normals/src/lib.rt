@@ -1,0 +1,9 @@
+// The normals of the corners of a soup, from its tables (FORMAT 10.1, 10.2; generate_normals).
+mod chains;
+mod facing;
+mod outputs;
+mod sums;
+mod vectors;
+mod whole;
+
+pub use whole::generate;

@@ -1,0 +1,129 @@
+// FORMAT 10.2, generate_normals: the sum of facing normals at a corner by the crease rule, and the corner's normal.
+ghost use mathlib.Core.Path.{_≡_};
+ghost use Prim.Native.Nat.{_+_, _≤_, _<_};
+ghost use lib.ListN.{length};
+ghost use Rattle.math.specs.Vector.{v3, zero};
+ghost use Rattle.mesh.specs.Normals.{sumAll, nearBy, sumNear, creaseSum, orElse};
+ghost use Rattle.normals.specs.Rows.{at3, unitAt, normalIn, hitsAt, Ready};
+ghost use Rattle.normals.specs.Written.{normalAt};
+use crate::chains::first_at;
+use crate::chains::next_at;
+use crate::vectors::load;
+use crate::vectors::load_unit;
+use block::CreaseRule;
+use block::PointNumber;
+use math::Unit;
+use math::V3;
+use tables::Plan;
+use tables::owner_of;
+
+// Every face at p, once for each use, from (0, 0, 0).
+fn sum_all(work: &[u32], t: Plan, p: PointNumber) -> V3
+    requires { ⌜ Ready (now work) t × (p .0 < t .spots) ⌝ }
+    ensures { λ r. ⌜ r ≡ sumAll (v3 zero zero zero) (hitsAt (now (work .entry)) t (p .0)) ⌝ }
+{
+    let mut s = V3 {
+        x: 0.0,
+        y: 0.0,
+        z: 0.0,
+    };
+    let mut x = first_at(work, t, p);
+    while x.0 < t.count {
+        let g = owner_of(work, t, x);
+        s = math::add(s, load(work, t.rows + 7 * g));
+        x = next_at(work, t, x);
+    }
+    s
+}
+
+// s, and the normal of face g where g is another face than own and its unit vector is near to u.
+fn near_step(work: &[u32], row: usize, g: usize, own: usize, u: V3, bound: f32, s: V3) -> V3
+    requires { ⌜ row + 7 ≤ length (now work) ⌝ }
+    ensures { λ r. ⌜ r ≡ nearBy bound own u g (unitAt (now (work .entry)) (row + 3)) s (at3 (now (work .entry)) row) ⌝ }
+{
+    if g == own {
+        return s;
+    }
+    let k = load_unit(work, row + 3);
+    match k {
+        Unit::Of(v) => {
+            if math::dot(u, v) > bound {
+                return math::add(s, load(work, row));
+            }
+            return s;
+        }
+        Unit::Nothing => {
+            return s;
+        }
+    }
+}
+
+// The face's own normal, and then those at p that are near to its unit vector u.
+fn sum_near(work: &[u32], t: Plan, p: PointNumber, own: usize, u: V3, bound: f32) -> V3
+    requires { ⌜ Ready (now work) t × (p .0 < t .spots) × (own < t .faces) ⌝ }
+    ensures { λ r. ⌜ r ≡ sumNear bound own u (normalIn (now (work .entry)) t own) (hitsAt (now (work .entry)) t (p .0)) ⌝ }
+{
+    let mut s = load(work, t.rows + 7 * own);
+    let mut x = first_at(work, t, p);
+    while x.0 < t.count {
+        let g = owner_of(work, t, x);
+        s = near_step(work, t.rows + 7 * g, g, own, u, bound, s);
+        x = next_at(work, t, x);
+    }
+    s
+}
+
+// The sum at a corner of face own that is gathered under p.
+fn crease_sum(work: &[u32], t: Plan, p: PointNumber, own: usize, rule: CreaseRule) -> V3
+    requires { ⌜ Ready (now work) t × (p .0 < t .spots) × (own < t .faces) ⌝ }
+    ensures { λ r. ⌜ r ≡ creaseSum rule own (normalIn (now (work .entry)) t own) (hitsAt (now (work .entry)) t (p .0)) ⌝ }
+{
+    let row = t.rows + 7 * own;
+    match rule {
+        CreaseRule::Own => {
+            return load(work, row);
+        }
+        CreaseRule::Every => {
+            return sum_all(work, t, p);
+        }
+        CreaseRule::Bound(b) => {
+            let k = load_unit(work, row + 3);
+            match k {
+                Unit::Of(u) => {
+                    return sum_near(work, t, p, own, u, b);
+                }
+                Unit::Nothing => {
+                    return load(work, row);
+                }
+            }
+        }
+    }
+}
+
+fn or_else(k: Unit, other: V3) -> V3
+    ensures { λ r. ⌜ r ≡ orElse k other ⌝ }
+{
+    match k {
+        Unit::Of(u) => {
+            return u;
+        }
+        Unit::Nothing => {
+            return other;
+        }
+    }
+}
+
+// The normal of a corner of face own that is gathered under p.
+pub fn corner_normal(work: &[u32], t: Plan, p: PointNumber, own: usize, rule: CreaseRule) -> V3
+    requires { ⌜ Ready (now work) t × (p .0 < t .spots) × (own < t .faces) ⌝ }
+    ensures { λ r. ⌜ r ≡ normalAt (now (work .entry)) t rule own (p .0) ⌝ }
+{
+    let k = math::normalize(crease_sum(work, t, p, own, rule));
+    let row = t.rows + 7 * own + 3;
+    let up = V3 {
+        x: 0.0,
+        y: 1.0,
+        z: 0.0,
+    };
+    or_else(k, or_else(load_unit(work, row), up))
+}

@@ -1,0 +1,31 @@
+// FORMAT 10.1, 10.2: all of it.
+ghost use Prim.Native.Nat.{_*_, _≤_};
+ghost use lib.ListN.{length};
+ghost use Rattle.tables.specs.Soups.{Sound};
+ghost use Rattle.normals.specs.Rows.{Made};
+ghost use Rattle.normals.specs.Written.{Generated};
+use crate::chains::chain;
+use crate::facing::owners;
+use crate::facing::rows;
+use crate::outputs::corner_normals;
+use block::CreaseRule;
+use tables::Plan;
+
+// The owners, the rows and the chains.
+fn prepare(work: &mut [u32], t: Plan, ccw: bool)
+    requires { ⌜ Sound (now work) t ⌝ }
+    ensures { λ _. ⌜ Made (now (work .entry)) (now (work .exit)) t ccw ⌝ }
+{
+    owners(work, t);
+    rows(work, t, ccw);
+    chain(work, t.gathers, t.count, t.heads, t.spots, t.nexts);
+}
+
+// The normals of the corners of the soup that the tables hold. The tables below the owners are kept; the words above are used.
+pub fn generate(work: &mut [u32], t: Plan, ccw: bool, rule: CreaseRule, floats: &mut [f32])
+    requires { ⌜ Sound (now work) t × (3 * t .count ≤ length (now floats)) ⌝ }
+    ensures { λ _. ⌜ Generated (now (work .entry)) (now (work .exit)) t ccw rule (now (floats .entry)) (now (floats .exit)) ⌝ }
+{
+    prepare(work, t, ccw);
+    corner_normals(work, t, rule, floats);
+}

@@ -1,0 +1,57 @@
+-- Words kept below a place. Tables are written one after another, so each table that was written before is kept.
+use mathlib.Core.Path.{_≡_, refl, sym, ap, _∙_}
+use mathlib.Core.Logic.{⊎-elim}
+use mathlib.Core.List.{List}
+use Prim.Native.Nat.{ℕ, _+_, _≤_, _<_}
+use native.Mathlib.Nat.{eq-or-lt-of-le, le-of-suc-le-suc}
+use native.Mathlib.Numerals.{add-one}
+use native.Mathlib.Omega.{arith}
+use lib.ListN.{length, getD, set, take, drop, length-set, length-drop}
+use lib.Seq.{take-set-le, take-take, getD-take, getD-drop, getD-set-same, getD-set-other, ext-getD, length-take-le}
+use Rattle.tables.specs.Kept.{seg, Kept, AllAre}
+
+pub kept-all : {a : ℕ} {w : List ℕ} → Kept a w w
+kept-all = record { len = refl; front = refl }
+
+pub kept-set : {a : ℕ} {w w′ : List ℕ} (i v : ℕ) → Kept a w w′ → a ≤ i → Kept a w (set w′ i v)
+kept-set {a} {w} {w′} i v k h = record { len = length-set w′ i v ∙ k .len; front = take-set-le a w′ i v h ∙ k .front }
+
+pub kept-less : {a b : ℕ} {w w′ : List ℕ} → Kept b w w′ → a ≤ b → Kept a w w′
+kept-less {a} {b} {w} {w′} k h =
+    record { len = k .len; front = sym (take-take a b w′ h) ∙ ap (take a) (k .front) ∙ take-take a b w h }
+
+pub kept-then : {a b : ℕ} {u v w : List ℕ} → Kept a u v → Kept b v w → a ≤ b → Kept a u w
+kept-then k l h = record { len = l .len ∙ k .len; front = (kept-less l h) .front ∙ k .front }
+
+pub kept-at : {a : ℕ} {w w′ : List ℕ} → Kept a w w′ → (i : ℕ) → i < a → getD w′ i 0 ≡ getD w i 0
+kept-at {a} {w} {w′} k i h = sym (getD-take a w′ i 0 h) ∙ ap (λ (l : List ℕ). getD l i 0) (k .front) ∙ getD-take a w i 0 h
+
+pub length-seg : (w : List ℕ) (a n : ℕ) → a + n ≤ length w → length (seg w a n) ≡ n
+unfolding seg
+length-seg w a n h = length-take-le n (drop a w) (omega (arith, length-drop a w))
+
+pub seg-at : (w : List ℕ) (a n i : ℕ) → i < n → getD (seg w a n) i 0 ≡ getD w (a + i) 0
+unfolding seg
+seg-at w a n i h = getD-take n (drop a w) i 0 h ∙ getD-drop a w i 0
+
+pub kept-seg : {b : ℕ} {w w′ : List ℕ} → Kept b w w′ → (a n : ℕ) → a + n ≤ b → a + n ≤ length w → seg w′ a n ≡ seg w a n
+kept-seg {b} {w} {w′} k a n h l =
+    let e = length-seg w′ a n (omega (arith, k .len)) in
+    ext-getD 0 (seg w′ a n) (seg w a n) (e ∙ sym (length-seg w a n l))
+    (λ i r. let q : i < n = omega arith in seg-at w′ a n i q ∙ kept-at k (a + i) (omega arith) ∙ sym (seg-at w a n i q))
+
+-- ---- one store
+
+pub set-hit : (w : List ℕ) (i v j : ℕ) → i < length w → j ≡ i → getD (set w i v) j 0 ≡ v
+set-hit w i v j h e = rw e (getD-set-same w i v 0 h)
+
+pub set-miss : (w : List ℕ) (i v j : ℕ) → (j ≡ i → ⊥) → getD (set w i v) j 0 ≡ getD w j 0
+set-miss w i v j h = getD-set-other w i j v 0 h
+
+pub all-more : (w : List ℕ) (a n v : ℕ) → a + n < length w → AllAre w a n v → AllAre (set w (a + n) v) a (n + 1) v
+all-more w a n v l h = record {
+  at = λ j b. ⊎-elim
+      (λ (e : j ≡ n). set-hit w (a + n) v (a + j) l (omega arith))
+      (λ (e : j < n). set-miss w (a + n) v (a + j) (λ q. omega arith) ∙ h .at j e)
+      (eq-or-lt-of-le (le-of-suc-le-suc (rw add-one at b)));
+}

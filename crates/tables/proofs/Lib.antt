@@ -1,0 +1,8 @@
+-- The laws that callers cite.
+pub mod Keep
+pub mod Splices
+pub mod Tabs
+pub mod Room
+pub mod Stays
+pub mod Joins
+pub mod Held

@@ -1,0 +1,58 @@
+use borrow.Author.Needs.{needs}
+use Rattle.tables.specs.Layout.{planOf}
+use Rattle.tables.proofs.layout.plan_of.Statement.{statement}
+use Rattle.tables.proofs.layout.plan_of.Tie as tie
+
+mul-corners : tie.Need-mul-corners
+mul-corners c = search needs
+
+add-starts : tie.Need-add-starts
+add-starts c = search needs
+
+add-numbers : tie.Need-add-numbers
+add-numbers c = search needs
+
+add-numbers-2 : tie.Need-add-numbers-2
+add-numbers-2 c = search needs
+
+add-places : tie.Need-add-places
+add-places c = search needs
+
+add-named : tie.Need-add-named
+add-named c = search needs
+
+add-owners : tie.Need-add-owners
+add-owners c = search needs
+
+add-rows : tie.Need-add-rows
+add-rows c = search needs
+
+mul-heads : tie.Need-mul-heads
+mul-heads c = search needs
+
+add-heads : tie.Need-add-heads
+add-heads c = search needs
+
+add-t12 : tie.Need-add-t12
+add-t12 c = search needs
+
+returns : tie.Need-returns
+unfolding planOf
+returns c = search needs
+
+pub plan-of-spec : {M : Type 1} → statement M
+plan-of-spec =
+    tie.close
+    (tie.spec
+    mul-corners
+    add-starts
+    add-numbers
+    add-numbers-2
+    add-places
+    add-named
+    add-owners
+    add-rows
+    mul-heads
+    add-heads
+    add-t12
+    returns)

@@ -1,0 +1,28 @@
+-- A table is a part of the words. Tables are written one after another, so what stands below the one that is written is kept.
+use mathlib.Core.Path.{_≡_}
+use mathlib.Core.List.{List, _++_}
+use Prim.Native.Nat.{ℕ, _+_, _<_}
+use lib.ListN.{length, getD, take, drop}
+
+-- the n words from a
+unfoldable pub seg : List ℕ → ℕ → ℕ → List ℕ
+seg w a n = take n (drop a w)
+
+-- l with what stands from a on replaced by p
+unfoldable pub spliced : {A : Type 0} → List A → ℕ → List A → List A
+spliced l a p = take a l ++ p ++ drop (a + length p) l
+
+-- w′ has the words of w below a, and as many
+pub record Kept (a : ℕ) (w w′ : List ℕ) : Type 0 where
+  pub len : length w′ ≡ length w
+  pub front : take a w′ ≡ take a w
+
+-- each of the n words from a is v
+pub record AllAre (w : List ℕ) (a n v : ℕ) : Type 0 where
+  pub at : (j : ℕ) → j < n → getD w (a + j) 0 ≡ v
+
+-- w′ is w with the n words from a replaced by v
+pub record Filled (a n v : ℕ) (w w′ : List ℕ) : Type 0 where
+  pub kept : Kept a w w′
+  pub all : AllAre w′ a n v
+  pub above : drop (a + n) w′ ≡ drop (a + n) w

@@ -1,0 +1,53 @@
+-- FORMAT 4, 8: where the tables stand.
+use Prim.Native.Nat.{ℕ, _+_, _*_, _≤_}
+use Rattle.tables.specs.declared.layout.Plan.{Plan}
+
+-- FORMAT 4: no count is above 2 ^ 18
+abbrev pub most : ℕ
+most = 262144
+
+-- points 3P, corners C, first corners F + 1, face numbers F, places F, vertex numbers C, owners C, rows 7F, heads P, nexts C;
+-- corners are gathered by their points
+unfoldable pub planOf : ℕ → ℕ → ℕ → Plan
+planOf spots count faces =
+    let corners = 3 * spots in
+    let starts = corners + count in
+    let numbers = starts + faces + 1 in
+    let places = numbers + faces in
+    let named = places + faces in
+    let owners = named + count in
+    let rows = owners + count in
+    let heads = rows + 7 * faces in
+    record {
+      spots = spots;
+      count = count;
+      faces = faces;
+      points = 0;
+      corners = corners;
+      gathers = corners;
+      starts = starts;
+      numbers = numbers;
+      places = places;
+      named = named;
+      owners = owners;
+      rows = rows;
+      heads = heads;
+      nexts = heads + spots;
+    }
+
+-- the tables stand one after another in len words; what is gathered by stands before the vertex numbers
+pub record Room (len : ℕ) (t : Plan) : Type 0 where
+  pub few : t .count ≤ most
+  pub many : t .faces ≤ most
+  pub some : t .spots ≤ most
+  pub points : t .points + 3 * t .spots ≤ t .corners
+  pub corners : t .corners + t .count ≤ t .starts
+  pub starts : t .starts + (t .faces + 1) ≤ t .numbers
+  pub numbers : t .numbers + t .faces ≤ t .places
+  pub places : t .places + t .faces ≤ t .named
+  pub named : t .named + t .count ≤ t .owners
+  pub gathers : t .gathers + t .count ≤ t .named
+  pub owners : t .owners + t .count ≤ t .rows
+  pub rows : t .rows + 7 * t .faces ≤ t .heads
+  pub heads : t .heads + t .spots ≤ t .nexts
+  pub nexts : t .nexts + t .count ≤ len

@@ -1,0 +1,52 @@
+// FORMAT 4, 8: how many points, corners and kept faces there are, and where each table starts. Tables hold kept faces only.
+ghost use mathlib.Core.Path.{_≡_};
+ghost use Prim.Native.Nat.{_≤_};
+ghost use Rattle.tables.specs.Layout.{most, planOf};
+
+pub struct Plan {
+    pub spots: usize,
+    pub count: usize,
+    pub faces: usize,
+    pub points: usize,
+    pub corners: usize,
+    pub gathers: usize,
+    pub starts: usize,
+    pub numbers: usize,
+    pub places: usize,
+    pub named: usize,
+    pub owners: usize,
+    pub rows: usize,
+    pub heads: usize,
+    pub nexts: usize,
+}
+
+// The tables one after another, in the order in which they are written.
+pub fn plan_of(spots: usize, count: usize, faces: usize) -> Plan
+    requires { ⌜ (spots ≤ most) × (count ≤ most) × (faces ≤ most) ⌝ }
+    ensures { λ r. ⌜ r ≡ planOf spots count faces ⌝ }
+{
+    let corners = 3 * spots;
+    let starts = corners + count;
+    let numbers = starts + faces + 1;
+    let places = numbers + faces;
+    let named = places + faces;
+    let owners = named + count;
+    let rows = owners + count;
+    let heads = rows + 7 * faces;
+    Plan {
+        spots,
+        count,
+        faces,
+        points: 0,
+        corners,
+        gathers: corners,
+        starts,
+        numbers,
+        places,
+        named,
+        owners,
+        rows,
+        heads,
+        nexts: heads + spots,
+    }
+}

@@ -1,0 +1,183 @@
+-- A corner's vertex: the search finds the number of its key among the keys held, and the slices then hold the key.
+use mathlib.Core.Path.{_≡_, refl, sym, ap, _∙_, subst}
+use mathlib.Core.Bool.{Bool, true, false, cond}
+use mathlib.Core.List.{List, [], _∷_, _++_}
+use Prim.Native.Nat.{ℕ, suc, _+_, _*_, _-_, _≤_, _<_, suc-le-suc}
+use native.Mathlib.Nat.{zero-lt-suc}
+use native.Mathlib.Numerals.{add-one}
+use native.Mathlib.Omega.{arith}
+use borrow.Author.Tests.{eq-eqb, ne-eqb}
+use lib.Dec.{T}
+use lib.ListN.{length, getD, set, take, drop, length-append, length-set}
+use lib.Seq.{sets, getD-append-seam, take-set-le}
+use Rattle.mesh.specs.Lists.{has, place, meet, firsts}
+use Rattle.mesh.specs.Vertices.{Key, sameKey}
+use Rattle.mesh.proofs.Lists.{All-append, All-getD, T-true, has-getD, firsts-distinct}
+use Rattle.mesh.proofs.Keys.{sameKey-sound, sameKey-self}
+use Rattle.vertices.specs.declared.places.Widths.{Widths}
+use Rattle.vertices.specs.declared.places.Chains.{Chains}
+use Rattle.tables.specs.Kept.{seg}
+use Rattle.vertices.specs.Places.{Store, Roomy, Laid, Room}
+use Rattle.vertices.specs.Search.{two, three, four, keyAt, cornerKey, placeOf, Chained}
+use Rattle.vertices.specs.Adding.{linked, Appended, positionOf, normalOf, colourOf, textureOf, trimmed, Holds, pointsIn, countAfter, Vertexed}
+use Rattle.vertices.proofs.Seek.{seek-le, seek-hit, seek-absent}
+use Rattle.vertices.proofs.Keys.{corner-normal, corner-colour, corner-texture, corner-trim}
+use Rattle.vertices.proofs.Chains.{chain-grow}
+use Rattle.vertices.proofs.Rows.{row-at, row-grow, source-at, source-grow, position-wide, normal-wide, colour-wide, texture-wide, point-words}
+
+-- ---- the keys held, read from the slices
+
+has-none : (k d : Key) (ks : List Key) → ((i : ℕ) → i < length ks → sameKey k (getD ks i d) ≡ false) → has sameKey k ks ≡ false
+unfolding has
+has-none k d [] h = refl
+has-none k d (x ∷ ks) h =
+    let a : sameKey k x ≡ false = h 0 (zero-lt-suc (length ks)) in
+    rw a (has-none k d ks (λ i b. h (suc i) (suc-le-suc b)))
+
+module _ (w : Widths) (pts : List ℕ) (z : Store) (x₀ : List ℕ) (s : Store) (x : List ℕ) (ks : List Key) (H : Holds w pts z x₀ s x ks)
+    (W : (w .normal ≤ 3) × (w .colour ≤ 4) × (w .texture ≤ 2)) where
+  held-key : (i : ℕ) (d : Key) → i < length ks → keyAt w s i ≡ getD ks i d
+  unfolding keyAt trimmed
+  held-key i d l =
+      let a = source-at (s .sources) (drop (length ks) (z .sources)) ks i d (H .sources) l in
+      let b = row-at (normalOf w) (w .normal) (normal-wide w (W .0)) (s .normals) (drop (w .normal * length ks) (z .normals)) ks i d (H .normals) l in
+      let c = row-at (colourOf w) (w .colour) (colour-wide w (W .1)) (s .colours) (drop (w .colour * length ks) (z .colours)) ks i d (H .colours) l in
+      let e = row-at (textureOf w) (w .texture) (texture-wide w (W .2)) (s .textures) (drop (w .texture * length ks) (z .textures)) ks i d (H .textures) l in
+      (λ j. record { point = a j; normal = three (b j); colour = four (c j); texture = two (e j) })
+      ∙ All-getD (λ (k : Key). trimmed w k ≡ k) ks (H .trim) d i l
+
+  module _ (k : Key) (n p : ℕ) (e : length ks ≡ n) (f : p ≡ placeOf w s n k) where
+    pub held-old : 0 < p → (has sameKey k ks ≡ true) × (place sameKey k ks ≡ p - 1)
+    unfolding placeOf
+    held-old h =
+        let q : ℕ → Bool = λ i. sameKey k (keyAt w s i) in
+        let b : p ≤ n = rw f (seek-le q n) in
+        let l : p - 1 < length ks = omega arith in
+        let t : q (p - 1) ≡ true = subst (λ (u : ℕ). q (u - 1) ≡ true) (sym f) (seek-hit q n (subst (λ (u : ℕ). 0 < u) f h)) in
+        let y : k ≡ getD ks (p - 1) k = sameKey-sound k (getD ks (p - 1) k) (subst (λ (c : Bool). T c) (sym (ap (sameKey k) (sym (held-key (p - 1) k l)) ∙ t)) tt) in (
+          T-true _ (subst (λ (c : Key). T (has sameKey c ks)) (sym y) (has-getD sameKey sameKey-self ks (p - 1) k l)),
+          ap (λ (c : Key). place sameKey c ks) y ∙ H .distinct (p - 1) k l,
+        )
+
+    pub held-new : p ≤ 0 → has sameKey k ks ≡ false
+    unfolding placeOf
+    held-new h =
+        let q : ℕ → Bool = λ i. sameKey k (keyAt w s i) in
+        let a : p ≡ 0 = omega arith in
+        has-none k k ks (λ i b. ap (sameKey k) (sym (held-key i k b)) ∙ seek-absent q n i (sym f ∙ a) (rw (← e) b))
+
+-- ---- meeting a key
+
+pub meet-old : (ks : List Key) (k : Key) → has sameKey k ks ≡ true → meet sameKey ks k ≡ ks
+unfolding meet
+meet-old ks k e = ap (λ (b : Bool). cond b ks (ks ++ (k ∷ []))) e
+
+pub meet-new : (ks : List Key) (k : Key) → has sameKey k ks ≡ false → meet sameKey ks k ≡ ks ++ (k ∷ [])
+unfolding meet
+meet-new ks k e = ap (λ (b : Bool). cond b ks (ks ++ (k ∷ []))) e
+
+abbrev Own : List Key → Type 0
+Own ks = (i : ℕ) (d : Key) → i < length ks → place sameKey (getD ks i d) ks ≡ i
+
+own-meet : (ks : List Key) (k : Key) → Own ks → Own (meet sameKey ks k)
+unfolding firsts
+own-meet ks k D = firsts-distinct sameKey sameKey-self ks (k ∷ []) D
+
+-- a new key's number is the next
+pub place-new : (ks : List Key) (k : Key) → Own ks → has sameKey k ks ≡ false → place sameKey k (meet sameKey ks k) ≡ length ks
+place-new ks k D e =
+    let m = meet-new ks k e in
+    let l : length (ks ++ (k ∷ [])) ≡ length ks + 1 = length-append ks (k ∷ []) in
+    let o : Own (ks ++ (k ∷ [])) = subst Own m (own-meet ks k D) in
+    ap (place sameKey k) m
+    ∙ ap (λ (c : Key). place sameKey c (ks ++ (k ∷ []))) (sym (getD-append-seam ks k [] k))
+    ∙ o (length ks) k (omega arith)
+
+pub count-same : (n r : ℕ) → r < n → n ≡ countAfter n r
+unfolding countAfter
+count-same n r h = sym (ap (λ (b : Bool). cond b (suc n) n) (ne-eqb r n (λ e. omega arith)))
+
+pub count-more : (n : ℕ) → n + 1 ≡ countAfter n n
+unfolding countAfter
+count-more n = sym (ap (λ (b : Bool). cond b (suc n) n) (eq-eqb n n refl) ∙ sym (add-one n))
+
+-- ---- the two ways of a corner
+
+linked-front : (t : Chains) (m : List ℕ) (n v : ℕ) → t .heads ≤ t .nexts → take (t .heads) (linked t m n v) ≡ take (t .heads) m
+unfolding linked
+linked-front t m n v h =
+    let old = getD m (t .heads + v) 0 in
+    take-set-le (t .heads) (set m (t .nexts + n) old) (t .heads + v) (n + 1) (omega arith) ∙ take-set-le (t .heads) m (t .nexts + n) old (omega arith)
+
+linked-length : (t : Chains) (m : List ℕ) (n v : ℕ) → length (linked t m n v) ≡ length m
+unfolding linked
+linked-length t m n v =
+    let old = getD m (t .heads + v) 0 in
+    length-set (set m (t .nexts + n) old) (t .heads + v) (n + 1) ∙ length-set m (t .nexts + n) old
+
+place-le : (w : Widths) (s : Store) (n : ℕ) (k : Key) → placeOf w s n k ≤ n
+unfolding placeOf
+place-le w s n k = seek-le (λ i. sameKey k (keyAt w s i)) n
+
+pub laid-le : {t : Chains} {len n : ℕ} (m : ℕ) → Laid t len n → m ≤ n → Laid t len m
+laid-le {t} {len} {n} m L h = record { some = L .some; points = L .points; heads = L .heads; nexts = omega (arith, L .nexts) }
+
+pub vertexed-old : (w : Widths) (t : Chains) (n : ℕ) (k : Key) (s : Store) (x m : List ℕ) (p : ℕ) → Roomy w s (n + 1)
+    → Chained t (s .sources) m n → p ≡ placeOf w s n k → 0 < p → Vertexed w t n k s x m s x m (p - 1)
+vertexed-old w t n k s x m p R C f h =
+    record {
+      number = λ z x₀ ks H e. let a = held-old w (pointsIn t m) z x₀ s x ks H (R .widths) k n p e f h in
+          sym (ap (place sameKey k) (meet-old ks k (a .0)) ∙ a .1);
+      holds = λ z x₀ ks H e. let a = held-old w (pointsIn t m) z x₀ s x ks H (R .widths) k n p e f h in
+          subst (Holds w (pointsIn t m) z x₀ s x) (sym (meet-old ks k (a .0))) H;
+      chained = subst (Chained t (s .sources) m) (count-same n (p - 1) (omega (arith, place-le w s n k))) C;
+      front = refl;
+      len = refl;
+    }
+
+module _ (w : Widths) (t : Chains) (n v : ℕ) (l : List ℕ) (s : Store) (x m : List ℕ) (s′ : Store) (x′ m′ : List ℕ) (R : Room w t s x m (n + 1)) (b : v < t .spots) (g : 9 ≤ length l)
+    (A : Appended w t n v l s x m s′ x′ m′) where
+  k : Key
+  k = cornerKey w v l
+
+  W : (w .normal ≤ 3) × (w .colour ≤ 4) × (w .texture ≤ 2)
+  W = R .roomy .widths
+
+  at : k .point ≡ v
+  unfolding k cornerKey
+  at = refl
+
+  position : seg m (t .points + 3 * v) 3 ≡ positionOf (pointsIn t m) k
+  unfolding positionOf pointsIn k cornerKey
+  position = let L = R .laid in point-words m (t .points) (t .spots) v b (omega arith)
+
+  held-grow : (z : Store) (x₀ : List ℕ) (ks : List Key) → Holds w (pointsIn t m) z x₀ s x ks → length ks ≡ n → Own (ks ++ (k ∷ []))
+      → Holds w (pointsIn t m) z x₀ s′ x′ (ks ++ (k ∷ []))
+  unfolding k
+  held-grow z x₀ ks H e D =
+      record {
+        sources = A .sources ∙ ap (set (s .sources) n) (sym at) ∙ source-grow (z .sources) (s .sources) ks k n e (H .sources) (omega (arith, R .roomy .sources));
+        positions = A .positions ∙ ap (sets x (3 * n)) position ∙ row-grow (positionOf (pointsIn t m)) 3 (position-wide (pointsIn t m)) x₀ x ks k n e (H .positions) (R .positions);
+        normals = A .normals ∙ ap (sets (s .normals) (w .normal * n)) (sym (corner-normal w v l W g))
+            ∙ row-grow (normalOf w) (w .normal) (normal-wide w (W .0)) (z .normals) (s .normals) ks k n e (H .normals) (R .roomy .normals);
+        colours = A .colours ∙ ap (sets (s .colours) (w .colour * n)) (sym (corner-colour w v l W g))
+            ∙ row-grow (colourOf w) (w .colour) (colour-wide w (W .1)) (z .colours) (s .colours) ks k n e (H .colours) (R .roomy .colours);
+        textures = A .textures ∙ ap (sets (s .textures) (w .texture * n)) (sym (corner-texture w v l W g))
+            ∙ row-grow (textureOf w) (w .texture) (texture-wide w (W .2)) (z .textures) (s .textures) ks k n e (H .textures) (R .roomy .textures);
+        trim = All-append (λ (c : Key). trimmed w c ≡ c) ks (k ∷ []) (H .trim) (corner-trim w v l W g, tt);
+        distinct = D;
+      }
+
+  pub vertexed-new : (p : ℕ) → Chained t (s .sources) m n → p ≡ placeOf w s n (cornerKey w v l) → p ≤ 0
+      → Vertexed w t n (cornerKey w v l) s x m s′ x′ m′ n
+  unfolding k
+  vertexed-new p C f h =
+      let L = R .laid in
+      record {
+        number = λ z x₀ ks H e. sym (place-new ks k (H .distinct) (held-new w (pointsIn t m) z x₀ s x ks H W k n p e f h) ∙ e);
+        holds = λ z x₀ ks H e. let a = meet-new ks k (held-new w (pointsIn t m) z x₀ s x ks H W k n p e f h) in
+            subst (Holds w (pointsIn t m) z x₀ s′ x′) (sym a) (held-grow z x₀ ks H e (subst Own a (own-meet ks k (H .distinct))));
+        chained = rw (A .sources, A .table, ← count-more n) (chain-grow t (s .sources) m n v C L b (omega (arith, R .roomy .sources)));
+        front = ap (take (t .heads)) (A .table) ∙ linked-front t m n v (omega arith);
+        len = ap length (A .table) ∙ linked-length t m n v;
+      }

@@ -1,0 +1,8 @@
+-- The laws of the search and of the slices; those of a loop over corners are for other crates.
+mod Words
+mod Seek
+pub mod Keys
+mod Chains
+mod Rows
+mod Held
+pub mod Turns

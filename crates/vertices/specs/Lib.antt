@@ -1,0 +1,4 @@
+-- The vertices in the output slices, by definition: where they stand, the search, and one vertex more.
+pub mod Places
+pub mod Search
+pub mod Adding

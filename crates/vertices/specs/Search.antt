@@ -1,0 +1,58 @@
+-- FORMAT 11: the keys of vertices and of a corner as the slices hold them, the number of a key among the vertices, and the chains of the search.
+use mathlib.Core.Path.{_≡_}
+use mathlib.Core.Bool.{Bool, cond}
+use mathlib.Core.List.{List}
+use Prim.Native.Nat.{ℕ, zero, suc, _+_, _*_, _<_}
+use lib.Dec.{eqb}
+use lib.ListN.{getD}
+use Rattle.bits.specs.declared.Words2.{Words2}
+use Rattle.bits.specs.declared.Words3.{Words3}
+use Rattle.bits.specs.declared.Words4.{Words4}
+use Rattle.mesh.specs.Vertices.{Key, sameKey}
+use Rattle.vertices.specs.declared.places.Widths.{Widths}
+use Rattle.vertices.specs.declared.places.Chains.{Chains}
+use Rattle.tables.specs.Kept.{seg}
+use Rattle.vertices.specs.Places.{Store}
+
+-- FORMAT 11, PolyMesh::build (key): the words of a row, and zeros where the row has none
+abbrev pub two : List ℕ → Words2
+two l = record { s = getD l 0 0; t = getD l 1 0 }
+
+abbrev pub three : List ℕ → Words3
+three l = record { x = getD l 0 0; y = getD l 1 0; z = getD l 2 0 }
+
+abbrev pub four : List ℕ → Words4
+four l = record { r = getD l 0 0; g = getD l 1 0; b = getD l 2 0; a = getD l 3 0 }
+
+-- vertex i, as the slices hold it
+unfoldable pub keyAt : Widths → Store → ℕ → Key
+keyAt w s i =
+    record {
+      point = getD (s .sources) i 0;
+      normal = three (seg (s .normals) (w .normal * i) (w .normal));
+      colour = four (seg (s .colours) (w .colour * i) (w .colour));
+      texture = two (seg (s .textures) (w .texture * i) (w .texture));
+    }
+
+-- FORMAT 11, VertexKey: a corner at point v, by its nine words: the normal's first, from word 3 the colour's, from word 7 the texture's
+unfoldable pub cornerKey : Widths → ℕ → List ℕ → Key
+cornerKey w v l =
+    record { point = v; normal = three (seg l 0 (w .normal)); colour = four (seg l 3 (w .colour)); texture = two (seg l 7 (w .texture)) }
+
+-- one more than the greatest number below n that passes the test, 0 where none does
+unfoldable pub seek : (ℕ → Bool) → ℕ → ℕ
+seek p zero = 0
+seek p (suc n) = let r = seek p n in cond (p n) (suc n) r
+
+-- one more than the number of key k among the first n vertices, 0 for none
+unfoldable pub placeOf : Widths → Store → ℕ → Key → ℕ
+placeOf w s n k = seek (λ i. sameKey k (keyAt w s i)) n
+
+-- one more than the last of the first n vertices that is made of point v, 0 for none; s the sources
+unfoldable pub lastAt : List ℕ → ℕ → ℕ → ℕ
+lastAt s n v = seek (λ i. eqb v (getD s i 0)) n
+
+-- of each point the last of the n vertices made of it, and of each vertex the last before it of the same point
+pub record Chained (t : Chains) (s m : List ℕ) (n : ℕ) : Type 0 where
+  pub heads : (v : ℕ) → v < t .spots → getD m (t .heads + v) 0 ≡ lastAt s n v
+  pub nexts : (i : ℕ) → i < n → getD m (t .nexts + i) 0 ≡ lastAt s i (getD s i 0)

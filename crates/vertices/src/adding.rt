@@ -1,0 +1,107 @@
+// One vertex more, and the vertex of a corner (FORMAT 11).
+ghost use mathlib.Core.Path.{_≡_};
+ghost use Prim.Native.Nat.{_+_, _≤_, _<_};
+ghost use lib.ListN.{length};
+ghost use Rattle.vertices.specs.Places.{Laid, Room};
+ghost use Rattle.tables.specs.Layout.{most};
+ghost use Rattle.vertices.specs.Search.{cornerKey};
+ghost use Rattle.vertices.specs.Adding.{linked, Appended, Ready, Vertexed, countAfter};
+use crate::parts::narrow;
+use crate::parts::put_row;
+use crate::places::Chains;
+use crate::places::Widths;
+use crate::search::find;
+use block::PointNumber;
+use block::VertexNumber;
+
+// Vertex n is the last of the chain of point v.
+pub fn link(work: &mut [u32], t: Chains, n: usize, v: usize)
+    requires { ⌜ Laid t (length (now work)) (n + 1) × (v < t .spots) × (n < most) ⌝ }
+    ensures { λ _. ⌜ now (work .exit) ≡ linked t (now (work .entry)) n v ⌝ }
+{
+    let head = t.heads + v;
+    let next = t.nexts + n;
+    work[next] = work[head];
+    work[head] = narrow(n + 1);
+}
+
+// Vertex n is made: of point v, with the words key of a corner.
+pub fn append(
+    sources: &mut [u32],
+    positions: &mut [u32],
+    normals: &mut [u32],
+    colours: &mut [u32],
+    textures: &mut [u32],
+    work: &mut [u32],
+    w: Widths,
+    t: Chains,
+    n: usize,
+    v: usize,
+    key: &[u32],
+)
+    requires { ⌜ Room w t (record { sources = now sources; normals = now normals; colours = now colours; textures = now textures }) (now positions) (now work) (n + 1)
+        × (v < t .spots) × (9 ≤ length (now key)) ⌝ }
+    ensures { λ _. ⌜ Appended w t n v (now (key .entry))
+        (record { sources = now (sources .entry); normals = now (normals .entry); colours = now (colours .entry); textures = now (textures .entry) }) (now (positions .entry)) (now (work .entry))
+        (record { sources = now (sources .exit); normals = now (normals .exit); colours = now (colours .exit); textures = now (textures .exit) }) (now (positions .exit)) (now (work .exit)) ⌝ }
+{
+    let at = t.points + 3 * v;
+    put_row(positions, 3, n, work, at);
+    put_row(normals, w.normal, n, key, 0);
+    put_row(colours, w.colour, n, key, 3);
+    put_row(textures, w.texture, n, key, 7);
+    sources[n] = narrow(v);
+    link(work, t, n, v);
+}
+
+// The number of the vertex of a corner: the one made before with its point and words, or a new one, the n-th (PolyMesh::build, or_insert_with).
+pub fn vertex(
+    sources: &mut [u32],
+    positions: &mut [u32],
+    normals: &mut [u32],
+    colours: &mut [u32],
+    textures: &mut [u32],
+    work: &mut [u32],
+    w: Widths,
+    t: Chains,
+    n: VertexNumber,
+    point: PointNumber,
+    key: &[u32],
+) -> VertexNumber
+    requires { ⌜ Ready w t (record { sources = now sources; normals = now normals; colours = now colours; textures = now textures }) (now positions) (now work) (n .0) (point .0) (now key) ⌝ }
+    ensures { λ r. ⌜ Vertexed w t (n .0) (cornerKey w (point .0) (now (key .entry)))
+        (record { sources = now (sources .entry); normals = now (normals .entry); colours = now (colours .entry); textures = now (textures .entry) }) (now (positions .entry)) (now (work .entry))
+        (record { sources = now (sources .exit); normals = now (normals .exit); colours = now (colours .exit); textures = now (textures .exit) }) (now (positions .exit)) (now (work .exit)) (r .0) ⌝ }
+{
+    let c = n.0;
+    let v = point.0;
+    let x = find(sources, normals, colours, textures, w, c, v, key, work, t);
+    if 0 < x {
+        return VertexNumber(x - 1);
+    }
+    append(
+        sources,
+        positions,
+        normals,
+        colours,
+        textures,
+        work,
+        w,
+        t,
+        c,
+        v,
+        key,
+    );
+    n
+}
+
+// How many vertices there are, once there were n and a corner's vertex got number r.
+pub fn count_after(n: VertexNumber, r: VertexNumber) -> VertexNumber
+    requires { ⌜ n .0 < most ⌝ }
+    ensures { λ s. ⌜ s .0 ≡ countAfter (n .0) (r .0) ⌝ }
+{
+    if r.0 == n.0 {
+        return VertexNumber(n.0 + 1);
+    }
+    n
+}
