@@ -1,6 +1,5 @@
 -- The theorems that callers cite.
 pub mod MendedWords
-pub mod Renaming
 pub mod Rows
 -- The laws behind the functions.
 mod Threes

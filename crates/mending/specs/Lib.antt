@@ -1,3 +1,2 @@
--- The lent slices as a mesh of one point a vertex, with the table of first usable triangles; and triangles by vertex numbers.
+-- The lent slices as a mesh of one point a vertex, with the table of first usable triangles.
 pub mod Mend
-pub mod Naming

@@ -6,13 +6,13 @@ ghost use Rattle.vertices.specs.Places.{Laid, Room};
 ghost use Rattle.tables.specs.Layout.{most};
 ghost use Rattle.vertices.specs.Search.{cornerKey};
 ghost use Rattle.vertices.specs.Adding.{linked, Appended, Ready, Vertexed, countAfter};
-use crate::parts::narrow;
 use crate::parts::put_row;
 use crate::places::Chains;
 use crate::places::Widths;
 use crate::search::find;
 use block::PointNumber;
 use block::VertexNumber;
+use tables::narrow;
 
 // Vertex n is the last of the chain of point v.
 pub fn link(work: &mut [u32], t: Chains, n: usize, v: usize)

@@ -5,20 +5,6 @@ ghost use lib.ListN.{length};
 ghost use lib.Seq.{sets};
 ghost use Rattle.mesh.specs.Lists.{sameWords};
 ghost use Rattle.tables.specs.Kept.{seg};
-ghost use Rattle.tables.specs.Layout.{most};
-
-pub fn wide(x: u32) -> usize
-    ensures { λ r. ⌜ r ≡ x ⌝ }
-{
-    x as usize
-}
-
-pub fn narrow(x: usize) -> u32
-    requires { ⌜ x ≤ most ⌝ }
-    ensures { λ r. ⌜ r ≡ x ⌝ }
-{
-    x as u32
-}
 
 // Whether the n words of a from i are those of b from j (FORMAT 11).
 pub fn same_words(a: &[u32], i: usize, b: &[u32], j: usize, n: usize) -> bool

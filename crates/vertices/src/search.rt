@@ -6,9 +6,9 @@ ghost use Rattle.mesh.specs.Vertices.{sameKey};
 ghost use Rattle.vertices.specs.Places.{Roomy, Laid};
 ghost use Rattle.vertices.specs.Search.{keyAt, cornerKey, placeOf, Chained};
 use crate::parts::same_row;
-use crate::parts::wide;
 use crate::places::Chains;
 use crate::places::Widths;
+use tables::wide;
 
 // Whether vertex i has the point v and the words key of a corner (VertexKey).
 pub fn same_vertex(

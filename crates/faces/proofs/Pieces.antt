@@ -1,0 +1,163 @@
+-- One face of the tables: how many indices it has, that it is kept, and what the functions leave. Then the room that is lent.
+use mathlib.Core.Path.{_≡_, refl, sym, ap, ap₂, _∙_}
+use mathlib.Core.Bool.{Bool}
+use mathlib.Core.List.{List, [], _∷_, _++_}
+use Prim.Native.Nat.{ℕ, suc, _+_, _-_, _*_, _≤_, _<_}
+use native.Mathlib.Omega.{arith}
+use borrow.Rule.Slice.PartMut.{putMid, midOf, postOf, same-len-mid}
+use lib.Ieee.{Float}
+use lib.ListN.{length, take, drop}
+use lib.Seq.{sets, take-at, length-take-le}
+use Rattle.math.specs.declared.vector.V3.{V3}
+use Rattle.polygon.specs.Points.{spots}
+use Rattle.polygon.specs.Facing.{newell}
+use Rattle.polygon.specs.Plane.{handed, projection, flat2, pairs}
+use Rattle.polygon.specs.Ears.{Tri, flat}
+use Rattle.polygon.specs.Face.{faceTris, triangles}
+use Rattle.polygon.proofs.Projection.{length-spots}
+use Rattle.polygon.proofs.Triangles.{by-plane, triangles-count}
+use Rattle.tables.specs.declared.layout.Plan.{Plan}
+use Rattle.tables.specs.Layout.{planOf}
+use Rattle.tables.specs.Kept.{seg, Kept}
+use Rattle.tables.specs.Soups.{startIn, pointsIn, Sound}
+use Rattle.tables.proofs.Keep.{kept-all, kept-seg, length-seg}
+use Rattle.tables.proofs.Stays.{start-le, start-kept, points-kept}
+use Rattle.faces.specs.Naming.{threes, numbered}
+use Rattle.faces.specs.Indices.{outlineIn, facingIn, trianglesIn, cornersMade, oneFace, Ready, Put}
+use Rattle.faces.proofs.Threes.{length-numbered, in-place}
+
+-- a part as it is lent
+pub part-seg : (w : List ℕ) (lo hi n : ℕ) → hi ≡ lo + n → take (hi - lo) (drop lo w) ≡ seg w lo n
+unfolding seg
+part-seg w lo hi n h = let e : hi - lo ≡ n = omega arith in ap (λ (k : ℕ). take k (drop lo w)) e
+
+pub part-length : (w : List ℕ) (lo hi n : ℕ) → hi ≡ lo + n → lo + n ≤ length w → length (take (hi - lo) (drop lo w)) ≡ n
+part-length w lo hi n h k = ap length (part-seg w lo hi n h) ∙ length-seg w lo n k
+
+-- what a call leaves in a part keeps what is below it
+pub kept-mid : (w last : List ℕ) (lo k : ℕ) → lo + k ≤ length w → length last ≡ length (midOf lo k w) → Kept lo w (putMid lo k w last)
+kept-mid w last lo k h e = record {
+  len = same-len-mid lo k w last e;
+  front = take-at (take lo w) (last ++ postOf lo k w) lo (length-take-le lo w (omega arith));
+}
+
+module _ (w : List ℕ) (t : Plan) (ccw : Bool) (a n : ℕ) where
+  -- what `put_plane` leaves
+  pub plane-made : (lo hi from to : ℕ) → lo ≡ t .points → hi ≡ lo + 3 * t .spots → from ≡ t .corners + a → to ≡ from + n
+      → (P N : List ℕ) → P ≡ take (hi - lo) (drop lo w) → N ≡ take (to - from) (drop from w) → (s v : V3) → s ≡ newell (spots P N) → v ≡ handed ccw s
+      → (fs fs′ : List Float) → fs′ ≡ sets fs 0 (flat2 (projection ccw v (spots P N)))
+      → fs′ ≡ sets fs 0 (flat2 (projection ccw (facingIn w t ccw a n) (outlineIn w t a n)))
+  unfolding facingIn outlineIn pointsIn
+  plane-made lo hi from to l h f o P N p q s v es ev fs fs′ e =
+      let x : P ≡ pointsIn w t = p ∙ part-seg w lo hi (3 * t .spots) h ∙ ap (λ (k : ℕ). seg w k (3 * t .spots)) l in
+      let y : N ≡ seg w (t .corners + a) n = q ∙ part-seg w from to n o ∙ ap (λ (k : ℕ). seg w k n) f in
+      let z : spots P N ≡ outlineIn w t a n = ap₂ spots x y in
+      let u : v ≡ facingIn w t ccw a n = ev ∙ ap (handed ccw) (es ∙ ap newell z) in
+      e ∙ ap₂ (λ (m : V3) (ps : List V3). sets fs 0 (flat2 (projection ccw m ps))) u z
+
+  module _ (convex : Bool) (h : t .corners + a + n ≤ length w) where
+    -- what `put_corners` leaves
+    pub corners-put : (fs gs : List Float) (o o′ : List ℕ) (at : ℕ) → n * 2 ≤ length fs
+        → gs ≡ sets fs 0 (flat2 (projection ccw (facingIn w t ccw a n) (outlineIn w t a n)))
+        → o′ ≡ sets o at (flat (faceTris convex (pairs (take (n * 2) gs)))) → o′ ≡ sets o at (flat (trianglesIn w t ccw convex a n))
+    unfolding trianglesIn outlineIn
+    corners-put fs gs o o′ at k g e =
+        e ∙ ap (λ (ts : List Tri). sets o at (flat ts))
+        (by-plane ccw convex (pointsIn w t) (seg w (t .corners + a) n) (facingIn w t ccw a n) n fs gs (length-seg w (t .corners + a) n h) k g)
+
+    pub length-triangles : length (trianglesIn w t ccw convex a n) ≡ n - 2
+    unfolding trianglesIn outlineIn
+    length-triangles =
+        triangles-count ccw convex (outlineIn w t a n) (facingIn w t ccw a n)
+        ∙ ap (λ (k : ℕ). k - 2) (length-spots (pointsIn w t) (seg w (t .corners + a) n) ∙ length-seg w (t .corners + a) n h)
+
+    pub length-corners : length (cornersMade w t ccw convex a n) ≡ (n - 2) * 3
+    unfolding cornersMade
+    length-corners = length-numbered ccw (seg w (t .named + a) n) (trianglesIn w t ccw convex a n) ∙ ap (λ (k : ℕ). k * 3) length-triangles
+
+none : (l : List ℕ) → length l ≡ 0 → l ≡ []
+none [] e = refl
+none (x ∷ l) e = let z : ⊥ = omega arith in absurd z
+
+module _ {w : List ℕ} {t : Plan} (S : Sound w t) (ccw convex : Bool) where
+  pub corners-in : (a n : ℕ) → a + n ≤ t .count → t .corners + a + n ≤ length w
+  corners-in a n h = let R = S .room in omega arith
+
+  -- 3 (n - 2) indices for a face of n corners
+  pub length-one : (g : ℕ) → g < t .faces → length (oneFace w t ccw convex g) ≡ (startIn w t (suc g) - startIn w t g - 2) * 3
+  unfolding oneFace
+  length-one g h =
+      let r = S .rises g h in
+      let l = start-le S (suc g) h in
+      length-corners w t ccw (startIn w t g) (startIn w t (suc g) - startIn w t g) convex (corners-in (startIn w t g) (startIn w t (suc g) - startIn w t g) (omega arith))
+
+  -- the two ends as the code reads them
+  module _ (g a b : ℕ) (h : g < t .faces) (ea : a ≡ startIn w t g) (eb : b ≡ startIn w t (suc g)) where
+    ends-in : (a ≤ b) × (b ≤ t .count)
+    ends-in = (omega (arith, S .rises g h), omega (arith, start-le S (suc g) h))
+
+    one-is : oneFace w t ccw convex g ≡ cornersMade w t ccw convex a (b - a)
+    unfolding oneFace
+    one-is = sym (ap₂ (λ (x y : ℕ). cornersMade w t ccw convex x (y - x)) ea eb)
+
+    pub corners-here : t .corners + a + (b - a) ≤ length w
+    corners-here = let q = ends-in in corners-in a (b - a) (omega (arith, q .0, q .1))
+
+    length-here : length (oneFace w t ccw convex g) ≡ (b - a - 2) * 3
+    length-here = ap length one-is ∙ length-corners w t ccw a (b - a) convex corners-here
+
+    -- fewer than three corners
+    pub few-put : (o : List ℕ) (at : ℕ) → b - a < 3 → Put t (oneFace w t ccw convex g) at at o o w w
+    few-put o at few =
+        let l : length (oneFace w t ccw convex g) ≡ 0 = length-here ∙ omega arith in
+        record { next = omega arith; made = ap (sets o at) (sym (none (oneFace w t ccw convex g) l)); kept = kept-all }
+
+    -- three or more
+    pub more-put : (w′ o X Y : List ℕ) (at r : ℕ) → at + (b - a - 2) * 3 ≤ length o → Kept (t .owners) w w′
+        → X ≡ sets o at (flat (trianglesIn w t ccw convex a (b - a)))
+        → Y ≡ sets X at (numbered ccw (seg w′ (t .named + a) (b - a)) (threes (b - a - 2) (drop at X))) → r ≡ at + (b - a - 2) * 3
+        → Put t (oneFace w t ccw convex g) at r o Y w w′
+    unfolding cornersMade
+    more-put w′ o X Y at r room K x y er =
+        let q = ends-in in
+        let R = S .room in
+        let l : length (oneFace w t ccw convex g) ≡ (b - a - 2) * 3 = length-here in
+        let k : t .named + a + (b - a) ≤ t .owners = omega (arith, q .0, q .1) in
+        let j : t .named + a + (b - a) ≤ length w = omega (arith, q .0, q .1) in
+        let v : seg w′ (t .named + a) (b - a) ≡ seg w (t .named + a) (b - a) = kept-seg K (t .named + a) (b - a) k j in
+        record {
+          next = er ∙ ap (λ (m : ℕ). at + m) (sym l);
+          made =
+              in-place ccw (seg w (t .named + a) (b - a)) o X Y (trianglesIn w t ccw convex a (b - a)) at (b - a - 2) (length-triangles w t ccw a (b - a) convex corners-here)
+              room x (y ∙ ap (λ (s : List ℕ). sets X at (numbered ccw s (threes (b - a - 2) (drop at X)))) v) ∙ ap (sets o at) (sym one-is);
+          kept = K;
+        }
+
+-- ---- a face is kept with the words below the owners
+
+module _ {w₀ w : List ℕ} {t : Plan} (K : Kept (t .owners) w₀ w) (S : Sound w₀ t) (ccw convex : Bool) where
+  corners-kept : (a n : ℕ) → a + n ≤ t .count → cornersMade w t ccw convex a n ≡ cornersMade w₀ t ccw convex a n
+  unfolding cornersMade trianglesIn facingIn outlineIn
+  corners-kept a n h =
+      let R = S .room in
+      let p : pointsIn w t ≡ pointsIn w₀ t = points-kept K t (omega arith) S in
+      let q : seg w (t .corners + a) n ≡ seg w₀ (t .corners + a) n = kept-seg K (t .corners + a) n (omega arith) (omega arith) in
+      let v : seg w (t .named + a) n ≡ seg w₀ (t .named + a) n = kept-seg K (t .named + a) n (omega arith) (omega arith) in
+      λ i. numbered ccw (v i) (triangles ccw convex (spots (p i) (q i)) (handed ccw (newell (spots (p i) (q i)))))
+
+  pub one-kept : (g : ℕ) → g < t .faces → oneFace w t ccw convex g ≡ oneFace w₀ t ccw convex g
+  unfolding oneFace
+  one-kept g h =
+      let R = S .room in
+      let r = S .rises g h in
+      let l = start-le S (suc g) h in
+      let x : startIn w t g ≡ startIn w₀ t g = start-kept K t g (omega arith) in
+      let y : startIn w t (suc g) ≡ startIn w₀ t (suc g) = start-kept K t (suc g) (omega arith) in
+      ap₂ (λ (x y : ℕ). cornersMade w t ccw convex x (y - x)) x y
+      ∙ corners-kept (startIn w₀ t g) (startIn w₀ t (suc g) - startIn w₀ t g) (omega arith)
+
+-- FORMAT 4: the words and floats that are lent are enough
+pub plan-ready : (spots count faces floats : ℕ) (w : List ℕ) → Sound w (planOf spots count faces) → faces * 3 ≤ count
+    → 8 * (count + spots) + 8 ≤ length w → 8 * (count + spots) + 8 ≤ floats → Ready w (planOf spots count faces) floats
+unfolding planOf
+plan-ready spots count faces floats w S f l m = record { sound = S; scratch = omega arith; plane = omega arith }

@@ -1,0 +1,120 @@
+-- Triangles in threes: renamed one by one where they stand, and all of a face.
+use mathlib.Core.Path.{_≡_, refl, sym, ap, _∙_}
+use mathlib.Core.Bool.{Bool}
+use mathlib.Core.List.{List, [], _∷_, _++_, append-assoc}
+use Prim.Native.Nat.{ℕ, suc, _+_, _-_, _*_, _≤_, _<_}
+use native.Mathlib.Nat.{sub-zero}
+use native.Mathlib.Omega.{arith}
+use lib.ListN.{length, getD, take, drop, set}
+use lib.Seq.{drop-cons, sets, sets-eq, length-sets, take-set-le, drop-set-lt, drop-at, length-take-le}
+use Rattle.polygon.specs.Ears.{Tri, triple, flat}
+use Rattle.polygon.proofs.Whole.{length-flat}
+use Rattle.mesh.specs.Vertices.{wound}
+use Rattle.faces.specs.Naming.{threes, numbered}
+
+pub length-numbered : (ccw : Bool) (named : List ℕ) (ts : List Tri) → length (numbered ccw named ts) ≡ length ts * 3
+unfolding numbered wound
+length-numbered ccw named [] = refl
+length-numbered ccw named (t ∷ ts) = let h : length (numbered ccw named ts) ≡ length ts * 3 = length-numbered ccw named ts in omega arith
+
+-- ---- stores outside a part
+
+take-sets-le : (vs l : List ℕ) (k n : ℕ) → n ≤ k → take n (sets l k vs) ≡ take n l
+take-sets-le [] l k n h = refl
+take-sets-le (x ∷ vs) l k n h = take-sets-le vs (set l k x) (suc k) n (omega arith) ∙ take-set-le n l k x h
+
+drop-sets : (vs l : List ℕ) (k n : ℕ) → k + length vs ≤ n → drop n (sets l k vs) ≡ drop n l
+drop-sets [] l k n h = refl
+drop-sets (x ∷ vs) l k n h = drop-sets vs (set l k x) (suc k) n (omega arith) ∙ drop-set-lt n l k x (omega arith)
+
+-- the second of two runs of stores is what counts
+sets-over : (xs ys l : List ℕ) (at : ℕ) → length xs ≡ length ys → at + length ys ≤ length l → sets (sets l at xs) at ys ≡ sets l at ys
+sets-over xs ys l at e h =
+    let b : length (sets l at xs) ≡ length l = length-sets l at xs in
+    let p : take at (sets l at xs) ≡ take at l = take-sets-le xs l at at (omega arith) in
+    let q : drop (at + length ys) (sets l at xs) ≡ drop (at + length ys) l = drop-sets xs l at (at + length ys) (omega arith) in
+    sets-eq ys (sets l at xs) at (omega arith) ∙ (λ i. p i ++ ys ++ q i) ∙ sym (sets-eq ys l at h)
+
+-- ---- the loop that renames
+
+drop-three : (l : List ℕ) (k : ℕ) → k + 3 ≤ length l → drop k l ≡ getD l k 0 ∷ getD l (k + 1) 0 ∷ getD l (k + 2) 0 ∷ drop (k + 3) l
+drop-three l k h =
+    let e1 : suc k ≡ k + 1 = omega arith in
+    let e2 : suc (k + 1) ≡ k + 2 = omega arith in
+    let e3 : suc (k + 2) ≡ k + 3 = omega arith in
+    drop-cons l k 0 (omega arith)
+    ∙ ap (λ (r : List ℕ). getD l k 0 ∷ r)
+    (ap (λ (j : ℕ). drop j l) e1 ∙ drop-cons l (k + 1) 0 (omega arith)
+    ∙ ap (λ (r : List ℕ). getD l (k + 1) 0 ∷ r)
+    (ap (λ (j : ℕ). drop j l) e2 ∙ drop-cons l (k + 2) 0 (omega arith) ∙ ap (λ (j : ℕ). getD l (k + 2) 0 ∷ drop j l) e3))
+
+module _ (ccw : Bool) (named : List ℕ) where
+  -- i of n triangles are renamed
+  pub record Renaming (o₀ o : List ℕ) (at n i : ℕ) : Type 0 where
+    pub within : i ≤ n
+    pub long : length o ≡ length o₀
+    pub rest : sets o (at + i * 3) (numbered ccw named (threes (n - i) (drop (at + i * 3) o))) ≡ sets o₀ at (numbered ccw named (threes n (drop at o₀)))
+
+  pub renaming-start : (o : List ℕ) (at n : ℕ) → Renaming o o at n 0
+  renaming-start o at n =
+      let e : at + 0 * 3 ≡ at = omega arith in
+      record {
+        within = omega arith;
+        long = refl;
+        rest = ap (λ (k : ℕ). sets o k (numbered ccw named (threes (n - 0) (drop k o)))) e ∙ ap (λ (m : ℕ). sets o at (numbered ccw named (threes m (drop at o)))) (sub-zero n);
+      }
+
+  pub renaming-go : (o₀ o o′ : List ℕ) (at n i k : ℕ) → i < n → k ≡ at + i * 3 → at + n * 3 ≤ length o₀
+      → o′ ≡ sets o k (numbered ccw named (triple (getD o k 0) (getD o (k + 1) 0) (getD o (k + 2) 0) ∷ []))
+      → Renaming o₀ o at n i → Renaming o₀ o′ at n (i + 1)
+  unfolding numbered wound threes
+  renaming-go o₀ o o′ at n i k h q b e R =
+      let T : Tri = triple (getD o k 0) (getD o (k + 1) 0) (getD o (k + 2) 0) in
+      let m : ℕ = n - (i + 1) in
+      let r : List ℕ = drop (k + 3) o in
+      let l : length o ≡ length o₀ = R .long in
+      let f : n - i ≡ suc (n - (i + 1)) = omega arith in
+      let s : at + (i + 1) * 3 ≡ k + 3 = omega arith in
+      let u : suc (suc (suc k)) ≡ k + 3 = omega arith in
+      let v : k + 3 ≤ k + 3 = omega arith in
+      let d : drop (k + 3) o′ ≡ drop (k + 3) o = ap (drop (k + 3)) e ∙ drop-sets (numbered ccw named (T ∷ [])) o k (k + 3) v in
+      record {
+        within = omega arith;
+        long = ap length e ∙ length-sets o k (numbered ccw named (T ∷ [])) ∙ l;
+        rest =
+            ap (λ (j : ℕ). sets o′ j (numbered ccw named (threes m (drop j o′)))) s
+            ∙ ap (λ (x : List ℕ). sets o′ (k + 3) (numbered ccw named (threes m x))) d
+            ∙ ap (λ (x : List ℕ). sets x (k + 3) (numbered ccw named (threes m r))) e
+            ∙ ap (λ (j : ℕ). sets (sets o k (numbered ccw named (T ∷ []))) j (numbered ccw named (threes m r))) (sym u)
+            ∙ ap (λ (j : ℕ). sets o k (numbered ccw named (threes j (getD o k 0 ∷ getD o (k + 1) 0 ∷ getD o (k + 2) 0 ∷ r)))) (sym f)
+            ∙ ap (λ (x : List ℕ). sets o k (numbered ccw named (threes (n - i) x))) (sym (drop-three o k (omega arith)))
+            ∙ ap (λ (j : ℕ). sets o j (numbered ccw named (threes (n - i) (drop j o)))) q
+            ∙ R .rest;
+      }
+
+  pub renaming-end : (o₀ o : List ℕ) (at n i : ℕ) → n ≤ i → Renaming o₀ o at n i → o ≡ sets o₀ at (numbered ccw named (threes n (drop at o₀)))
+  unfolding numbered wound threes
+  renaming-end o₀ o at n i h R =
+      let z : n - i ≡ 0 = omega arith in
+      sym (ap (λ (j : ℕ). sets o (at + i * 3) (numbered ccw named (threes j (drop (at + i * 3) o)))) z) ∙ R .rest
+
+  -- ---- all of a face
+
+  threes-flat : (ts : List Tri) (r : List ℕ) → threes (length ts) (flat ts ++ r) ≡ ts
+  unfolding threes flat
+  threes-flat [] r = refl
+  threes-flat (t ∷ ts) r = ap (λ (l : List Tri). t ∷ l) (threes-flat ts r)
+
+  -- triangles that were written and then renamed
+  pub in-place : (o X Y : List ℕ) (ts : List Tri) (at n : ℕ) → length ts ≡ n → at + n * 3 ≤ length o → X ≡ sets o at (flat ts)
+      → Y ≡ sets X at (numbered ccw named (threes n (drop at X))) → Y ≡ sets o at (numbered ccw named ts)
+  in-place o X Y ts at n e h x y =
+      let ys : List ℕ = numbered ccw named ts in
+      let a : length (flat ts) ≡ length ts * 3 = length-flat ts in
+      let b : length ys ≡ length ts * 3 = length-numbered ccw named ts in
+      let R : List ℕ = drop (at + length (flat ts)) o in
+      let s : X ≡ take at o ++ (flat ts ++ R) = x ∙ sets-eq (flat ts) o at (omega arith) ∙ append-assoc (take at o) (flat ts) R in
+      let d : drop at X ≡ flat ts ++ R = ap (drop at) s ∙ drop-at (take at o) (flat ts ++ R) at (length-take-le at o (omega arith)) in
+      let q : threes n (drop at X) ≡ ts = ap (threes n) d ∙ ap (λ (j : ℕ). threes j (flat ts ++ R)) (sym e) ∙ threes-flat ts R in
+      y ∙ ap (λ (l : List Tri). sets X at (numbered ccw named l)) q ∙ ap (λ (l : List ℕ). sets l at ys) x
+      ∙ sets-over (flat ts) ys o at (omega arith) (omega arith)

@@ -1,0 +1,116 @@
+-- The loop over the kept faces: start, one turn, end. The next face goes behind the last.
+use mathlib.Core.Path.{_≡_, refl, sym, ap, ap₂, _∙_}
+use mathlib.Core.Bool.{Bool}
+use mathlib.Core.List.{List, [], _∷_, _++_}
+use Prim.Native.Nat.{ℕ, suc, _+_, _-_, _*_, _≤_, _<_}
+use native.Mathlib.Nat.{zero-add, add-zero, add-suc, suc-add, sub-zero}
+use native.Mathlib.Numerals.{add-one}
+use native.Mathlib.Omega.{arith}
+use lib.ListN.{length, drop, set, length-append}
+use lib.Seq.{sets, sets-eq, length-sets}
+use Rattle.polygon.specs.Loops.{tab}
+use Rattle.mesh.specs.Lists.{flat}
+use Rattle.tables.specs.declared.layout.Plan.{Plan}
+use Rattle.tables.specs.Kept.{Kept}
+use Rattle.tables.specs.Soups.{startIn}
+use Rattle.tables.proofs.Keep.{kept-all, kept-then}
+use Rattle.tables.proofs.Stays.{sound-kept}
+use Rattle.faces.specs.Indices.{oneFace, allFaces, Ready, Put, Made}
+use Rattle.faces.proofs.Pieces.{length-one, one-kept}
+
+sets-append : (xs ys l : List ℕ) (at : ℕ) → sets l at (xs ++ ys) ≡ sets (sets l at xs) (at + length xs) ys
+sets-append [] ys l at = ap (λ (k : ℕ). sets l k ys) (sym (add-zero at))
+sets-append (x ∷ xs) ys l at =
+    sets-append xs ys (set l at x) (suc at)
+    ∙ ap (λ (k : ℕ). sets (sets (set l at x) (suc at) xs) k ys) (suc-add at (length xs) ∙ sym (add-suc at (length xs)))
+
+module _ (w₀ : List ℕ) (t : Plan) (ccw convex : Bool) where
+  -- the faces from g on
+  pub rest : ℕ → List ℕ
+  rest g = flat (tab (oneFace w₀ t ccw convex) (t .faces - g) g)
+
+  -- g faces are done, and the next goes to `at`
+  pub record Facing (o₀ o w : List ℕ) (g at : ℕ) : Type 0 where
+    pub within : g ≤ t .faces
+    pub kept : Kept (t .owners) w₀ w
+    pub long : length o ≡ length o₀
+    pub count : at + length (rest g) ≡ length (allFaces w₀ t ccw convex)
+    pub made : sets o at (rest g) ≡ sets o₀ 0 (allFaces w₀ t ccw convex)
+
+  rest-all : rest 0 ≡ allFaces w₀ t ccw convex
+  unfolding allFaces rest
+  rest-all = ap (λ (k : ℕ). flat (tab (oneFace w₀ t ccw convex) k 0)) (sub-zero (t .faces))
+
+  rest-now : (g : ℕ) → g < t .faces → rest g ≡ oneFace w₀ t ccw convex g ++ rest (suc g)
+  unfolding rest tab flat
+  rest-now g h = let e : t .faces - g ≡ suc (t .faces - suc g) = omega arith in ap (λ (k : ℕ). flat (tab (oneFace w₀ t ccw convex) k g)) e
+
+  rest-none : (g : ℕ) → t .faces ≤ g → rest g ≡ []
+  unfolding rest tab flat
+  rest-none g h = let e : t .faces - g ≡ 0 = omega arith in ap (λ (k : ℕ). flat (tab (oneFace w₀ t ccw convex) k g)) e
+
+  pub facing-start : (o : List ℕ) → Facing o o w₀ 0 0
+  facing-start o = record {
+    within = omega arith;
+    kept = kept-all;
+    long = refl;
+    count = let e = ap length rest-all in omega (arith, e);
+    made = ap (sets o 0) rest-all;
+  }
+
+  module _ {floats : ℕ} (Q : Ready w₀ t floats) {o₀ o w : List ℕ} {g at : ℕ} (F : Facing o₀ o w g at) where
+    pub facing-ready : (n : ℕ) → n ≡ floats → Ready w t n
+    facing-ready n e =
+        let R = Q .sound .room in
+        let l = F .kept .len in
+        let s = Q .scratch in
+        let p = Q .plane in
+        record { sound = sound-kept (F .kept) t (omega arith) (Q .sound); scratch = omega (arith, l, s); plane = omega (arith, e, p) }
+
+    module _ (h : g < t .faces) where
+      same : oneFace w t ccw convex g ≡ oneFace w₀ t ccw convex g
+      same = one-kept (F .kept) (Q .sound) ccw convex g h
+
+      length-now : length (rest g) ≡ length (oneFace w t ccw convex g) + length (rest (suc g))
+      length-now =
+          ap length (rest-now g h ∙ ap (λ (l : List ℕ). l ++ rest (suc g)) (sym same)) ∙ length-append (oneFace w t ccw convex g) (rest (suc g))
+
+      pub facing-room : length (allFaces w₀ t ccw convex) ≤ length o₀ → at + (startIn w t (suc g) - startIn w t g - 2) * 3 ≤ length o
+      facing-room b =
+          let R = Q .sound .room in
+          let e = length-one (sound-kept (F .kept) t (omega arith) (Q .sound)) ccw convex g h in
+          let x = length-now in
+          let y = F .count in
+          let z = F .long in
+          omega (arith, e, x, y, z, b)
+
+      pub facing-go : (o′ w′ : List ℕ) (r : ℕ) → Put t (oneFace w t ccw convex g) at r o o′ w w′ → Facing o₀ o′ w′ (g + 1) r
+      facing-go o′ w′ r P =
+          let xs : List ℕ = oneFace w t ccw convex g in
+          let q : rest (g + 1) ≡ rest (suc g) = ap rest (add-one g) in
+          let x = length-now in
+          let y = F .count in
+          let n = P .next in
+          let m : length (rest (g + 1)) ≡ length (rest (suc g)) = ap length q in
+          let s : rest g ≡ xs ++ rest (suc g) = rest-now g h ∙ ap (λ (l : List ℕ). l ++ rest (suc g)) (sym same) in
+          record {
+            within = omega arith;
+            kept = kept-then (F .kept) (P .kept) (omega arith);
+            long = ap length (P .made) ∙ length-sets o at xs ∙ F .long;
+            count = omega (arith, x, y, n, m);
+            made =
+                ap (sets o′ r) q ∙ ap₂ (λ (l : List ℕ) (k : ℕ). sets l k (rest (suc g))) (P .made) n
+                ∙ sym (sets-append xs (rest (suc g)) o at) ∙ ap (sets o at) (sym s) ∙ F .made;
+          }
+
+  pub facing-end : (o₀ o w : List ℕ) (g at : ℕ) → t .faces ≤ g → length (allFaces w₀ t ccw convex) ≤ length o₀ → Facing o₀ o w g at
+      → Made t (allFaces w₀ t ccw convex) at o₀ o w₀ w
+  facing-end o₀ o w g at h b F =
+      let z : length (rest g) ≡ 0 = ap length (rest-none g h) in
+      let y = F .count in
+      record {
+        count = omega (arith, z, y);
+        made = ap (sets o at) (sym (rest-none g h)) ∙ F .made ∙ sets-eq (allFaces w₀ t ccw convex) o₀ 0 (omega (arith, b))
+            ∙ ap (λ (k : ℕ). allFaces w₀ t ccw convex ++ drop k o₀) (zero-add (length (allFaces w₀ t ccw convex)));
+        kept = F .kept;
+      }

@@ -1,0 +1,68 @@
+-- FORMAT 12.1: the indices of the faces that the tables hold.
+use mathlib.Core.Path.{_≡_}
+use mathlib.Core.Bool.{Bool}
+use mathlib.Core.List.{List, [], _++_}
+use Prim.Native.Nat.{ℕ, suc, _+_, _*_, _-_, _≤_, _<_}
+use lib.ListN.{length, getD, drop}
+use lib.Seq.{sets}
+use Rattle.math.specs.declared.vector.V3.{V3}
+use Rattle.polygon.specs.Loops.{tab}
+use Rattle.polygon.specs.Points.{spots}
+use Rattle.polygon.specs.Facing.{newell}
+use Rattle.polygon.specs.Plane.{handed}
+use Rattle.polygon.specs.Ears.{Tri}
+use Rattle.polygon.specs.Face.{triangles}
+use Rattle.mesh.specs.Lists.{place, flat}
+use Rattle.mesh.specs.Soup.{noCorner, Face, Frame}
+use Rattle.mesh.specs.Vertices.{Key, sameKey, keyOf}
+use Rattle.tables.specs.declared.layout.Plan.{Plan}
+use Rattle.tables.specs.Kept.{seg, Kept}
+use Rattle.tables.specs.Soups.{startIn, namedIn, pointsIn, Sound}
+use Rattle.faces.specs.Naming.{numbered}
+
+-- FORMAT 10.1, face_points, of the n corners from a on
+unfoldable pub outlineIn : List ℕ → Plan → ℕ → ℕ → List V3
+outlineIn w t a n = spots (pointsIn w t) (seg w (t .corners + a) n)
+
+-- FORMAT 10.1, PolyMesh::build (face_n)
+unfoldable pub facingIn : List ℕ → Plan → Bool → ℕ → ℕ → V3
+facingIn w t ccw a n = handed ccw (newell (outlineIn w t a n))
+
+-- FORMAT 12.1, triangulate
+unfoldable pub trianglesIn : List ℕ → Plan → Bool → Bool → ℕ → ℕ → List Tri
+trianglesIn w t ccw convex a n = triangles ccw convex (outlineIn w t a n) (facingIn w t ccw a n)
+
+-- FORMAT 12.1, PolyMesh::build (local): the indices of the n corners from a on
+unfoldable pub cornersMade : List ℕ → Plan → Bool → Bool → ℕ → ℕ → List ℕ
+cornersMade w t ccw convex a n = numbered ccw (seg w (t .named + a) n) (trianglesIn w t ccw convex a n)
+
+-- FORMAT 12.1: the indices of kept face g
+unfoldable pub oneFace : List ℕ → Plan → Bool → Bool → ℕ → List ℕ
+oneFace w t ccw convex g = cornersMade w t ccw convex (startIn w t g) (startIn w t (suc g) - startIn w t g)
+
+-- FORMAT 12.1, PolyMesh::build (indices): face by face
+unfoldable pub allFaces : List ℕ → Plan → Bool → Bool → List ℕ
+allFaces w t ccw convex = flat (tab (oneFace w t ccw convex) (t .faces) 0)
+
+-- the tables hold a soup, with five words a corner from the owners on, and two floats a corner
+pub record Ready (w : List ℕ) (t : Plan) (floats : ℕ) : Type 0 where
+  pub sound : Sound w t
+  pub scratch : t .owners + t .count * 5 ≤ length w
+  pub plane : t .count * 2 ≤ floats
+
+-- the vertex number of each corner is the place of its key (FORMAT 11)
+pub record Named (w : List ℕ) (t : Plan) (F : Frame) (fs : List Face) (vs : List Key) : Type 0 where
+  pub at : (j i : ℕ) → j < t .faces → i < length (getD fs j [])
+      → namedIn w t (startIn w t j + i) ≡ place sameKey (keyOf F fs j (getD fs j []) (getD (getD fs j []) i noCorner)) vs
+
+-- one face: its indices xs from `at` on, the next place r; the tables below the owners are kept
+pub record Put (t : Plan) (xs : List ℕ) (at r : ℕ) (o o′ w w′ : List ℕ) : Type 0 where
+  pub next : r ≡ at + length xs
+  pub made : o′ ≡ sets o at xs
+  pub kept : Kept (t .owners) w w′
+
+-- all faces: their indices xs in front, r of them, and what was there beyond; the tables below the owners are kept
+pub record Made (t : Plan) (xs : List ℕ) (r : ℕ) (o o′ w w′ : List ℕ) : Type 0 where
+  pub count : r ≡ length xs
+  pub made : o′ ≡ xs ++ drop (length xs) o
+  pub kept : Kept (t .owners) w w′

@@ -1,0 +1,3 @@
+-- The indices of the kept faces, from tables.
+pub mod Naming
+pub mod Indices
