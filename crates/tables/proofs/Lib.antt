@@ -1,4 +1,5 @@
 -- The laws that callers cite.
+mod Clear
 pub mod Keep
 pub mod Splices
 pub mod Tabs

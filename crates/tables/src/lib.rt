@@ -11,5 +11,7 @@ pub use reading::owner_of;
 pub use reading::point_of;
 pub use reading::stretch_of;
 pub use reading::wide;
+pub use writing::clear_floats;
+pub use writing::clear_words;
 pub use writing::fill;
 pub use writing::narrow;

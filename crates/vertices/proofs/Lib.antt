@@ -6,3 +6,4 @@ mod Chains
 mod Rows
 mod Held
 pub mod Turns
+pub mod Sliced
