@@ -1,4 +1,4 @@
-// The mesh of a polygon soup (FORMAT 10 to 12; PolyMesh::build, fix_zero_normals), and a face set as a soup (FORMAT 8.1).
+// The mesh of a soup (FORMAT 10 to 12; PolyMesh::build, fix_zero_normals), and the four kinds of shape (FORMAT 8).
 pub mod texture;
 
 pub use texture::Axis;

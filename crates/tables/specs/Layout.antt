@@ -2,7 +2,7 @@
 use Prim.Native.Nat.{ℕ, _+_, _*_, _≤_}
 use Rattle.tables.specs.declared.layout.Plan.{Plan}
 
--- FORMAT 4: no count is above 2 ^ 18
+-- a bound of the tables' own: no count is above 2 ^ 18 (refusal 7 of FORMAT 3 holds P and C to 8,192)
 abbrev pub most : ℕ
 most = 262144
 

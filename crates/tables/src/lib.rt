@@ -1,4 +1,4 @@
-// Where the tables of a soup lie in the one working slice of words (FORMAT 8), and how they are read and filled.
+// Where the tables of a soup lie in the one working slice of words (FORMAT 4), and how they are read and filled.
 pub mod layout;
 pub mod reading;
 pub mod writing;
