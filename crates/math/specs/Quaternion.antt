@@ -1,4 +1,4 @@
--- FORMAT 9.5: unit quaternions, and the turns made of them, in the order of src/convert/math.rs.
+-- FORMAT 9.5: quaternions, and the turns made of them, in the order of src/convert/math.rs.
 use mathlib.Core.Bool.{_&&_, cond}
 use lib.Ieee.{Float, binary32, add, sub, mul, div, neg, lt, ofBits}
 use lib.Ieee.Scale.{finite}

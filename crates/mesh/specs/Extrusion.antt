@@ -123,7 +123,7 @@ sideTexture E i j =
 abbrev pub extent : Span → Float
 extent s = sub binary32 (s .high) (s .low)
 
--- FORMAT 8.4, extrusion (lo, span): the whole cross-section's lowest coordinates; both are divided by the larger extent
+-- FORMAT 8.4, extrusion (lo, span): the whole cross-section's lowest coordinates; both are divided by the larger extent; the axes are not read
 unfoldable pub capFit : List Pair → Fit
 capFit cs =
     let a = spanOf (λ j. at2 cs j .s) (length cs) in

@@ -58,18 +58,18 @@ coordIn bs = listBytes bs (headerOf bs) 1
 unfoldable pub runsIn : List ℕ → List Run
 runsIn bs = runs (entries (coordIn bs))
 
--- FORMAT 2.2: how many points are listed
+-- FORMAT 2.2: how many points a face or line set lists
 abbrev pub pointCount : Rest → ℕ
 pointCount R = getD (R .head .counts) 0 0
 
--- what a corner reads, by its face number and its place in coordIndex; nothing of an attribute that is not there
+-- what a corner reads, by its face number and its place in coordIndex (of a grid, by the quad's number and the point's); nothing of an attribute that is not there
 
--- FORMAT 7.1, 7.2, indexed_face_set (n_out)
+-- FORMAT 7.1, 7.2, indexed_face_set and elevation_grid (n_out)
 unfoldable pub normalOf : Rest → List ℕ → ℕ → ℕ → Words3
 normalOf R coord num k =
     cond (R .head .normals) (value3At (R .normals) (numberAt (R .normalIndex) coord (R .head .«normal_per_vertex») k num) no3) no3
 
--- FORMAT 7.1, 7.2, indexed_face_set (c_out): `missing` is the colour of a missing entry
+-- FORMAT 7.1, 7.2, indexed_face_set and elevation_grid (c_out), indexed_line_set (c): `missing` is the colour of a missing entry
 unfoldable pub colourOf : Words4 → Rest → List ℕ → ℕ → ℕ → Words4
 colourOf missing R coord num k =
     cond (R .head .colors)

@@ -96,7 +96,7 @@ zEnd sp n i =
     cond (closed sp) (bend sp (n - 2) 0 1)
     (cond (ltb 2 n) (cond (eqb i 0) (bend sp 0 1 2) (bend sp (n - 3) (n - 2) (n - 1))) Nothing)
 
--- FORMAT 8.4, extrusion_frames (zs): the Z axis that a point has of itself
+-- FORMAT 8.4, extrusion_frames (zs): the Z axis of a point, an open end having its neighbour's; none where the points are in a line
 unfoldable pub zOwn : List V3 → ℕ → Unit
 zOwn sp i = cond (isEnd (length sp) i) (zEnd sp (length sp) i) (bend sp (i - 1) i (i + 1))
 

@@ -1,6 +1,6 @@
 -- FORMAT 8.3, elevation_grid: the block of a grid as a soup, and its mesh. ISO/IEC 14772-1, 6.17.
 use Prim.Native.Nat.{ℕ, _+_, _-_, _*_, _/_, _%_}
-use mathlib.Core.Bool.{true, cond}
+use mathlib.Core.Bool.{true}
 use mathlib.Core.List.{List, []}
 use lib.ListN.{getD}
 use lib.IntN.{pos}
@@ -16,7 +16,7 @@ use Rattle.block.specs.Lists.{listBytes}
 use Rattle.block.specs.Settings.{settingsOf}
 use Rattle.polygon.specs.Loops.{tab}
 use Rattle.mesh.specs.Lists.{flat}
-use Rattle.mesh.specs.Words.{words3, no2}
+use Rattle.mesh.specs.Words.{words3}
 use Rattle.mesh.specs.Soup.{Corner, Face, Frame}
 use Rattle.mesh.specs.Mesh.{Mesh, mesh}
 use Rattle.mesh.specs.FaceSet.{Rest, cornerBy}

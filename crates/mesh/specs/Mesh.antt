@@ -11,7 +11,7 @@ use Rattle.mesh.specs.Soup.{Face, Frame}
 use Rattle.mesh.specs.Vertices.{Key, vertices, indicesOf, width}
 use Rattle.mesh.specs.Mend.{mended}
 
--- FORMAT 5: one element for each vertex; the indices in threes are the triangles
+-- FORMAT 5: one element for each vertex, or none of an attribute that is not made; the indices in threes are the triangles, of a line set in twos the lines
 pub record Mesh : Type 0 where
   pub sources : List ℕ
   pub positions : List Words3
@@ -57,7 +57,7 @@ slicesOf M =
       indices = M .indices;
     }
 
--- FORMAT 13: a triangle's corner is what the slices have at its vertex v
+-- FORMAT 13: what a triangle's corner shows: what the slices have at its vertex
 pub record Shown : Type 0 where
   pub source : ℕ
   pub position : List ℕ

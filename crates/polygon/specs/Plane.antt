@@ -15,7 +15,7 @@ entry v zero = v .x
 entry v (suc zero) = v .y
 entry v (suc (suc k)) = v .z
 
--- FORMAT 12.2, triangulate (rh): the normal by the right-hand rule; the facing one is turned back where ccw is off
+-- FORMAT 10.1 and 12.2, PolyMesh::build (face_n) and triangulate (rh): turned over where ccw is off: Newell's sum to the facing normal, and back
 unfoldable pub handed : Bool → V3 → V3
 handed ccw n = pick ccw n (vscale n (neg one))
 
