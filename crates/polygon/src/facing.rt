@@ -2,6 +2,7 @@
 ghost use mathlib.Core.Path.{_≡_};
 ghost use Rattle.polygon.specs.Points.{spots};
 ghost use Rattle.polygon.specs.Facing.{edgeSum, newell};
+use crate::points::point_number;
 use crate::points::spot;
 use math::V3;
 
@@ -27,11 +28,11 @@ pub fn newell(points: &[u32], names: &[u32]) -> V3
     if names.len() == 0 {
         return n;
     }
-    let first = spot(points, names[0]);
+    let first = spot(points, point_number(names[0]));
     let mut a = first;
     let mut i = 1;
     while i < names.len() {
-        let b = spot(points, names[i]);
+        let b = spot(points, point_number(names[i]));
         n = add_edge(n, a, b);
         a = b;
         i += 1;

@@ -6,6 +6,7 @@ ghost use lib.ListN.{length, set};
 ghost use lib.Seq.{sets};
 ghost use Rattle.polygon.specs.Points.{spots};
 ghost use Rattle.polygon.specs.Plane.{entry, handed, most, axisOf, projected, projection, flat2};
+use crate::points::point_number;
 use crate::points::spot;
 use math::V3;
 
@@ -86,7 +87,8 @@ fn put_projection(points: &[u32], names: &[u32], axis: u32, flip: bool, out: &mu
 {
     let mut i = 0;
     while i < names.len() {
-        put_projected(out, i * 2, spot(points, names[i]), axis, flip);
+        let p = spot(points, point_number(names[i]));
+        put_projected(out, i * 2, p, axis, flip);
         i += 1;
     }
 }

@@ -1,7 +1,9 @@
 // Tables of words, and FORMAT 9.1: points as words, three a point.
 ghost use mathlib.Core.Path.{_≡_};
+ghost use Prim.Native.Nat.{_^_, _<_};
 ghost use lib.ListN.{getD, set};
 ghost use Rattle.polygon.specs.Points.{spot};
+use block::PointNumber;
 use math::V3;
 
 // A read past the end is 0.
@@ -23,10 +25,18 @@ pub fn put(table: &mut [u32], k: usize, v: u32)
     }
 }
 
-pub fn spot(points: &[u32], p: u32) -> V3
-    ensures { λ r. ⌜ r ≡ spot (now (points .entry)) p ⌝ }
+// The point that an entry of a face names.
+pub fn point_number(name: u32) -> PointNumber
+    ensures { λ r. ⌜ (r .0 ≡ name) × (r .0 < 2 ^ 32) ⌝ }
 {
-    let k = p as usize * 3;
+    PointNumber(name as usize)
+}
+
+pub fn spot(points: &[u32], p: PointNumber) -> V3
+    requires { ⌜ p .0 < 2 ^ 32 ⌝ }
+    ensures { λ r. ⌜ r ≡ spot (now (points .entry)) (p .0) ⌝ }
+{
+    let k = p.0 * 3;
     V3 {
         x: math::of_bits(get(points, k)),
         y: math::of_bits(get(points, k + 1)),

@@ -15,14 +15,14 @@ use block::VertexNumber;
 use tables::narrow;
 
 // Vertex n is the last of the chain of point v.
-pub fn link(work: &mut [u32], t: Chains, n: usize, v: usize)
-    requires { ⌜ Laid t (length (now work)) (n + 1) × (v < t .spots) × (n < most) ⌝ }
-    ensures { λ _. ⌜ now (work .exit) ≡ linked t (now (work .entry)) n v ⌝ }
+pub fn link(work: &mut [u32], t: Chains, n: VertexNumber, v: PointNumber)
+    requires { ⌜ Laid t (length (now work)) (n .0 + 1) × (v .0 < t .spots) × (n .0 < most) ⌝ }
+    ensures { λ _. ⌜ now (work .exit) ≡ linked t (now (work .entry)) (n .0) (v .0) ⌝ }
 {
-    let head = t.heads + v;
-    let next = t.nexts + n;
+    let head = t.heads + v.0;
+    let next = t.nexts + n.0;
     work[next] = work[head];
-    work[head] = narrow(n + 1);
+    work[head] = narrow(n.0 + 1);
 }
 
 // Vertex n is made: of point v, with the words key of a corner.
@@ -35,22 +35,23 @@ pub fn append(
     work: &mut [u32],
     w: Widths,
     t: Chains,
-    n: usize,
-    v: usize,
+    n: VertexNumber,
+    v: PointNumber,
     key: &[u32],
 )
-    requires { ⌜ Room w t (record { sources = now sources; normals = now normals; colours = now colours; textures = now textures }) (now positions) (now work) (n + 1)
-        × (v < t .spots) × (9 ≤ length (now key)) ⌝ }
-    ensures { λ _. ⌜ Appended w t n v (now (key .entry))
+    requires { ⌜ Room w t (record { sources = now sources; normals = now normals; colours = now colours; textures = now textures }) (now positions) (now work) (n .0 + 1)
+        × (v .0 < t .spots) × (9 ≤ length (now key)) ⌝ }
+    ensures { λ _. ⌜ Appended w t (n .0) (v .0) (now (key .entry))
         (record { sources = now (sources .entry); normals = now (normals .entry); colours = now (colours .entry); textures = now (textures .entry) }) (now (positions .entry)) (now (work .entry))
         (record { sources = now (sources .exit); normals = now (normals .exit); colours = now (colours .exit); textures = now (textures .exit) }) (now (positions .exit)) (now (work .exit)) ⌝ }
 {
-    let at = t.points + 3 * v;
-    put_row(positions, 3, n, work, at);
-    put_row(normals, w.normal, n, key, 0);
-    put_row(colours, w.colour, n, key, 3);
-    put_row(textures, w.texture, n, key, 7);
-    sources[n] = narrow(v);
+    let i = n.0;
+    let at = t.points + 3 * v.0;
+    put_row(positions, 3, i, work, at);
+    put_row(normals, w.normal, i, key, 0);
+    put_row(colours, w.colour, i, key, 3);
+    put_row(textures, w.texture, i, key, 7);
+    sources[i] = narrow(v.0);
     link(work, t, n, v);
 }
 
@@ -74,8 +75,18 @@ pub fn vertex(
         (record { sources = now (sources .exit); normals = now (normals .exit); colours = now (colours .exit); textures = now (textures .exit) }) (now (positions .exit)) (now (work .exit)) (r .0) ⌝ }
 {
     let c = n.0;
-    let v = point.0;
-    let x = find(sources, normals, colours, textures, w, c, v, key, work, t);
+    let x = find(
+        sources,
+        normals,
+        colours,
+        textures,
+        w,
+        c,
+        point,
+        key,
+        work,
+        t,
+    );
     if 0 < x {
         return VertexNumber(x - 1);
     }
@@ -88,8 +99,8 @@ pub fn vertex(
         work,
         w,
         t,
-        c,
-        v,
+        n,
+        point,
         key,
     );
     n

@@ -19,23 +19,29 @@ abbrev μ-loop : tie.MeasureT-loop
 returns : tie.Need-returns Inv-loop μ-loop
 returns c = newell-none _ _ (c .if1 .taken)
 
-shared-slice-read-spot : tie.Need-shared-slice-read-spot Inv-loop μ-loop
-shared-slice-read-spot c = search needs
+shared-slice-read-point-number : tie.Need-shared-slice-read-point-number Inv-loop μ-loop
+shared-slice-read-point-number c = search needs
+
+point-number-requires : tie.Need-point-number-requires Inv-loop μ-loop
+point-number-requires c κs = search needs
 
 spot-requires : tie.Need-spot-requires Inv-loop μ-loop
-spot-requires c κs = search needs
+spot-requires c κs = c .point-number .ensures .1
 
 loop-holds : tie.Need-loop-holds Inv-loop μ-loop
-loop-holds c = (omega arith, newell-start _ _ _ (omega arith) (c .spot .ensures))
+loop-holds c = (omega arith, newell-start _ _ _ (omega arith) (rw (c .before .point-number .ensures .0) at (c .spot .ensures)))
 
-mul-spot : tie.Need-mul-spot Inv-loop μ-loop
-mul-spot c = search needs
+mul-point-number : tie.Need-mul-point-number Inv-loop μ-loop
+mul-point-number c = search needs
 
-shared-slice-read-spot-2 : tie.Need-shared-slice-read-spot-2 Inv-loop μ-loop
-shared-slice-read-spot-2 c = search needs
+shared-slice-read-point-number-2 : tie.Need-shared-slice-read-point-number-2 Inv-loop μ-loop
+shared-slice-read-point-number-2 c = search needs
+
+point-number-requires-2 : tie.Need-point-number-requires-2 Inv-loop μ-loop
+point-number-requires-2 c κs = search needs
 
 spot-requires-2 : tie.Need-spot-requires-2 Inv-loop μ-loop
-spot-requires-2 c κs = search needs
+spot-requires-2 c κs = c .point-number2 .ensures .1
 
 add-edge-requires : tie.Need-add-edge-requires Inv-loop μ-loop
 add-edge-requires c κs = search needs
@@ -47,7 +53,7 @@ loop-less : tie.Need-loop-less Inv-loop μ-loop
 loop-less c = search needs
 
 loop-again : tie.Need-loop-again Inv-loop μ-loop
-loop-again c = (omega arith, newell-go _ _ _ _ _ _ _ _ (c .before .before .before .loop-test .taken) (c .before .spot2 .ensures) (c .add-edge .ensures) ∙ c .before .before .before .before .loop .inv .1)
+loop-again c = (omega arith, newell-go _ _ _ _ _ _ _ _ (c .before .before .before .before .loop-test .taken) (rw (c .before .before .point-number2 .ensures .0) at (c .before .spot2 .ensures)) (c .add-edge .ensures) ∙ c .before .before .before .before .before .loop .inv .1)
 
 add-edge-requires-2 : tie.Need-add-edge-requires-2 Inv-loop μ-loop
 add-edge-requires-2 c κs = search needs
@@ -62,11 +68,13 @@ newell-spec =
     Inv-loop
     μ-loop
     returns
-    shared-slice-read-spot
+    shared-slice-read-point-number
+    point-number-requires
     spot-requires
     loop-holds
-    mul-spot
-    shared-slice-read-spot-2
+    mul-point-number
+    shared-slice-read-point-number-2
+    point-number-requires-2
     spot-requires-2
     add-edge-requires
     add-i

@@ -22,14 +22,17 @@ loop-holds c = (search needs, refl, refl)
 mul-put-projected : tie.Need-mul-put-projected Inv-loop μ-loop
 mul-put-projected c = search needs
 
-mul-spot : tie.Need-mul-spot Inv-loop μ-loop
-mul-spot c = search needs
+mul-point-number : tie.Need-mul-point-number Inv-loop μ-loop
+mul-point-number c = search needs
 
-shared-slice-read-spot : tie.Need-shared-slice-read-spot Inv-loop μ-loop
-shared-slice-read-spot c = search needs
+shared-slice-read-point-number : tie.Need-shared-slice-read-point-number Inv-loop μ-loop
+shared-slice-read-point-number c = search needs
+
+point-number-requires : tie.Need-point-number-requires Inv-loop μ-loop
+point-number-requires c κs = search needs
 
 spot-requires : tie.Need-spot-requires Inv-loop μ-loop
-spot-requires c κs = search needs
+spot-requires c κs = c .point-number .ensures .1
 
 put-projected-requires : tie.Need-put-projected-requires Inv-loop μ-loop
 put-projected-requires c κs = search needs
@@ -41,7 +44,7 @@ loop-less : tie.Need-loop-less Inv-loop μ-loop
 loop-less c = search needs
 
 loop-again : tie.Need-loop-again Inv-loop μ-loop
-loop-again c = (search needs, c .before .before .put-projected .kept .0 ∙ c .before .before .before .before .before .before .before .loop .inv .1, rw (c .before .before .put-projected .ensures, c .before .before .before .spot .ensures) (projected-go _ _ _ _ _ (c .before .before .before .before .before .before .loop-test .taken) ∙ c .before .before .before .before .before .before .before .loop .inv .2))
+loop-again c = (search needs, c .before .before .put-projected .kept .0 ∙ c .before .before .before .before .before .before .before .before .loop .inv .1, rw (c .before .before .put-projected .ensures, c .before .before .before .before .spot .ensures, c .before .before .before .before .before .point-number .ensures .0) (projected-go _ _ _ _ _ (c .before .before .before .before .before .before .before .loop-test .taken) ∙ c .before .before .before .before .before .before .before .before .loop .inv .2))
 
 same-length : tie.Need-same-length Inv-loop μ-loop
 same-length c = c .before .loop .inv .1
@@ -56,10 +59,11 @@ put-projection-spec =
     Inv-loop
     μ-loop
     loop-holds
-    mul-put-projected
-    mul-spot
-    shared-slice-read-spot
+    mul-point-number
+    shared-slice-read-point-number
+    point-number-requires
     spot-requires
+    mul-put-projected
     put-projected-requires
     add-i
     loop-less

@@ -11,8 +11,8 @@ find-requires c κs =
     let P = c .before .before .before .before .before .before .before .before .before .before .before .before .pre in
     (roomy-le _ (P .room .roomy) (omega arith), P .words, laid-le _ (P .room .laid) (omega arith), P .chained, P .point)
 
-sub-t26 : tie.Need-sub-t26
-sub-t26 c = search needs
+sub-t25 : tie.Need-sub-t25
+sub-t25 c = search needs
 
 same-length : tie.Need-same-length
 same-length c = search needs
@@ -67,7 +67,7 @@ vertex-spec =
     tie.close
     (tie.spec
     find-requires
-    sub-t26
+    sub-t25
     same-length
     same-length-2
     same-length-3

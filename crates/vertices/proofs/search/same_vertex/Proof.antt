@@ -16,32 +16,32 @@ wide-requires c κs = search needs
 
 returns : tie.Need-returns
 returns c =
-    let P = c .before .before .before .before .before .before .before .before .pre in
-    sym (same-key _ _ _ _ _ (P .0) (P .1) ∙ rw (← c .before .wide .ensures, ne-eqb _ _ (c .if1 .taken)))
+    let P = c .before .before .before .before .before .before .before .before .before .pre in
+    sym (same-key _ _ _ _ _ (P .0) (P .1) ∙ rw (← c .before .before .wide .ensures, ne-eqb _ _ (c .if1 .taken)))
 
 same-row-requires : tie.Need-same-row-requires
 same-row-requires c κs = search needs
 
 returns-2 : tie.Need-returns-2
 returns-2 c =
-    let P = c .before .before .before .before .before .before .before .before .before .before .pre in
-    sym (same-key _ _ _ _ _ (P .0) (P .1) ∙ rw (← c .before .before .before .wide .ensures, eq-eqb _ _ (c .before .before .if1 .left), ← c .before .same-row .ensures, c .if2 .left))
+    let P = c .before .before .before .before .before .before .before .before .before .before .before .pre in
+    sym (same-key _ _ _ _ _ (P .0) (P .1) ∙ rw (← c .before .before .before .before .wide .ensures, eq-eqb _ _ (c .before .before .if1 .left), ← c .before .same-row .ensures, c .if2 .left))
 
 same-row-requires-2 : tie.Need-same-row-requires-2
 same-row-requires-2 c κs = search needs
 
 returns-3 : tie.Need-returns-3
 returns-3 c =
-    let P = c .before .before .before .before .before .before .before .before .before .before .before .before .pre in
-    sym (same-key _ _ _ _ _ (P .0) (P .1) ∙ rw (← c .before .before .before .before .before .wide .ensures, eq-eqb _ _ (c .before .before .before .before .if1 .left), ← c .before .before .before .same-row .ensures, c .before .before .if2 .taken, ← c .before .same-row2 .ensures, c .if3 .left))
+    let P = c .before .before .before .before .before .before .before .before .before .before .before .before .before .pre in
+    sym (same-key _ _ _ _ _ (P .0) (P .1) ∙ rw (← c .before .before .before .before .before .before .wide .ensures, eq-eqb _ _ (c .before .before .before .before .if1 .left), ← c .before .before .before .same-row .ensures, c .before .before .if2 .taken, ← c .before .same-row2 .ensures, c .if3 .left))
 
 same-row-requires-3 : tie.Need-same-row-requires-3
 same-row-requires-3 c κs = search needs
 
 returns-4 : tie.Need-returns-4
 returns-4 c =
-    let P = c .before .before .before .before .before .before .before .before .before .before .before .before .before .pre in
-    sym (same-key _ _ _ _ _ (P .0) (P .1) ∙ rw (← c .before .before .before .before .before .before .wide .ensures, eq-eqb _ _ (c .before .before .before .before .before .if1 .left), ← c .before .before .before .before .same-row .ensures, c .before .before .before .if2 .taken, ← c .before .before .same-row2 .ensures, c .before .if3 .taken) (sym (c .same-row3 .ensures)))
+    let P = c .before .before .before .before .before .before .before .before .before .before .before .before .before .before .pre in
+    sym (same-key _ _ _ _ _ (P .0) (P .1) ∙ rw (← c .before .before .before .before .before .before .before .wide .ensures, eq-eqb _ _ (c .before .before .before .before .before .if1 .left), ← c .before .before .before .before .same-row .ensures, c .before .before .before .if2 .taken, ← c .before .before .same-row2 .ensures, c .before .if3 .taken) (sym (c .same-row3 .ensures)))
 
 pub same-vertex-spec : {M : Type 1} → statement M
 same-vertex-spec =
