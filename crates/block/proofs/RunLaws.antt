@@ -14,7 +14,7 @@ use lib.ListN.{length, getD, take, drop, drop-of-length-le, length-append, lengt
 use lib.Seq.{drop-cons, drop-drop}
 use Rattle.bits.specs.Bits.{table, entries}
 use Rattle.bits.proofs.Entries.{entries-length, entries-part}
-use Rattle.block.specs.Runs.{endsRun, Run, runOf, before, runsFrom, runs, splitFrom, runsLeft, runLength, runAt, RunPart, nextStart, allBelow, kept, corners, triangles, sumOver}
+use Rattle.block.specs.Runs.{endsRun, Run, runOf, before, runsFrom, runs, splitFrom, runsLeft, runLength, runAt, RunPart, nextStart, allBelow, kept, faces, corners, triangles, sumOver}
 
 -- ---- the length of a run
 
@@ -199,10 +199,10 @@ module _ (p : ℕ) (ws : List ℕ) where
   kept-below e k h = below-at p ws (and-r (leb 3 (length ws)) _ (subst T (sym e) tt)) k h
 
   -- what a kept face and another run have
-  pub face-kept : kept p ws ≡ true → (corners p ws ≡ length ws) × (triangles p ws ≡ length ws - 2)
-  unfolding corners triangles
-  face-kept e = (rw e, rw e)
+  pub face-kept : kept p ws ≡ true → (faces p ws ≡ 1) × (corners p ws ≡ length ws) × (triangles p ws ≡ length ws - 2)
+  unfolding faces corners triangles
+  face-kept e = (rw e, rw e, rw e)
 
-  pub face-lost : kept p ws ≡ false → (corners p ws ≡ 0) × (triangles p ws ≡ 0)
-  unfolding corners triangles
-  face-lost e = (rw e, rw e)
+  pub face-lost : kept p ws ≡ false → (faces p ws ≡ 0) × (corners p ws ≡ 0) × (triangles p ws ≡ 0)
+  unfolding faces corners triangles
+  face-lost e = (rw e, rw e, rw e)

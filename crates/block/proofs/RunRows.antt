@@ -4,7 +4,7 @@ use mathlib.Core.Path.{_≡_, refl}
 use mathlib.Core.Bool.{true, false}
 use mathlib.Core.List.{List, [], _∷_, map}
 use lib.IntN.{ℤ, pos, negsuc, negℤ}
-use Rattle.block.specs.Runs.{endsRun, Run, runOf, runsFrom, runs, allBelow, kept, corners, triangles, sumOver, totals}
+use Rattle.block.specs.Runs.{endsRun, Run, runOf, runsFrom, runs, allBelow, kept, faces, corners, triangles, sumOver, totals}
 
 unfoldable pub wordOf : ℤ → ℕ
 wordOf (pos n) = n
@@ -38,6 +38,6 @@ unfolding kept allBelow
 row-kept = (refl, refl, refl)
 
 -- a square, a run that is lost, a triangle
-pub row-totals : totals 4 (runs (0 ∷ 1 ∷ 2 ∷ 3 ∷ 0xffff_ffff ∷ 0 ∷ 1 ∷ 0xffff_ffff ∷ 0 ∷ 1 ∷ 2 ∷ [])) ≡ record { corners = 7; triangles = 3 }
-unfolding endsRun runsFrom kept allBelow corners triangles sumOver
+pub row-totals : totals 4 (runs (0 ∷ 1 ∷ 2 ∷ 3 ∷ 0xffff_ffff ∷ 0 ∷ 1 ∷ 0xffff_ffff ∷ 0 ∷ 1 ∷ 2 ∷ [])) ≡ record { faces = 2; corners = 7; triangles = 3 }
+unfolding endsRun runsFrom kept allBelow faces corners triangles sumOver
 row-totals = refl

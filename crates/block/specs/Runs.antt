@@ -75,7 +75,10 @@ allBelow p (w ∷ ws) = ltb w p && allBelow p ws
 unfoldable pub kept : ℕ → List ℕ → Bool
 kept p ws = leb 3 (length ws) && allBelow p ws
 
--- FORMAT 6.2: the corners of a run, and its triangles
+-- FORMAT 6.2: whether a run is a face, as a number; its corners, and its triangles
+unfoldable pub faces : ℕ → List ℕ → ℕ
+faces p ws = cond (kept p ws) 1 0
+
 unfoldable pub corners : ℕ → List ℕ → ℕ
 corners p ws = cond (kept p ws) (length ws) 0
 
@@ -89,4 +92,4 @@ sumOver f (r ∷ rs) = f (r .items) + sumOver f rs
 
 -- FORMAT 6.2: what the kept faces have together
 abbrev pub totals : ℕ → List Run → Totals
-totals p rs = record { corners = sumOver (corners p) rs; triangles = sumOver (triangles p) rs }
+totals p rs = record { faces = sumOver (faces p) rs; corners = sumOver (corners p) rs; triangles = sumOver (triangles p) rs }

@@ -68,6 +68,7 @@ pub fn is_kept(run: &[u8], points: u32) -> bool
 
 // What the kept faces of an index list have together.
 pub struct Totals {
+    pub faces: usize,
     pub corners: usize,
     pub triangles: usize,
 }
@@ -77,17 +78,23 @@ pub fn face_totals(list: &[u8], points: u32) -> Totals
 {
     let n = list.len() / 4;
     let mut start: usize = 0;
+    let mut faces: usize = 0;
     let mut corners: usize = 0;
     let mut triangles: usize = 0;
     while start < n {
         let run = run_at(list, start);
         if is_kept(run, points) {
+            faces += 1;
             corners += run.len() / 4;
             triangles += run.len() / 4 - 2;
         }
         start = next_start(start, run);
     }
-    Totals { corners, triangles }
+    Totals {
+        faces,
+        corners,
+        triangles,
+    }
 }
 
 // The point that entry `k` of a run names; beyond the run, point 0.

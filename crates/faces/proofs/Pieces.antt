@@ -113,7 +113,7 @@ module _ {w : List ℕ} {t : Plan} (S : Sound w t) (ccw convex : Bool) where
         record { next = omega arith; made = ap (sets o at) (sym (none (oneFace w t ccw convex g) l)); kept = kept-all }
 
     -- three or more
-    pub more-put : (w′ o X Y : List ℕ) (at r : ℕ) → at + (b - a - 2) * 3 ≤ length o → Kept (t .owners) w w′
+    pub more-put : (w′ o X Y : List ℕ) (at r : ℕ) → at + (b - a - 2) * 3 ≤ length o → Kept (t .places) w w′
         → X ≡ sets o at (flat (trianglesIn w t ccw convex a (b - a)))
         → Y ≡ sets X at (numbered ccw (seg w′ (t .named + a) (b - a)) (threes (b - a - 2) (drop at X))) → r ≡ at + (b - a - 2) * 3
         → Put t (oneFace w t ccw convex g) at r o Y w w′
@@ -122,7 +122,7 @@ module _ {w : List ℕ} {t : Plan} (S : Sound w t) (ccw convex : Bool) where
         let q = ends-in in
         let R = S .room in
         let l : length (oneFace w t ccw convex g) ≡ (b - a - 2) * 3 = length-here in
-        let k : t .named + a + (b - a) ≤ t .owners = omega (arith, q .0, q .1) in
+        let k : t .named + a + (b - a) ≤ t .places = omega (arith, q .0, q .1) in
         let j : t .named + a + (b - a) ≤ length w = omega (arith, q .0, q .1) in
         let v : seg w′ (t .named + a) (b - a) ≡ seg w (t .named + a) (b - a) = kept-seg K (t .named + a) (b - a) k j in
         record {
@@ -133,9 +133,9 @@ module _ {w : List ℕ} {t : Plan} (S : Sound w t) (ccw convex : Bool) where
           kept = K;
         }
 
--- ---- a face is kept with the words below the owners
+-- ---- a face is kept with the words below the places
 
-module _ {w₀ w : List ℕ} {t : Plan} (K : Kept (t .owners) w₀ w) (S : Sound w₀ t) (ccw convex : Bool) where
+module _ {w₀ w : List ℕ} {t : Plan} (K : Kept (t .places) w₀ w) (S : Sound w₀ t) (ccw convex : Bool) where
   corners-kept : (a n : ℕ) → a + n ≤ t .count → cornersMade w t ccw convex a n ≡ cornersMade w₀ t ccw convex a n
   unfolding cornersMade trianglesIn facingIn outlineIn
   corners-kept a n h =

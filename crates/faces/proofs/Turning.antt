@@ -32,7 +32,7 @@ module _ (w₀ : List ℕ) (t : Plan) (ccw convex : Bool) where
   -- g faces are done, and the next goes to `at`
   pub record Facing (o₀ o w : List ℕ) (g at : ℕ) : Type 0 where
     pub within : g ≤ t .faces
-    pub kept : Kept (t .owners) w₀ w
+    pub kept : Kept (t .places) w₀ w
     pub long : length o ≡ length o₀
     pub count : at + length (rest g) ≡ length (allFaces w₀ t ccw convex)
     pub made : sets o at (rest g) ≡ sets o₀ 0 (allFaces w₀ t ccw convex)

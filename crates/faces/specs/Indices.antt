@@ -44,10 +44,10 @@ oneFace w t ccw convex g = cornersMade w t ccw convex (startIn w t g) (startIn w
 unfoldable pub allFaces : List ℕ → Plan → Bool → Bool → List ℕ
 allFaces w t ccw convex = flat (tab (oneFace w t ccw convex) (t .faces) 0)
 
--- the tables hold a soup, with five words a corner from the owners on, and two floats a corner
+-- the tables hold a soup, with five words a corner from the places on, and two floats a corner
 pub record Ready (w : List ℕ) (t : Plan) (floats : ℕ) : Type 0 where
   pub sound : Sound w t
-  pub scratch : t .owners + t .count * 5 ≤ length w
+  pub scratch : t .places + t .count * 5 ≤ length w
   pub plane : t .count * 2 ≤ floats
 
 -- the vertex number of each corner is the place of its key (FORMAT 11)
@@ -55,14 +55,14 @@ pub record Named (w : List ℕ) (t : Plan) (F : Frame) (fs : List Face) (vs : Li
   pub at : (j i : ℕ) → j < t .faces → i < length (getD fs j [])
       → namedIn w t (startIn w t j + i) ≡ place sameKey (keyOf F fs j (getD fs j []) (getD (getD fs j []) i noCorner)) vs
 
--- one face: its indices xs from `at` on, the next place r; the tables below the owners are kept
+-- one face: its indices xs from `at` on, the next place r; the tables below the places are kept
 pub record Put (t : Plan) (xs : List ℕ) (at r : ℕ) (o o′ w w′ : List ℕ) : Type 0 where
   pub next : r ≡ at + length xs
   pub made : o′ ≡ sets o at xs
-  pub kept : Kept (t .owners) w w′
+  pub kept : Kept (t .places) w w′
 
--- all faces: their indices xs in front, r of them, and what was there beyond; the tables below the owners are kept
+-- all faces: their indices xs in front, r of them, and what was there beyond; the tables below the places are kept
 pub record Made (t : Plan) (xs : List ℕ) (r : ℕ) (o o′ w w′ : List ℕ) : Type 0 where
   pub count : r ≡ length xs
   pub made : o′ ≡ xs ++ drop (length xs) o
-  pub kept : Kept (t .owners) w w′
+  pub kept : Kept (t .places) w w′

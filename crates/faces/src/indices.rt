@@ -27,7 +27,7 @@ fn put_plane(work: &[u32], t: Plan, a: usize, n: usize, ccw: bool, floats: &mut 
     polygon::project(&work[lo..hi], &work[from..to], normal, ccw, floats);
 }
 
-// Its triangles by its own corners, from place `at` of `indices` on. The tables from the owners on are read no more: room to work in.
+// Its triangles by its own corners, from place `at` of `indices` on. The tables from the places on are read no more: room to work in.
 fn put_corners(
     work: &mut [u32],
     t: Plan,
@@ -40,11 +40,11 @@ fn put_corners(
     at: usize,
 )
     requires { ⌜ Ready (now work) t (length (now floats)) × (a + n ≤ t .count) × (at + (n - 2) * 3 ≤ length (now indices)) ⌝ }
-    ensures { λ _. ⌜ Kept (t .owners) (now (work .entry)) (now (work .exit))
+    ensures { λ _. ⌜ Kept (t .places) (now (work .entry)) (now (work .exit))
         × (now (indices .exit) ≡ sets (now (indices .entry)) at (flat (trianglesIn (now (work .entry)) t ccw convex a n))) ⌝ }
 {
     put_plane(work, t, a, n, ccw, floats);
-    let lo = t.owners;
+    let lo = t.places;
     let hi = lo + n * 5;
     polygon::triangulate(floats, n, convex, &mut work[lo..hi], indices, at);
 }

@@ -3,12 +3,12 @@ use mathlib.Core.Path.{_≡_, refl, sym, ap, _∙_}
 use mathlib.Core.Logic.{⊎-elim}
 use mathlib.Core.List.{List}
 use Prim.Native.Nat.{ℕ, _+_, _≤_, _<_}
-use native.Mathlib.Nat.{eq-or-lt-of-le, le-of-suc-le-suc}
+use native.Mathlib.Nat.{eq-or-lt-of-le, le-of-suc-le-suc, not-suc-le-zero}
 use native.Mathlib.Numerals.{add-one}
 use native.Mathlib.Omega.{arith}
 use lib.ListN.{length, getD, set, take, drop, length-set, length-drop}
 use lib.Seq.{take-set-le, take-take, getD-take, getD-drop, getD-set-same, getD-set-other, ext-getD, length-take-le}
-use Rattle.tables.specs.Kept.{seg, Kept, AllAre}
+use Rattle.tables.specs.Kept.{seg, Kept, TableOf}
 
 pub kept-all : {a : ℕ} {w : List ℕ} → Kept a w w
 kept-all = record { len = refl; front = refl }
@@ -48,10 +48,18 @@ set-hit w i v j h e = rw e (getD-set-same w i v 0 h)
 pub set-miss : (w : List ℕ) (i v j : ℕ) → (j ≡ i → ⊥) → getD (set w i v) j 0 ≡ getD w j 0
 set-miss w i v j h = getD-set-other w i j v 0 h
 
-pub all-more : (w : List ℕ) (a n v : ℕ) → a + n < length w → AllAre w a n v → AllAre (set w (a + n) v) a (n + 1) v
-all-more w a n v l h = record {
+-- ---- a table, one word more at a time
+
+pub table-none : {w : List ℕ} {a : ℕ} {f : ℕ → ℕ} → TableOf w a 0 f
+table-none = record { at = λ j b. absurd (not-suc-le-zero b) }
+
+pub table-more : {f : ℕ → ℕ} (w : List ℕ) (a n v : ℕ) → a + n < length w → v ≡ f n → TableOf w a n f → TableOf (set w (a + n) v) a (n + 1) f
+table-more {f} w a n v l e h = record {
   at = λ j b. ⊎-elim
-      (λ (e : j ≡ n). set-hit w (a + n) v (a + j) l (omega arith))
-      (λ (e : j < n). set-miss w (a + n) v (a + j) (λ q. omega arith) ∙ h .at j e)
+      (λ (q : j ≡ n). set-hit w (a + n) v (a + j) l (omega arith) ∙ e ∙ ap f (sym q))
+      (λ (q : j < n). set-miss w (a + n) v (a + j) (λ r. omega arith) ∙ h .at j q)
       (eq-or-lt-of-le (le-of-suc-le-suc (rw add-one at b)));
 }
+
+pub table-kept : {b : ℕ} {w w′ : List ℕ} {f : ℕ → ℕ} (a n : ℕ) → Kept b w w′ → a + n ≤ b → TableOf w a n f → TableOf w′ a n f
+table-kept a n k h T = record { at = λ j q. kept-at k (a + j) (omega arith) ∙ T .at j q }

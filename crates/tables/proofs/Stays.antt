@@ -57,9 +57,9 @@ module _ {b : ℕ} {v w : List ℕ} (K : Kept b v w) (t : Plan) where
   unfolding numberIn
   number-kept g h = kept-at K (t .numbers + g) h
 
-  pub place-kept : (g : ℕ) → t .places + g < b → placeIn w t g ≡ placeIn v t g
+  pub place-kept : (c : ℕ) → t .places + c < b → placeIn w t c ≡ placeIn v t c
   unfolding placeIn
-  place-kept g h = kept-at K (t .places + g) h
+  place-kept c h = kept-at K (t .places + c) h
 
   pub named-kept : (c : ℕ) → t .named + c < b → namedIn w t c ≡ namedIn v t c
   unfolding namedIn

@@ -17,9 +17,13 @@ pub record Kept (a : ℕ) (w w′ : List ℕ) : Type 0 where
   pub len : length w′ ≡ length w
   pub front : take a w′ ≡ take a w
 
--- each of the n words from a is v
-pub record AllAre (w : List ℕ) (a n v : ℕ) : Type 0 where
-  pub at : (j : ℕ) → j < n → getD w (a + j) 0 ≡ v
+-- the n words from a are f 0, f 1, ..
+pub record TableOf (w : List ℕ) (a n : ℕ) (f : ℕ → ℕ) : Type 0 where
+  pub at : (j : ℕ) → j < n → getD w (a + j) 0 ≡ f j
+
+-- each of them is v
+abbrev pub AllAre : List ℕ → ℕ → ℕ → ℕ → Type 0
+AllAre w a n v = TableOf w a n (λ j. v)
 
 -- w′ is w with the n words from a replaced by v
 pub record Filled (a n v : ℕ) (w w′ : List ℕ) : Type 0 where

@@ -6,16 +6,16 @@ use Rattle.tables.specs.declared.layout.Plan.{Plan}
 abbrev pub most : ℕ
 most = 262144
 
--- points 3P, corners C, first corners F + 1, face numbers F, places F, vertex numbers C, owners C, rows 7F, heads P, nexts C;
+-- points 3P, corners C, first corners F + 1, vertex numbers C, places C, face numbers F, owners C, rows 7F, heads P, nexts C;
 -- corners are gathered by their points
 unfoldable pub planOf : ℕ → ℕ → ℕ → Plan
 planOf spots count faces =
     let corners = 3 * spots in
     let starts = corners + count in
-    let numbers = starts + faces + 1 in
-    let places = numbers + faces in
-    let named = places + faces in
-    let owners = named + count in
+    let named = starts + faces + 1 in
+    let places = named + count in
+    let numbers = places + count in
+    let owners = numbers + faces in
     let rows = owners + count in
     let heads = rows + 7 * faces in
     record {
@@ -26,9 +26,9 @@ planOf spots count faces =
       corners = corners;
       gathers = corners;
       starts = starts;
-      numbers = numbers;
-      places = places;
       named = named;
+      places = places;
+      numbers = numbers;
       owners = owners;
       rows = rows;
       heads = heads;
@@ -42,11 +42,11 @@ pub record Room (len : ℕ) (t : Plan) : Type 0 where
   pub some : t .spots ≤ most
   pub points : t .points + 3 * t .spots ≤ t .corners
   pub corners : t .corners + t .count ≤ t .starts
-  pub starts : t .starts + (t .faces + 1) ≤ t .numbers
-  pub numbers : t .numbers + t .faces ≤ t .places
-  pub places : t .places + t .faces ≤ t .named
-  pub named : t .named + t .count ≤ t .owners
+  pub starts : t .starts + (t .faces + 1) ≤ t .named
   pub gathers : t .gathers + t .count ≤ t .named
+  pub named : t .named + t .count ≤ t .places
+  pub places : t .places + t .count ≤ t .numbers
+  pub numbers : t .numbers + t .faces ≤ t .owners
   pub owners : t .owners + t .count ≤ t .rows
   pub rows : t .rows + 7 * t .faces ≤ t .heads
   pub heads : t .heads + t .spots ≤ t .nexts

@@ -23,17 +23,17 @@ gatherIn w t c = getD w (t .gathers + c) 0
 unfoldable pub ownerIn : List ℕ → Plan → ℕ → ℕ
 ownerIn w t c = getD w (t .owners + c) 0
 
--- a kept face's first corner, its number (FORMAT 6.2), and the place in coordIndex of its first corner
+-- a kept face's first corner, and its number (FORMAT 6.2)
 unfoldable pub startIn : List ℕ → Plan → ℕ → ℕ
 startIn w t g = getD w (t .starts + g) 0
 
 unfoldable pub numberIn : List ℕ → Plan → ℕ → ℕ
 numberIn w t g = getD w (t .numbers + g) 0
 
+-- a corner's place in coordIndex (of a grid, its point), and its vertex number (FORMAT 7.1, 11)
 unfoldable pub placeIn : List ℕ → Plan → ℕ → ℕ
-placeIn w t g = getD w (t .places + g) 0
+placeIn w t c = getD w (t .places + c) 0
 
--- a corner's vertex number (FORMAT 11)
 unfoldable pub namedIn : List ℕ → Plan → ℕ → ℕ
 namedIn w t c = getD w (t .named + c) 0
 

@@ -11,9 +11,9 @@ pub struct Plan {
     pub corners: usize,
     pub gathers: usize,
     pub starts: usize,
-    pub numbers: usize,
-    pub places: usize,
     pub named: usize,
+    pub places: usize,
+    pub numbers: usize,
     pub owners: usize,
     pub rows: usize,
     pub heads: usize,
@@ -27,10 +27,10 @@ pub fn plan_of(spots: usize, count: usize, faces: usize) -> Plan
 {
     let corners = 3 * spots;
     let starts = corners + count;
-    let numbers = starts + faces + 1;
-    let places = numbers + faces;
-    let named = places + faces;
-    let owners = named + count;
+    let named = starts + faces + 1;
+    let places = named + count;
+    let numbers = places + count;
+    let owners = numbers + faces;
     let rows = owners + count;
     let heads = rows + 7 * faces;
     Plan {
@@ -41,9 +41,9 @@ pub fn plan_of(spots: usize, count: usize, faces: usize) -> Plan
         corners,
         gathers: corners,
         starts,
-        numbers,
-        places,
         named,
+        places,
+        numbers,
         owners,
         rows,
         heads,

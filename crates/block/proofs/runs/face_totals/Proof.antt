@@ -5,21 +5,23 @@ use borrow.Author.Needs.{needs}
 use native.Mathlib.Omega.{arith}
 use Rattle.bits.proofs.Entries.{entries-length}
 use Rattle.bits.specs.Bits.{entries}
-use Rattle.block.specs.Runs.{runs, runsLeft, corners, triangles, sumOver}
+use Rattle.block.specs.Runs.{runs, runsLeft, faces, corners, triangles, sumOver}
 use Rattle.block.proofs.RunLaws.{sum-turn, sum-ended, kept-long, face-kept, face-lost}
 use Rattle.block.proofs.runs.face_totals.Statement.{statement}
 use Rattle.block.proofs.runs.face_totals.Tie as tie
 
 abbrev Inv-loop : tie.InvT-loop
-Inv-loop list points n start₀ c₀ t₀ start c t =
+Inv-loop list points n start₀ f₀ c₀ t₀ start f c t =
     (start ≤ n + 1)
+    × (f ≤ start)
     × (c ≤ start)
     × (t ≤ start)
+    × (f + sumOver (faces points) (runsLeft (entries list) start) ≡ sumOver (faces points) (runs (entries list)))
     × (c + sumOver (corners points) (runsLeft (entries list) start) ≡ sumOver (corners points) (runs (entries list)))
     × (t + sumOver (triangles points) (runsLeft (entries list) start) ≡ sumOver (triangles points) (runs (entries list)))
 
 abbrev μ-loop : tie.MeasureT-loop
-μ-loop list points n start₀ c₀ t₀ start c t = n - start
+μ-loop list points n start₀ f₀ c₀ t₀ start f c t = n - start
 
 loop-holds : tie.Need-loop-holds Inv-loop μ-loop
 loop-holds c = omega arith
@@ -29,6 +31,9 @@ run-at-requires c κs = search needs
 
 is-kept-requires : tie.Need-is-kept-requires Inv-loop μ-loop
 is-kept-requires c κs = search needs
+
+add-faces : tie.Need-add-faces Inv-loop μ-loop
+add-faces c = omega arith
 
 add-corners : tie.Need-add-corners Inv-loop μ-loop
 add-corners c = omega arith
@@ -53,6 +58,7 @@ loop-again c =
     let run = c .before .before .before .run-at .result .now in
     let l = entries-length run in
     let turn = sum-turn (c .before .before .before .before .before .before .before .args .list .now) (c .before .before .before .before .before .loop .start) run (c .before .before .before .run-at .ensures .items) _ (c .next-start .ensures) (omega arith) in
+    let fs = turn (faces points) in
     let cs = turn (corners points) in
     let ts = turn (triangles points) in
     ⊎-elim
@@ -63,8 +69,9 @@ loop-again c =
 returns : tie.Need-returns Inv-loop μ-loop
 returns c =
     λ i. record {
-      corners = sum-ended _ _ (c .before .loop .start) _ _ (c .loop-test .left) (c .before .loop .inv .3) i;
-      triangles = sum-ended _ _ (c .before .loop .start) _ _ (c .loop-test .left) (c .before .loop .inv .4) i;
+      faces = sum-ended _ _ (c .before .loop .start) _ _ (c .loop-test .left) (c .before .loop .inv .4) i;
+      corners = sum-ended _ _ (c .before .loop .start) _ _ (c .loop-test .left) (c .before .loop .inv .5) i;
+      triangles = sum-ended _ _ (c .before .loop .start) _ _ (c .loop-test .left) (c .before .loop .inv .6) i;
     }
 
 pub face-totals-spec : {M : Type 1} → statement M
@@ -76,6 +83,7 @@ face-totals-spec =
     loop-holds
     run-at-requires
     is-kept-requires
+    add-faces
     add-corners
     sub-triangles
     add-triangles

@@ -2,6 +2,8 @@ use borrow.Author.Needs.{needs}
 use Rattle.tables.specs.Layout.{planOf}
 use Rattle.tables.proofs.layout.plan_of.Statement.{statement}
 use Rattle.tables.proofs.layout.plan_of.Tie as tie
+use Rattle.tables.proofs.layout.plan_of.Reads as reads
+use Rattle.tables.proofs.layout.plan_of.Lts as lts
 
 mul-corners : tie.Need-mul-corners
 mul-corners c = search needs
@@ -9,17 +11,17 @@ mul-corners c = search needs
 add-starts : tie.Need-add-starts
 add-starts c = search needs
 
-add-numbers : tie.Need-add-numbers
-add-numbers c = search needs
+add-named : tie.Need-add-named
+add-named c = search needs
 
-add-numbers-2 : tie.Need-add-numbers-2
-add-numbers-2 c = search needs
+add-named-2 : tie.Need-add-named-2
+add-named-2 c = search needs
 
 add-places : tie.Need-add-places
 add-places c = search needs
 
-add-named : tie.Need-add-named
-add-named c = search needs
+add-numbers : tie.Need-add-numbers
+add-numbers c = search needs
 
 add-owners : tie.Need-add-owners
 add-owners c = search needs
@@ -46,10 +48,10 @@ plan-of-spec =
     (tie.spec
     mul-corners
     add-starts
-    add-numbers
-    add-numbers-2
-    add-places
     add-named
+    add-named-2
+    add-places
+    add-numbers
     add-owners
     add-rows
     mul-heads

@@ -4,7 +4,7 @@ use Prim.Native.Nat.{_+_, _-_, _≤_, _<_}
 use lib.ListN.{length, drop}
 use lib.Seq.{drop-set-lt}
 use Rattle.tables.specs.Kept.{Kept, AllAre}
-use Rattle.tables.proofs.Keep.{kept-all, kept-set, all-more}
+use Rattle.tables.proofs.Keep.{kept-all, kept-set, table-none, table-more}
 use borrow.Author.Needs.{needs}
 use Rattle.tables.proofs.writing.fill.Statement.{statement}
 use Rattle.tables.proofs.writing.fill.Tie as tie
@@ -16,7 +16,7 @@ abbrev μ-loop : tie.MeasureT-loop
 μ-loop work₀ a n v i₀ work i = n - i
 
 loop-holds : tie.Need-loop-holds Inv-loop μ-loop
-loop-holds c = (search needs, kept-all, record { at = λ j h. omega arith }, refl)
+loop-holds c = (search needs, kept-all, table-none, refl)
 
 add-work : tie.Need-add-work Inv-loop μ-loop
 add-work c = search needs
@@ -38,7 +38,7 @@ loop-again c =
     let i = c .before .loop .inv in
     let l : c .before .before .args .a + c .before .loop .i < length (c .before .loop .work) = omega (arith, i .1 .len) in
     let o : c .before .before .args .a + c .before .loop .i < c .before .before .args .a + c .before .before .args .n = omega arith in
-    (search needs, kept-set _ _ (i .1) (omega arith), all-more _ _ _ _ l (i .2), drop-set-lt _ _ _ _ o ∙ i .3)
+    (search needs, kept-set _ _ (i .1) (omega arith), table-more _ _ _ _ l refl (i .2), drop-set-lt _ _ _ _ o ∙ i .3)
 
 same-length : tie.Need-same-length Inv-loop μ-loop
 same-length c = c .before .loop .inv .1 .len

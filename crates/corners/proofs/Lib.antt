@@ -1,0 +1,1 @@
+-- The laws and proofs of the crate.

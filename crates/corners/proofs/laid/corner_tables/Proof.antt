@@ -1,0 +1,25 @@
+use borrow.Author.Needs.{needs}
+use Rattle.corners.specs.Laid.{tablesAt}
+use Rattle.corners.proofs.laid.corner_tables.Statement.{statement}
+use Rattle.corners.proofs.laid.corner_tables.Tie as tie
+use Rattle.corners.proofs.laid.corner_tables.Reads as reads
+use Rattle.corners.proofs.laid.corner_tables.Lts as lts
+
+add-textures : tie.Need-add-textures
+add-textures c = search needs
+
+mul-heads : tie.Need-mul-heads
+mul-heads c = search needs
+
+add-heads : tie.Need-add-heads
+add-heads c = search needs
+
+add-t10 : tie.Need-add-t10
+add-t10 c = search needs
+
+returns : tie.Need-returns
+unfolding tablesAt
+returns c = search needs
+
+pub corner-tables-spec : {M : Type 1} → statement M
+corner-tables-spec = tie.close (tie.spec add-textures mul-heads add-heads add-t10 returns)

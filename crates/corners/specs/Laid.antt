@@ -1,0 +1,40 @@
+-- FORMAT 4: where the tables of the corners stand while vertices are made.
+use Prim.Native.Nat.{ℕ, _+_, _*_, _≤_}
+use Rattle.tables.specs.Layout.{most}
+use Rattle.vertices.specs.declared.places.Chains.{Chains}
+use Rattle.corners.specs.declared.laid.CornerTables.{CornerTables}
+
+-- vertex numbers, places, face numbers, texture, heads and nexts, one after another; `numbers` is where the face numbers start
+unfoldable pub tablesAt : ℕ → ℕ → ℕ → ℕ → ℕ → ℕ → ℕ → CornerTables
+tablesAt count points spots corners named places numbers =
+    let textures = numbers + count in
+    let heads = textures + 2 * count in
+    record {
+      count = count;
+      points = points;
+      spots = spots;
+      corners = corners;
+      named = named;
+      places = places;
+      numbers = numbers;
+      textures = textures;
+      heads = heads;
+      nexts = heads + spots;
+    }
+
+-- in len words: points and corners below the vertex numbers; then places, face numbers, texture, heads and nexts
+pub record Laid (t : CornerTables) (len : ℕ) : Type 0 where
+  pub few : t .count ≤ most
+  pub some : t .spots ≤ most
+  pub points : t .points + 3 * t .spots ≤ t .named
+  pub corners : t .corners + t .count ≤ t .named
+  pub named : t .named + t .count ≤ t .places
+  pub places : t .places + t .count ≤ t .numbers
+  pub numbers : t .numbers + t .count ≤ t .textures
+  pub textures : t .textures + 2 * t .count ≤ t .heads
+  pub heads : t .heads + t .spots ≤ t .nexts
+  pub nexts : t .nexts + t .count ≤ len
+
+-- the chains of vertices
+abbrev pub chainsOf : CornerTables → Chains
+chainsOf t = record { points = t .points; spots = t .spots; heads = t .heads; nexts = t .nexts }
