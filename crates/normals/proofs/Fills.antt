@@ -72,7 +72,7 @@ faces-next w t rule d e ys g a b S O h ea eb q r =
     let u : a ≤ b = rw (ea, eb) (S .rises g h) in
     let n : length ys ≡ 3 * (b - a) = ap length r ∙ length-made G (b - a) a in
     let x : ys ≡ spread (tab F (b - a) a) =
-    r ∙ ap spread (tab-ext G F (b - a) a (λ j k. ap (λ (o : ℕ). normalAt w t rule o (gatherIn w t (a + j))) (sym (O .owner g (a + j) h (omega arith) (omega arith))))) in
+    r ∙ ap spread (tab-ext G F (b - a) a (λ j k. ap (λ (o : ℕ). normalAt w t rule o (gatherIn w t (a + j))) (sym (O .at g (a + j) h (omega arith) (omega arith))))) in
     let q′ : e ≡ spread (tab F a 0) ++ drop (3 * a) d = rw ea q in
     let m : a + (b - a) ≡ b = omega arith in
     let s : 3 * a + length ys ≡ 3 * b = omega arith in

@@ -78,23 +78,6 @@ le-or-lt a b = go (leb a b) refl
 last-or : (g n : ℕ) → g < n + 1 → (g ≡ n) ⊎ (g < n)
 last-or g n h = eq-or-lt-of-le (le-of-suc-le-suc (rw add-one at h))
 
-owned-step : {v w w′ : List ℕ} {t : Plan} (g a b r : ℕ) → Sound v t → OwnedTo v w t g → g < t .faces → a ≡ startIn v t g → b ≡ startIn v t (suc g)
-    → Kept (t .owners + a) w w′ → AllAre w′ (t .owners + a) (b - a) r → r ≡ g → OwnedTo v w′ t (g + 1)
-unfolding ownerIn
-owned-step {v} {w} {w′} {t} g a b r S O k ea eb K A er = record {
-  owner = λ h c l lo hi. ⊎-elim
-      (λ (e : h ≡ g).
-      let lo′ : startIn v t g ≤ c = rw e at lo in
-      let hi′ : c < startIn v t (suc g) = rw e at hi in
-      let s : t .owners + a + (c - a) ≡ t .owners + c = omega arith in
-      ap (λ (j : ℕ). getD w′ j 0) (sym s) ∙ A .at (c - a) (omega arith) ∙ er ∙ sym e)
-      (λ (e : h < g).
-      let s : suc h + (g - suc h) ≡ g = omega arith in
-      let u = rw s at (rise S (suc h) (g - suc h) (omega arith)) in
-      kept-at K (t .owners + c) (omega arith) ∙ O .owner h c e lo hi)
-      (last-or h g l);
-}
-
 rowed-step : {v w w′ : List ℕ} {t : Plan} {ccw : Bool} (g : ℕ) (n : V3) → Rowed v w t ccw g → Kept (t .rows + 7 * g) w w′
     → at3 w′ (t .rows + 7 * g) ≡ n → unitAt w′ (t .rows + 7 * g + 3) ≡ unitOf n → n ≡ facingIn v t ccw g → Rowed v w′ t ccw (g + 1)
 unfolding normalIn unitIn
@@ -110,17 +93,6 @@ rowed-step {v} {w} {w′} {t} {ccw} g n R K en eu f = record {
 }
 
 -- ---- a turn of the loops
-
-pub owners-next : {v w w′ : List ℕ} {t : Plan} (g a b r : ℕ) → Sound v t → Kept (t .owners) v w → OwnedTo v w t g → g < t .faces
-    → a ≡ startIn w t g → b ≡ startIn w t (suc g) → Kept (t .owners + a) w w′ → AllAre w′ (t .owners + a) (b - a) r → r ≡ g
-    → Kept (t .owners) v w′ × Sound w′ t × OwnedTo v w′ t (g + 1)
-owners-next {v} {w} {w′} {t} g a b r S K O k ea eb L A er =
-    let R = S .room in
-    let M = kept-then K L (omega arith) in (
-      M,
-      sound-kept M t (omega arith) S,
-      owned-step g a b r S O k (ea ∙ start-kept K t g (omega arith)) (eb ∙ start-kept K t (suc g) (omega arith)) L A er,
-    )
 
 pub rows-next : {v w w′ : List ℕ} {t : Plan} {ccw : Bool} (g : ℕ) (n : V3) → Sound v t → Kept (t .rows) v w → Rowed v w t ccw g → g < t .faces
     → n ≡ facingIn w t ccw g → Kept (t .rows + 7 * g) w w′ → at3 w′ (t .rows + 7 * g) ≡ n → unitAt w′ (t .rows + 7 * g + 3) ≡ unitOf n
@@ -175,7 +147,7 @@ module _ (w w₁ : List ℕ) (a : ℕ) (v : V3) (k : Unit) (h : a + 7 ≤ length
 below : {w : List ℕ} {t : Plan} → Sound w t → Owned w t → (n c : ℕ) → n ≤ t .faces → c < startIn w t n → ownerIn w t c < t .faces
 below {w} {t} S O zero c h l = absurd (not-suc-le-zero (rw (S .first) at l))
 below {w} {t} S O (suc n) c h l =
-    ⊎-elim (λ (b : startIn w t n ≤ c). rw (O .owner n c h b l) h) (λ (b : c < startIn w t n). below S O n c (omega arith) b) (le-or-lt (startIn w t n) c)
+    ⊎-elim (λ (b : startIn w t n ≤ c). rw (O .at n c h b l) h) (λ (b : c < startIn w t n). below S O n c (omega arith) b) (le-or-lt (startIn w t n) c)
 
 pub made : {v w x y : List ℕ} {t : Plan} {ccw : Bool} → Sound v t → Kept (t .owners) v w → OwnedTo v w t (t .faces)
     → Kept (t .rows) w x → Rowed w x t ccw (t .faces) → Kept (t .heads) x y → Chained (seg x (t .gathers) (t .count)) y (t .heads) (t .spots) (t .nexts) 0 → Made v y t ccw
@@ -188,11 +160,11 @@ made {v} {w} {x} {y} {t} {ccw} S K O L P M C =
     let len = KLM .len in
     let lx = M .len in
     let own : Owned y t = record {
-      owner = λ g c k lo hi.
+      at = λ g c k lo hi.
           let e = start-kept KLM t g (omega arith) in
           let f = start-kept KLM t (suc g) (omega arith) in
           let m = start-le S (suc g) k in
-          owner-kept LM t c (omega arith) ∙ O .owner g c k (omega arith) (omega arith);
+          owner-kept LM t c (omega arith) ∙ O .at g c k (omega arith) (omega arith);
     } in
     record {
       kept = KLM;

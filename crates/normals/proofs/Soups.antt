@@ -80,7 +80,7 @@ module _ {w : List ℕ} {t : Plan} (S : Sound w t) (O : Owned w t) (F : Frame) (
       let d : a + (b - a) ≡ b = omega arith in
       let H = hit n (facing F (faceIn w t n)) in
       let same : (j : ℕ) → j < b - a → hitIn w t (a + j) ≡ H = λ j k.
-      ap (λ (o : ℕ). hit o (normalIn w t o)) (O .owner n (a + j) h (omega arith) (omega arith)) ∙ ap (hit n) (E n h) in
+      ap (λ (o : ℕ). hit o (normalIn w t o)) (O .at n (a + j) h (omega arith) (omega arith)) ∙ ap (hit n) (E n h) in
       rw d at (hits-run w t (S .room) p H (b - a) a (omega arith) same)))
 
   normal-generated : (g p : ℕ) → g < t .faces → normalAt w t (F .crease) g p ≡ generated F (soupIn w t) g (faceIn w t g) p
@@ -101,7 +101,7 @@ module _ {w : List ℕ} {t : Plan} (S : Sound w t) (O : Owned w t) (F : Frame) (
       let d : a + (b - a) ≡ b = omega arith in
       let k : b - a + (t .count - b) ≡ t .count - a = omega arith in
       let N : ℕ → V3 = λ (c : ℕ). generated F (soupIn w t) n (faceIn w t n) (gatherIn w t c) in
-      let same : (j : ℕ) → j < b - a → N (a + j) ≡ C (a + j) = λ j l. sym (ap (λ (o : ℕ). normalAt w t (F .crease) o (gatherIn w t (a + j))) (O .owner n (a + j) h (omega arith) (omega arith))
+      let same : (j : ℕ) → j < b - a → N (a + j) ≡ C (a + j) = λ j l. sym (ap (λ (o : ℕ). normalAt w t (F .crease) o (gatherIn w t (a + j))) (O .at n (a + j) h (omega arith) (omega arith))
       ∙ normal-generated n (gatherIn w t (a + j)) h) in
       let f : faceNormals F (soupIn w t) n (faceIn w t n) ≡ tab C (b - a) a
       = map-tab (cornerIn w t) (λ (c : Corner). generated F (soupIn w t) n (faceIn w t n) (c .gather)) (b - a) a ∙ tab-ext N C (b - a) a same in

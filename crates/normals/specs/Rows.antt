@@ -15,7 +15,7 @@ use Rattle.mesh.specs.Normals.{facing, Hit}
 use Rattle.tables.specs.declared.layout.Plan.{Plan}
 use Rattle.tables.specs.Kept.{seg, Kept}
 use Rattle.tables.specs.Layout.{Room}
-use Rattle.tables.specs.Soups.{ownerIn, startIn, faceIn, frameIn, Sound}
+use Rattle.tables.specs.Soups.{ownerIn, startIn, faceIn, frameIn, Sound, Spread}
 use Rattle.normals.specs.Chain.{usesFrom, Chained}
 
 -- three words from a, as a vector
@@ -52,8 +52,8 @@ abbrev pub hitsAt : List ℕ → Plan → ℕ → List Hit
 hitsAt w t p = hitsFrom w t p 0
 
 -- the corners of the first n faces have their owners, by the words v
-pub record OwnedTo (v w : List ℕ) (t : Plan) (n : ℕ) : Type 0 where
-  pub owner : (g c : ℕ) → g < n → startIn v t g ≤ c → c < startIn v t (suc g) → ownerIn w t c ≡ g
+abbrev pub OwnedTo : List ℕ → List ℕ → Plan → ℕ → Type 0
+OwnedTo v w t n = Spread v w t (λ g. g) n
 
 -- the first n rows are made, from the words v
 pub record Rowed (v w : List ℕ) (t : Plan) (ccw : Bool) (n : ℕ) : Type 0 where

@@ -7,3 +7,5 @@ pub mod Room
 pub mod Stays
 pub mod Joins
 pub mod Held
+pub mod Spreads
+pub mod Listings

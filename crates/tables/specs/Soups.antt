@@ -84,3 +84,7 @@ pub record Holds (w : List ℕ) (t : Plan) (F : Frame) (fs : List Face) : Type 0
   pub points : pointsIn w t ≡ F .points
   pub full : dense fs ≡ fs
   pub faces : map (map bare) fs ≡ soupIn w t
+
+-- the corners of the first n faces have, in the table of owners, f of their face; the first corners are those of the words v
+pub record Spread (v w : List ℕ) (t : Plan) (f : ℕ → ℕ) (n : ℕ) : Type 0 where
+  pub at : (g c : ℕ) → g < n → startIn v t g ≤ c → c < startIn v t (suc g) → ownerIn w t c ≡ f g

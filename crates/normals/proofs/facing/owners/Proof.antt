@@ -5,7 +5,7 @@ use Rattle.tables.specs.Kept.{Kept}
 use Rattle.tables.specs.Soups.{Sound}
 use Rattle.tables.proofs.Keep.{kept-all}
 use Rattle.normals.specs.Rows.{OwnedTo}
-use Rattle.normals.proofs.Making.{owners-next}
+use Rattle.tables.proofs.Spreads.{spread-none, spread-next}
 use borrow.Author.Needs.{needs}
 use Rattle.normals.proofs.facing.owners.Statement.{statement}
 use Rattle.normals.proofs.facing.owners.Tie as tie
@@ -17,7 +17,7 @@ abbrev μ-loop : tie.MeasureT-loop
 μ-loop work₀ t g₀ work g = t .faces - g
 
 loop-holds : tie.Need-loop-holds Inv-loop μ-loop
-loop-holds c = (omega arith, kept-all, c .before .pre, record { owner = λ h d l lo hi. omega arith })
+loop-holds c = (omega arith, kept-all, c .before .pre, spread-none)
 
 stretch-of-requires : tie.Need-stretch-of-requires Inv-loop μ-loop
 stretch-of-requires c κs = (c .before .before .before .loop .inv .2, c .before .if1 .taken)
@@ -44,7 +44,7 @@ loop-again : tie.Need-loop-again Inv-loop μ-loop
 loop-again c =
     let I = c .before .before .before .before .before .before .before .before .before .before .before .before .loop .inv in
     let E = c .before .before .before .before .before .before .before .before .stretch-of .ensures in
-    let k = owners-next _ _ _ _ (c .before .before .before .before .before .before .before .before .before .before .before .before .before .before .pre) (I .1) (I .3) (c .before .before .before .before .before .before .before .before .before .before .if1 .taken) (E .from) (E .to) (c .before .before .fill .ensures .kept) (c .before .before .fill .ensures .all) (c .before .before .before .narrow .ensures) in
+    let k = spread-next _ _ _ _ (c .before .before .before .before .before .before .before .before .before .before .before .before .before .before .pre) (I .1) (I .3) (c .before .before .before .before .before .before .before .before .before .before .if1 .taken) (E .from) (E .to) (c .before .before .fill .ensures .kept) (c .before .before .fill .ensures .all) (c .before .before .before .narrow .ensures) in
     (omega (arith, c .before .before .before .before .before .before .before .before .before .before .if1 .taken), k .0, k .1, k .2)
 
 same-length : tie.Need-same-length Inv-loop μ-loop

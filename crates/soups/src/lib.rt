@@ -1,0 +1,4 @@
+// From listed faces to what the vertices are made of: generated normals, and the face number of each corner (FORMAT 7.1, 10.2).
+mod ready;
+
+pub use ready::prepare;
