@@ -1,1 +1,3 @@
 -- The laws and proofs of the crate.
+mod Floats
+mod Corners
