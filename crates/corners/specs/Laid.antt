@@ -1,6 +1,7 @@
 -- FORMAT 4: where the tables of the corners stand while vertices are made.
 use Prim.Native.Nat.{ℕ, _+_, _*_, _≤_}
 use Rattle.tables.specs.Layout.{most}
+use Rattle.tables.specs.declared.layout.Plan.{Plan}
 use Rattle.vertices.specs.declared.places.Chains.{Chains}
 use Rattle.corners.specs.declared.laid.CornerTables.{CornerTables}
 
@@ -21,6 +22,10 @@ tablesAt count points spots corners named places numbers =
       heads = heads;
       nexts = heads + spots;
     }
+
+-- where a plan has them; the face numbers stand where the owners stood
+unfoldable pub tablesOf : Plan → CornerTables
+tablesOf t = tablesAt (t .count) (t .points) (t .spots) (t .corners) (t .named) (t .places) (t .owners)
 
 -- in len words: points and corners below the vertex numbers; then places, face numbers, texture, heads and nexts
 pub record Laid (t : CornerTables) (len : ℕ) : Type 0 where

@@ -22,9 +22,10 @@ use Rattle.vertices.specs.declared.places.Widths.{Widths}
 use Rattle.normals.specs.Written.{Generated}
 use Rattle.normals.proofs.Joined.{corner-written}
 use Rattle.corners.specs.declared.attributes.Attributes.{Attributes}
+use Rattle.corners.specs.Laid.{tablesOf}
 use Rattle.corners.specs.Corner.{Lent, generatedAt, keyIn}
 use Rattle.soups.specs.Prepared.{normalsAfter, Prepared}
-use Rattle.soups.specs.Keyed.{tablesOf, Reads, Textures}
+use Rattle.soups.specs.Keyed.{Reads, Textures}
 use Rattle.soups.proofs.Keyed.{three-at, keys-held}
 
 -- v the words as listed, w as made ready, w′ with the texture; d the floats before

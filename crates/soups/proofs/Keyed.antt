@@ -37,9 +37,9 @@ use Rattle.normals.specs.Written.{Generated}
 use Rattle.normals.proofs.Joined.{corner-written}
 use Rattle.corners.specs.declared.attributes.Attributes.{Attributes}
 use Rattle.corners.specs.declared.laid.CornerTables.{CornerTables}
-use Rattle.corners.specs.Laid.{tablesAt}
+use Rattle.corners.specs.Laid.{tablesAt, tablesOf}
 use Rattle.corners.specs.Corner.{Lent, pointAt, placeAt, numberAt, textureAt, generatedAt, normalAt, colourAt, wordsAt, keyIn}
-use Rattle.soups.specs.Keyed.{tablesOf, Reads, Textured, Textures}
+use Rattle.soups.specs.Keyed.{Reads, Textured, Textures}
 
 -- pieces that are the parts of one table
 join-tab : {A B : Type 0} (g : ℕ → A → List B) (k : ℕ → B) (start : ℕ → ℕ) (d : A) (n : ℕ) (l : List A)
@@ -156,15 +156,15 @@ module _ {L : Lent} {a : Attributes} {widths : Widths} {w : List ℕ} {t : Plan}
     is = listed-corner E corner j i h used
 
     point-is : pointAt w (tablesOf t) c ≡ q .point
-    unfolding pointAt tablesAt pointIn c n u
+    unfolding pointAt tablesOf tablesAt pointIn c n u
     point-is = E .points j i h used ∙ sym (R .point n u .0) ∙ sym (ap (λ (x : Corner). x .point) is)
 
     place-is : placeAt w (tablesOf t) c ≡ u .place
-    unfolding placeAt tablesAt placeIn c u
+    unfolding placeAt tablesOf tablesAt placeIn c u
     place-is = E .places j i h used
 
     number-is : numberAt w (tablesOf t) c ≡ n
-    unfolding numberAt tablesAt ownerIn c n
+    unfolding numberAt tablesOf tablesAt ownerIn c n
     number-is = numbers j i h used
 
     normal-is : normalAt L a w (tablesOf t) c ≡ cornerNormal F (facesWith corner ls) j f q

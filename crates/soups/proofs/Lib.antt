@@ -2,3 +2,4 @@
 mod Generating
 pub mod Keyed
 pub mod Handed
+pub mod Streams

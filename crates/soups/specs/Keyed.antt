@@ -14,13 +14,8 @@ use Rattle.tables.specs.Soups.{startIn}
 use Rattle.tables.specs.Listed.{Use, Listing, noUse, noListing, usesAt}
 use Rattle.vertices.specs.declared.places.Widths.{Widths}
 use Rattle.corners.specs.declared.attributes.Attributes.{Attributes}
-use Rattle.corners.specs.declared.laid.CornerTables.{CornerTables}
-use Rattle.corners.specs.Laid.{tablesAt}
+use Rattle.corners.specs.Laid.{tablesOf}
 use Rattle.corners.specs.Corner.{Lent, textureAt}
-
--- FORMAT 4: the tables of the corners, where a plan has them; the face numbers stand over the owners
-abbrev pub tablesOf : Plan → CornerTables
-tablesOf t = tablesAt (t .count) (t .points) (t .spots) (t .corners) (t .named) (t .places) (t .owners)
 
 -- what a corner is made of: its point; where normals are supplied, the one that the block has at its place or face; its colour and texture, where they are made
 pub record Reads (L : Lent) (a : Attributes) (widths : Widths) (corner : ℕ → Use → Corner) : Type 0 where

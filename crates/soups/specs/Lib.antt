@@ -1,3 +1,4 @@
 -- Tables made ready for the vertices, and what a corner's key is read from.
 pub mod Prepared
 pub mod Keyed
+pub mod Attributes

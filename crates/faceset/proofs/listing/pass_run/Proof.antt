@@ -1,0 +1,54 @@
+use mathlib.Core.Path.{sym, _∙_}
+use Rattle.faceset.proofs.Turns.{turn-fits, turn-kept, turn-lost}
+use borrow.Author.Needs.{needs}
+use Rattle.faceset.proofs.listing.pass_run.Statement.{statement}
+use Rattle.faceset.proofs.listing.pass_run.Tie as tie
+
+run-at-requires : tie.Need-run-at-requires
+run-at-requires c κs = search needs
+
+next-start-requires : tie.Need-next-start-requires
+next-start-requires c κs = search needs
+
+is-kept-requires : tie.Need-is-kept-requires
+is-kept-requires c κs = search needs
+
+put-face-requires : tie.Need-put-face-requires
+put-face-requires c κs = turn-fits (c .before .before .before .before .before .before .before .pre .0) (c .before .before .before .before .before .before .before .pre .1) (c .before .before .before .before .before .before .before .pre .2) (c .before .before .before .before .run-at .ensures) (c .before .before .before .next-start .ensures) (sym (c .before .before .is-kept .ensures) ∙ c .before .if1 .taken)
+
+add-t12 : tie.Need-add-t12
+add-t12 c = search needs
+
+add-t13 : tie.Need-add-t13
+add-t13 c = search needs
+
+add-t16 : tie.Need-add-t16
+add-t16 c = search needs
+
+same-length : tie.Need-same-length
+same-length c = search needs
+
+returns : tie.Need-returns
+returns c = turn-kept (c .before .before .before .before .before .before .before .before .before .before .before .before .before .pre .0) (c .before .before .before .before .before .before .before .before .before .before .before .before .before .pre .1) (c .before .before .before .before .before .before .before .before .before .before .before .before .before .pre .2) (c .before .before .before .before .before .before .before .before .before .before .run-at .ensures) (c .before .before .before .before .before .before .before .before .before .next-start .ensures) (sym (c .before .before .before .before .before .before .before .before .is-kept .ensures) ∙ c .before .before .before .before .before .before .before .if1 .taken) (c .before .before .before .before .before .put-face .ensures)
+
+add-t17 : tie.Need-add-t17
+add-t17 c = search needs
+
+returns-2 : tie.Need-returns-2
+returns-2 c = turn-lost (c .before .before .before .before .before .before .before .pre .0) (c .before .before .before .before .before .before .before .pre .1) (c .before .before .before .before .before .before .before .pre .2) (c .before .before .before .before .run-at .ensures) (c .before .before .before .next-start .ensures) (sym (c .before .before .is-kept .ensures) ∙ c .before .if1 .left)
+
+pub pass-run-spec : {M : Type 1} → statement M
+pass-run-spec =
+    tie.close
+    (tie.spec
+    run-at-requires
+    next-start-requires
+    is-kept-requires
+    put-face-requires
+    add-t12
+    add-t13
+    add-t16
+    same-length
+    returns
+    add-t17
+    returns-2)

@@ -1,0 +1,63 @@
+use native.Mathlib.Omega.{arith}
+use Prim.Native.Nat.{_+_, _-_}
+use Rattle.faceset.proofs.Writing.{Writing, writing-none, writing-more, writing-end}
+use borrow.Author.Needs.{needs}
+use Rattle.faceset.proofs.listing.put_places.Statement.{statement}
+use Rattle.faceset.proofs.listing.put_places.Tie as tie
+
+abbrev Inv-loop : tie.InvT-loop
+Inv-loop work₀ at start n i₀ work i = Writing at n (λ k. start + k) work₀ work i
+
+abbrev μ-loop : tie.MeasureT-loop
+μ-loop work₀ at start n i₀ work i = n - i
+
+loop-holds : tie.Need-loop-holds Inv-loop μ-loop
+loop-holds c = writing-none
+
+add-narrow : tie.Need-add-narrow Inv-loop μ-loop
+add-narrow c = search needs
+
+narrow-requires : tie.Need-narrow-requires Inv-loop μ-loop
+narrow-requires c κs = search needs
+
+add-work : tie.Need-add-work Inv-loop μ-loop
+add-work c = search needs
+
+mul-work : tie.Need-mul-work Inv-loop μ-loop
+mul-work c = search needs
+
+slice-write-work : tie.Need-slice-write-work Inv-loop μ-loop
+slice-write-work c = omega (arith, c .before .before .loop .inv .kept .len)
+
+add-i : tie.Need-add-i Inv-loop μ-loop
+add-i c = search needs
+
+loop-less : tie.Need-loop-less Inv-loop μ-loop
+loop-less c = search needs
+
+loop-again : tie.Need-loop-again Inv-loop μ-loop
+loop-again c = writing-more _ (c .before .before .before .before .pre .0) (c .before .before .loop .inv) (c .before .loop-test .taken) (c .narrow .ensures)
+
+same-length : tie.Need-same-length Inv-loop μ-loop
+same-length c = c .before .loop .inv .kept .len
+
+returns : tie.Need-returns Inv-loop μ-loop
+returns c = writing-end (c .before .loop .inv) (c .loop-test .left)
+
+pub put-places-spec : {M : Type 1} → statement M
+put-places-spec =
+    tie.close
+    (tie.spec
+    Inv-loop
+    μ-loop
+    loop-holds
+    add-narrow
+    narrow-requires
+    add-work
+    mul-work
+    slice-write-work
+    add-i
+    loop-less
+    loop-again
+    same-length
+    returns)

@@ -1,0 +1,62 @@
+use native.Mathlib.Omega.{arith}
+use Prim.Native.Nat.{_-_}
+use lib.ListN.{getD}
+use Rattle.bits.specs.Bits.{entries}
+use Rattle.bits.proofs.Entries.{entries-length}
+use Rattle.faceset.proofs.Writing.{Writing, writing-none, writing-more, writing-end, copied-of}
+use borrow.Author.Needs.{needs}
+use Rattle.faceset.proofs.points.put_points.Statement.{statement}
+use Rattle.faceset.proofs.points.put_points.Tie as tie
+
+abbrev Inv-loop : tie.InvT-loop
+Inv-loop list work₀ at n i₀ work i = Writing at n (λ k. getD (entries list) k 0) work₀ work i
+
+abbrev μ-loop : tie.MeasureT-loop
+μ-loop list work₀ at n i₀ work i = n - i
+
+loop-holds : tie.Need-loop-holds Inv-loop μ-loop
+loop-holds c = writing-none
+
+entry-requires : tie.Need-entry-requires Inv-loop μ-loop
+entry-requires c κs = search needs
+
+add-work : tie.Need-add-work Inv-loop μ-loop
+add-work c = search needs
+
+mul-work : tie.Need-mul-work Inv-loop μ-loop
+mul-work c = search needs
+
+slice-write-work : tie.Need-slice-write-work Inv-loop μ-loop
+slice-write-work c = omega (arith, c .before .before .loop .inv .kept .len)
+
+add-i : tie.Need-add-i Inv-loop μ-loop
+add-i c = search needs
+
+loop-less : tie.Need-loop-less Inv-loop μ-loop
+loop-less c = search needs
+
+loop-again : tie.Need-loop-again Inv-loop μ-loop
+loop-again c = writing-more _ (c .before .before .before .before .before .pre .1) (c .before .before .loop .inv) (c .before .loop-test .taken) (c .entry .ensures)
+
+same-length : tie.Need-same-length Inv-loop μ-loop
+same-length c = c .before .loop .inv .kept .len
+
+returns : tie.Need-returns Inv-loop μ-loop
+returns c = copied-of (c .before .before .before .before .pre .1) (omega (arith, entries-length (c .before .before .before .before .args .list .now))) (writing-end (c .before .loop .inv) (c .loop-test .left))
+
+pub put-points-spec : {M : Type 1} → statement M
+put-points-spec =
+    tie.close
+    (tie.spec
+    Inv-loop
+    μ-loop
+    loop-holds
+    entry-requires
+    add-work
+    mul-work
+    slice-write-work
+    add-i
+    loop-less
+    loop-again
+    same-length
+    returns)

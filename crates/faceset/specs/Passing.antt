@@ -1,0 +1,71 @@
+-- FORMAT 6.1, 6.2: a pass over the runs of coordIndex that lists the kept ones.
+use mathlib.Core.Path.{_≡_}
+use mathlib.Core.List.{List}
+use Prim.Native.Nat.{ℕ, suc, _+_, _/_, _≤_, _<_}
+use lib.ListN.{length, getD, drop}
+use Rattle.bits.specs.Bits.{entries}
+use Rattle.block.specs.Runs.{runs, runsLeft, faces, corners, sumOver}
+use Rattle.mesh.specs.Lists.{joinN}
+use Rattle.tables.specs.declared.layout.Plan.{Plan}
+use Rattle.tables.specs.Kept.{Kept}
+use Rattle.tables.specs.Layout.{most, Room}
+use Rattle.tables.specs.Soups.{pointIn, startIn, numberIn, placeIn}
+use Rattle.tables.specs.Listed.{noUse, noListing, Listing, usesAt, Listed}
+use Rattle.faceset.specs.declared.listing.Progress.{Progress}
+use Rattle.faceset.specs.Listings.{listed, listingsOf}
+use Rattle.faceset.specs.Written.{More}
+
+-- the plan is that of the kept faces of coordIndex, whose bytes are bs, in len words (FORMAT 3: no list has more than 8,192 entries)
+pub record Planned (points : ℕ) (bs : List ℕ) (len : ℕ) (t : Plan) : Type 0 where
+  pub room : Room len t
+  pub gathers : t .gathers ≡ t .corners
+  pub spots : t .spots ≡ points
+  pub faces : t .faces ≡ sumOver (faces points) (runs (entries bs))
+  pub count : t .count ≡ sumOver (corners points) (runs (entries bs))
+  pub few : length bs / 4 ≤ most
+
+-- there is room for one more face, of n corners
+pub record Fits (len : ℕ) (t : Plan) (p : Progress) (n : ℕ) : Type 0 where
+  pub room : Room len t
+  pub face : p .faces < t .faces
+  pub corners : p .corners + n ≤ t .count
+  pub places : p .start + n ≤ most
+  pub number : p .runs ≤ most
+
+-- one more face, of the entries es: each table has its words more
+pub record FaceAdded (t : Plan) (p : Progress) (es w w′ : List ℕ) : Type 0 where
+  pub kept : Kept (t .corners) w w′
+  pub points : More w w′ (t .corners) (p .corners) (length es) (λ i. getD es i 0)
+  pub places : More w w′ (t .places) (p .corners) (length es) (λ i. p .start + i)
+  pub numbers : More w w′ (t .numbers) (p .faces) 1 (λ i. p .runs)
+  pub starts : More w w′ (t .starts) (suc (p .faces)) 1 (λ i. p .corners + length es)
+
+-- the first g of the faces ls are listed, with their c corners: Listed, as far as it has come
+pub record ListedTo (w : List ℕ) (t : Plan) (ls : List Listing) (g c : ℕ) : Type 0 where
+  pub first : startIn w t 0 ≡ 0
+  pub starts : (j : ℕ) → j < g → startIn w t (suc j) ≡ startIn w t j + length (usesAt ls j)
+  pub last : startIn w t g ≡ c
+  pub within : (k : ℕ) → k < c → pointIn w t k < t .spots
+  pub numbers : (j : ℕ) → j < g → numberIn w t j ≡ getD ls j noListing .number
+  pub points : (j i : ℕ) → j < g → i < length (usesAt ls j) → pointIn w t (startIn w t j + i) ≡ getD (usesAt ls j) i noUse .point
+  pub places : (j i : ℕ) → j < g → i < length (usesAt ls j) → placeIn w t (startIn w t j + i) ≡ getD (usesAt ls j) i noUse .place
+
+-- the runs before p .start are passed: what they give is listed, and what is left is given by the runs that are left
+pub record Underway (points : ℕ) (bs w : List ℕ) (t : Plan) (p : Progress) : Type 0 where
+  pub start : p .start ≤ length bs / 4 + 1
+  pub runs : p .runs ≤ p .start
+  pub faces : p .faces + sumOver (faces points) (runsLeft (entries bs) (p .start)) ≡ t .faces
+  pub corners : p .corners + sumOver (corners points) (runsLeft (entries bs) (p .start)) ≡ t .count
+  pub left : drop (p .faces) (listingsOf points (entries bs)) ≡ joinN (listed points) (p .runs) (runsLeft (entries bs) (p .start))
+  pub made : ListedTo w t (listingsOf points (entries bs)) (p .faces) (p .corners)
+
+-- one run more
+pub record Turned (points : ℕ) (bs w w′ : List ℕ) (t : Plan) (p r : Progress) : Type 0 where
+  pub kept : Kept (t .corners) w w′
+  pub underway : Underway points bs w′ t r
+  pub later : p .start < r .start
+
+-- all runs
+pub record FacesListed (points : ℕ) (bs : List ℕ) (t : Plan) (w w′ : List ℕ) : Type 0 where
+  pub listed : Listed w′ t (listingsOf points (entries bs))
+  pub kept : Kept (t .corners) w w′
