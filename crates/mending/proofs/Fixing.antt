@@ -17,6 +17,7 @@ use Rattle.math.specs.declared.vector.Unit.the-variants.{Of, Nothing}
 use Rattle.math.specs.Vector.{yAxis, vlen, unitOf, one as oneF}
 use Rattle.math.specs.Order.{magnitude}
 use Rattle.polygon.specs.Loops.{tab}
+use Rattle.polygon.proofs.Tabs.{length-tab}
 use Rattle.mesh.specs.Lists.{mapN, flat}
 use Rattle.mesh.specs.Words.{words3, floats, bits, pointWords}
 use Rattle.mesh.specs.Mend.{visible, orWords, renorm, vertexSpot, firstNormal, mendBy, mended}
@@ -24,7 +25,7 @@ use Rattle.mesh.specs.Mesh.{meshOf}
 use Rattle.mesh.proofs.Lists.{All-of, length-words, length-mapN, or-right}
 use Rattle.mending.specs.Mend.{lentFrame, lentKey, lentKeys, mendedWords, found, Firsts, isNone, badAt, anyBad, Served}
 use Rattle.mending.proofs.Threes.{Threes, threes-start, threes-go, threes-end}
-use Rattle.mending.proofs.Lent.{length-tab, first-same, spot-in, spot-out}
+use Rattle.mending.proofs.Lent.{first-same, spot-in, spot-out}
 
 -- ---- one vertex whose normal can be scaled: it is scaled where it is visibly off length 1, else kept
 

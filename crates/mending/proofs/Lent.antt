@@ -8,6 +8,7 @@ use native.Mathlib.Omega.{arith}
 use lib.Dec.{eqb}
 use lib.ListN.{length, getD, List·getD-eq-default}
 use Rattle.polygon.specs.Loops.{tab, All}
+use Rattle.polygon.proofs.Tabs.{length-tab, getD-tab}
 use Rattle.polygon.specs.Points.{spot}
 use Rattle.mesh.specs.Words.{floats, pointWords}
 use Rattle.mesh.specs.Soup.{Frame}
@@ -16,18 +17,6 @@ use Rattle.mesh.specs.Vertices.{Key, noKey}
 use Rattle.mesh.specs.Mend.{vertexSpot, triNormal, firstNormal}
 use Rattle.mending.specs.Mend.{lentFrame, lentKey, lentKeys}
 
-module _ {A : Type 0} (f : ℕ → A) where
-  pub length-tab : (k i : ℕ) → length (tab f k i) ≡ k
-  unfolding tab
-  length-tab zero i = refl
-  length-tab (suc k) i = ap suc (length-tab k (suc i))
-
-  pub tab-at : (k i j : ℕ) (d : A) → j < k → getD (tab f k i) j d ≡ f (i + j)
-  unfolding tab
-  tab-at zero i j d h = let z : ⊥ = omega arith in absurd z
-  tab-at (suc k) i zero d h = ap f (sym (add-zero i))
-  tab-at (suc k) i (suc j) d h = tab-at k (suc i) j d (omega arith) ∙ ap f (suc-add i j ∙ sym (add-suc i j))
-
 pub floats-spot : (ps : List ℕ) (v : ℕ) → floats (pointWords ps v) ≡ spot ps v
 unfolding pointWords spot
 floats-spot ps v = refl
@@ -35,7 +24,7 @@ floats-spot ps v = refl
 module _ (ps ns : List ℕ) (count : ℕ) where
   pub key-at : (v : ℕ) → v < count → getD (lentKeys ns count) v noKey ≡ lentKey ns v
   unfolding lentKeys
-  key-at v h = tab-at (lentKey ns) count 0 v noKey h ∙ ap (lentKey ns) (zero-add v)
+  key-at v h = getD-tab (lentKey ns) count 0 v noKey h ∙ ap (lentKey ns) (zero-add v)
 
   -- a vertex, and what is read beyond the last
   pub spot-in : (v : ℕ) → v < count → vertexSpot (lentFrame ps) (lentKeys ns count) v ≡ floats (pointWords ps v)

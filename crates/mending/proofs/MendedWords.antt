@@ -8,6 +8,7 @@ use lib.Seq.{ext-getD, drop-at}
 use Rattle.bits.specs.declared.Words3.{Words3}
 use Rattle.math.specs.Vector.{unitOf}
 use Rattle.polygon.specs.Loops.{All}
+use Rattle.polygon.proofs.Tabs.{length-tab}
 use Rattle.mesh.specs.Lists.{mapN, flat}
 use Rattle.mesh.specs.Words.{words3, floats, pointWords, no3}
 use Rattle.mesh.specs.Soup.{Frame}
@@ -16,7 +17,7 @@ use Rattle.mesh.specs.Mend.{vertexSpot, mendBy, mended}
 use Rattle.mesh.specs.Mesh.{meshOf}
 use Rattle.mesh.proofs.Lists.{All-map, getD-map-lt, length-mapN, getD-mapN, length-words}
 use Rattle.mending.specs.Mend.{lentFrame, lentKey, lentKeys, mendedWords}
-use Rattle.mending.proofs.Lent.{length-tab, floats-spot, key-at, spot-in, first-same}
+use Rattle.mending.proofs.Lent.{floats-spot, key-at, spot-in, first-same}
 
 -- the words of vertex v, in a slice that begins with those of l
 words-front : (l : List Words3) (r : List ℕ) (v : ℕ) (d : Words3) → v < length l → pointWords (flat (map words3 l) ++ r) v ≡ getD l v d

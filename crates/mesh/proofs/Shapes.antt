@@ -7,11 +7,12 @@ use native.Mathlib.Omega.{arith}
 use lib.ListN.{length}
 use Rattle.bits.specs.declared.Words4.{Words4}
 use Rattle.polygon.specs.Loops.{tab}
+use Rattle.polygon.proofs.Tabs.{tab-same}
 use Rattle.mesh.specs.FaceSet.{Rest}
 use Rattle.mesh.specs.Quads.{quad}
 use Rattle.mesh.specs.Grid.{xDimension, zDimension, gridCorner, gridFace, gridFaces}
 use Rattle.mesh.specs.Extrusion.{Extrusion, sideCorner, sides}
-use Rattle.mesh.proofs.Tabs.{tab-same, tabs-tab}
+use Rattle.mesh.proofs.Tabs.{tabs-tab}
 
 -- the number of the quad in row q / w and column q % w is q
 quad-number : (q w : ℕ) → q % w + q / w * w ≡ q

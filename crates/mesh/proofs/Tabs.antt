@@ -7,41 +7,11 @@ use native.Mathlib.Numerals.{add-one}
 use native.Mathlib.Omega.{arith}
 use lib.ListN.{length, getD, length-append}
 use Rattle.polygon.specs.Loops.{tab}
+use Rattle.polygon.proofs.Tabs.{tab-shift, tab-add}
 use Rattle.mesh.specs.Lists.{mapN, total, flat}
 use Rattle.mesh.specs.Quads.{tabs}
 
 module _ {A : Type 0} where
-  pub length-tab : (f : ℕ → A) (k i : ℕ) → length (tab f k i) ≡ k
-  unfolding tab
-  length-tab f zero i = refl
-  length-tab f (suc k) i = ap suc (length-tab f k (suc i))
-
-  pub getD-tab : (f : ℕ → A) (k i t : ℕ) (d : A) → t < k → getD (tab f k i) t d ≡ f (i + t)
-  unfolding tab
-  getD-tab f zero i t d h = absurd (not-suc-le-zero h)
-  getD-tab f (suc k) i zero d h = ap f (sym (add-zero i))
-  getD-tab f (suc k) i (suc t) d h = getD-tab f k (suc i) t d (le-of-suc-le-suc h) ∙ ap f (suc-add i t ∙ sym (add-suc i t))
-
-  pub tab-at : (f : ℕ → A) (n i : ℕ) (d : A) → i < n → getD (tab f n 0) i d ≡ f i
-  tab-at f n i d h = getD-tab f n 0 i d h ∙ ap f (zero-add i)
-
-  -- f from i on is g from j on
-  pub tab-shift : (f g : ℕ → A) (k i j : ℕ) → ((t : ℕ) → t < k → f (i + t) ≡ g (j + t)) → tab f k i ≡ tab g k j
-  unfolding tab
-  tab-shift f g zero i j h = refl
-  tab-shift f g (suc k) i j h =
-      ap₂ (λ (x : A) (l : List A). x ∷ l)
-      (ap f (sym (add-zero i)) ∙ h 0 (omega arith) ∙ ap g (add-zero j))
-      (tab-shift f g k (suc i) (suc j) (λ t l. ap f (suc-add i t ∙ sym (add-suc i t)) ∙ h (suc t) (omega arith) ∙ ap g (add-suc j t ∙ sym (suc-add j t))))
-
-  pub tab-same : (f g : ℕ → A) (k : ℕ) → ((t : ℕ) → t < k → f t ≡ g t) → tab f k 0 ≡ tab g k 0
-  tab-same f g k h = tab-shift f g k 0 0 (λ t l. rw zero-add (h t l))
-
-  pub tab-add : (f : ℕ → A) (a b i : ℕ) → tab f (a + b) i ≡ tab f a i ++ tab f b (i + a)
-  unfolding tab
-  tab-add f zero b i = rw (zero-add, add-zero) refl
-  tab-add f (suc a) b i = rw (suc-add) (ap (λ (l : List A). f i ∷ l) (tab-add f a b (suc i) ∙ ap (λ (j : ℕ). tab f a (suc i) ++ tab f b j) (suc-add i a ∙ sym (add-suc i a))))
-
   -- rows of m, by number
   pub tabs-tab : (f : ℕ → ℕ → A) (n m : ℕ) → 0 < m → tabs f n m ≡ tab (λ k. f (k / m) (k % m)) (n * m) 0
   unfolding tabs tab flat

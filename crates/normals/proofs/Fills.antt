@@ -11,12 +11,12 @@ use borrow.Rule.Slice.PartMut.{putMid}
 use Rattle.math.specs.declared.vector.V3.{V3}
 use Rattle.block.specs.declared.crease.CreaseRule.{CreaseRule}
 use Rattle.polygon.specs.Loops.{tab}
+use Rattle.polygon.proofs.Tabs.{length-tab, tab-shift, tab-add}
 use Rattle.mesh.specs.Lists.{flat}
 use Rattle.tables.specs.declared.layout.Plan.{Plan}
 use Rattle.tables.specs.Soups.{gatherIn, startIn, Sound}
 use Rattle.tables.specs.Kept.{spliced}
 use Rattle.tables.proofs.Splices.{part-back, grow}
-use Rattle.tables.proofs.Tabs.{length-tab, tab-ext, tab-add}
 use Rattle.normals.specs.Rows.{Owned}
 use Rattle.normals.specs.Written.{three, spread, normalAt, cornerNormalIn}
 
@@ -45,7 +45,7 @@ module _ (f : ℕ → V3) where
   spread-step d e n a v q r =
       let k : 3 * n + 3 ≡ 3 * (n + 1) = omega arith in
       let m : spread (tab f (n + 1) a) ≡ spread (tab f n a) ++ three v
-      = ap spread (sym (tab-add f n 1 a)) ∙ spread-app (tab f n a) (tab f 1 (a + n)) ∙ ap (λ (x : V3). spread (tab f n a) ++ three x) (sym r) in
+      = ap spread (tab-add f n 1 a) ∙ spread-app (tab f n a) (tab f 1 (a + n)) ∙ ap (λ (x : V3). spread (tab f n a) ++ three x) (sym r) in
       grow (spread (tab f n a)) d e (three v) (3 * n) q (length-made n a)
       ∙ ap (λ (j : ℕ). spread (tab f n a) ++ three v ++ drop j d) k
       ∙ ap (λ (x : List Float). x ++ drop (3 * (n + 1)) d) (sym m)
@@ -72,13 +72,13 @@ faces-next w t rule d e ys g a b S O h ea eb q r =
     let u : a ≤ b = rw (ea, eb) (S .rises g h) in
     let n : length ys ≡ 3 * (b - a) = ap length r ∙ length-made G (b - a) a in
     let x : ys ≡ spread (tab F (b - a) a) =
-    r ∙ ap spread (tab-ext G F (b - a) a (λ j k. ap (λ (o : ℕ). normalAt w t rule o (gatherIn w t (a + j))) (sym (O .at g (a + j) h (omega arith) (omega arith))))) in
+    r ∙ ap spread (tab-shift G F (b - a) a a (λ j k. ap (λ (o : ℕ). normalAt w t rule o (gatherIn w t (a + j))) (sym (O .at g (a + j) h (omega arith) (omega arith))))) in
     let q′ : e ≡ spread (tab F a 0) ++ drop (3 * a) d = rw ea q in
     let m : a + (b - a) ≡ b = omega arith in
     let s : 3 * a + length ys ≡ 3 * b = omega arith in
     let y : spread (tab F a 0) ++ ys ≡ spread (tab F b 0)
     = ap (λ (z : List Float). spread (tab F a 0) ++ z) x ∙ sym (spread-app (tab F a 0) (tab F (b - a) a))
-    ∙ ap spread (ap (λ (k : ℕ). tab F a 0 ++ tab F (b - a) k) (sym (zero-add a)) ∙ tab-add F a (b - a) 0 ∙ ap (λ (k : ℕ). tab F k 0) m) in
+    ∙ ap spread (ap (λ (k : ℕ). tab F a 0 ++ tab F (b - a) k) (sym (zero-add a)) ∙ sym (tab-add F a (b - a) 0) ∙ ap (λ (k : ℕ). tab F k 0) m) in
     part-back (3 * a) (3 * b) e ys (omega arith) (omega arith)
     ∙ grow (spread (tab F a 0)) d e ys (3 * a) q′ (length-made F a 0)
     ∙ ap₂ (λ (z : List Float) (k : ℕ). z ++ drop k d) y s

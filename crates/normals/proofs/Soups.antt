@@ -12,13 +12,13 @@ use Rattle.math.specs.declared.vector.V3.{V3}
 use Rattle.math.specs.Vector.{yAxis, unitOf}
 use Rattle.block.specs.declared.crease.CreaseRule.{CreaseRule}
 use Rattle.polygon.specs.Loops.{tab}
+use Rattle.polygon.proofs.Tabs.{tab-shift, tab-add, map-tab}
 use Rattle.mesh.specs.Soup.{Corner, Frame}
 use Rattle.mesh.specs.Normals.{outline, facing, Hit, hits, hitsOf, incident, creaseSum, orElse, generated}
 use Rattle.tables.specs.declared.layout.Plan.{Plan}
 use Rattle.tables.specs.Layout.{Room}
 use Rattle.tables.specs.Soups.{gatherIn, startIn, cornerIn, faceIn, soupIn, frameIn, Sound}
 use Rattle.tables.proofs.Keep.{length-seg, seg-at}
-use Rattle.tables.proofs.Tabs.{tab-ext, tab-add, map-tab}
 use Rattle.tables.proofs.Stays.{start-le, face-kept, soup-kept}
 use Rattle.tables.proofs.Joins.{join-soup}
 use Rattle.normals.specs.Chain.{uses, usesFrom}
@@ -104,9 +104,9 @@ module _ {w : List ℕ} {t : Plan} (S : Sound w t) (O : Owned w t) (F : Frame) (
       let same : (j : ℕ) → j < b - a → N (a + j) ≡ C (a + j) = λ j l. sym (ap (λ (o : ℕ). normalAt w t (F .crease) o (gatherIn w t (a + j))) (O .at n (a + j) h (omega arith) (omega arith))
       ∙ normal-generated n (gatherIn w t (a + j)) h) in
       let f : faceNormals F (soupIn w t) n (faceIn w t n) ≡ tab C (b - a) a
-      = map-tab (cornerIn w t) (λ (c : Corner). generated F (soupIn w t) n (faceIn w t n) (c .gather)) (b - a) a ∙ tab-ext N C (b - a) a same in
+      = map-tab (cornerIn w t) (λ (c : Corner). generated F (soupIn w t) n (faceIn w t n) (c .gather)) (b - a) a ∙ tab-shift N C (b - a) a a same in
       ap (λ (l : List V3). l ++ tab C (t .count - b) b) f
-      ∙ ap (λ (x : ℕ). tab C (b - a) a ++ tab C (t .count - b) x) (sym d) ∙ tab-add C (b - a) (t .count - b) a ∙ ap (λ (x : ℕ). tab C x a) k))
+      ∙ ap (λ (x : ℕ). tab C (b - a) a ++ tab C (t .count - b) x) (sym d) ∙ sym (tab-add C (b - a) (t .count - b) a) ∙ ap (λ (x : ℕ). tab C x a) k))
     where
       none : (f : ℕ → V3) → tab f (t .count - t .count) (t .count) ≡ []
       none f = let z : t .count - t .count ≡ 0 = omega arith in rw z

@@ -12,6 +12,7 @@ use Rattle.polygon.specs.Loops.{pick, tab}
 use Rattle.polygon.specs.Ears.{Pt, Tri, triple, remove, fanFrom, fan, goes, firstEar, corner, clip, place, order, isReversed, turn, earClipBy, earClip, outline}
 use Rattle.polygon.specs.Face.{earClipMax, faceTris}
 use Rattle.polygon.proofs.Laws.{and-left, and-right}
+use Rattle.polygon.proofs.Tabs.{length-tab}
 
 pub length-remove : (i : ℕ) (l : List ℕ) → i < length l → length (remove i l) ≡ length l - 1
 unfolding remove
@@ -19,11 +20,6 @@ length-remove i [] h = let z : ⊥ = omega arith in absurd z
 length-remove zero (x ∷ l) h = omega arith
 length-remove (suc i) (x ∷ l) h =
     let r : length (remove i l) ≡ length l - 1 = length-remove i l (omega arith) in omega arith
-
-pub length-tab : (f : ℕ → ℕ) (k i : ℕ) → length (tab f k i) ≡ k
-unfolding tab
-length-tab f zero i = refl
-length-tab f (suc k) i = ap suc (length-tab f k (suc i))
 
 pub length-order : (rev : Bool) (n : ℕ) → length (order rev n) ≡ n
 unfolding order

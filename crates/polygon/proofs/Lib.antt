@@ -1,3 +1,4 @@
+pub mod Tabs
 pub mod Laws
 pub mod Lists
 pub mod Count

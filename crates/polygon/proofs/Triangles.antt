@@ -17,6 +17,7 @@ use Rattle.polygon.specs.Face.{faceTris, triangles}
 use Rattle.polygon.specs.Edges.{Within, edge, named, tris, around}
 use Rattle.polygon.proofs.Count.{length-outline, count-face, face-convex}
 use Rattle.polygon.proofs.Corners.{face-within, below}
+use Rattle.polygon.proofs.Tabs.{tab-at}
 use Rattle.polygon.proofs.Boundary.{face-boundary}
 use Rattle.polygon.proofs.Lists.{fan-start, fan-write, fan-written}
 use Rattle.polygon.proofs.Whole.{length-pairs, length-flat, map-same}
@@ -24,15 +25,9 @@ use Rattle.polygon.proofs.Projection.{length-projection, length-spots, 
 
 -- ---- the fan of an outline
 
-tab-at : (k i j : ℕ) → j < k → getD (tab (λ (n : ℕ). n) k i) j 0 ≡ i + j
-unfolding tab
-tab-at zero i j h = let z : ⊥ = omega arith in absurd z
-tab-at (suc k) i zero h = omega arith
-tab-at (suc k) i (suc j) h = tab-at k (suc i) j (omega arith) ∙ omega arith
-
 outline-at : (n j : ℕ) → j < n → getD (outline n) j 0 ≡ j
 unfolding outline
-outline-at n j h = tab-at n 0 j h ∙ zero-add j
+outline-at n j h = tab-at (λ (i : ℕ). i) n j 0 h
 
 -- t triangles of it are written in `out`, and these are left
 abbrev pub Rest : ℕ → List ℕ → ℕ → List ℕ

@@ -16,6 +16,7 @@ use Rattle.math.specs.Vector.{zero as zeroF}
 use Rattle.block.specs.declared.crease.CreaseRule.{CreaseRule}
 use Rattle.block.specs.Stream.{get3At, get4At}
 use Rattle.polygon.specs.Loops.{tab}
+use Rattle.polygon.proofs.Tabs.{length-tab, getD-tab, tab-add}
 use Rattle.mesh.specs.Lists.{joinN}
 use Rattle.mesh.specs.Words.{words2, words3, words4, no2, no3, no4, bits}
 use Rattle.mesh.specs.Soup.{Corner, noCorner, Face, Frame}
@@ -27,7 +28,6 @@ use Rattle.tables.specs.declared.layout.Plan.{Plan}
 use Rattle.tables.specs.Kept.{seg}
 use Rattle.tables.specs.Soups.{pointIn, placeIn, ownerIn, numberIn, startIn, Holds, Spread}
 use Rattle.tables.specs.Listed.{Use, Listing, noUse, noListing, facesWith, usesAt, Listed}
-use Rattle.tables.proofs.Tabs.{length-tab, tab-at, tab-add}
 use Rattle.tables.proofs.Stays.{start-le, rise}
 use Rattle.tables.proofs.Held.{faces-held, start-held}
 use Rattle.tables.proofs.Listings.{listed-sound, listed-long, listed-corner}
@@ -66,7 +66,7 @@ join-tab {A} {B} g k start d n (x ∷ l) rises same =
     let z : start (suc n) - start n + (start (n + suc (length l)) - start (suc n)) ≡ start (n + suc (length l)) - start n = omega arith in (
       omega arith,
       (λ i. q i ++ w i) ∙ ap (λ (m : ℕ). tab k (start (suc n) - start n) (start n) ++ tab k (start (n + suc (length l)) - start (suc n)) m) (sym s)
-          ∙ tab-add k (start (suc n) - start n) (start (n + suc (length l)) - start (suc n)) (start n) ∙ ap (λ (m : ℕ). tab k m (start n)) z,
+          ∙ sym (tab-add k (start (suc n) - start n) (start (n + suc (length l)) - start (suc n)) (start n)) ∙ ap (λ (m : ℕ). tab k m (start n)) z,
     )
 
 -- a soup that the tables hold, and a key for each corner
@@ -81,7 +81,7 @@ module _ {w : List ℕ} {t : Plan} {F : Frame} {fs : List Face} (H : Holds w t F
       let l : length (keysOf F fs j f) ≡ n = length-keys F fs j f ∙ omega arith in
       ext-getD noKey (keysOf F fs j f) (tab k n a) (l ∙ sym (length-tab k n a)) (λ i b.
       let b′ : i < length f = let q = length-keys F fs j f in omega arith in
-      getD-keys F fs j f i b′ ∙ sym (same j i h b′) ∙ sym (tab-at k n a i noKey (omega arith)))
+      getD-keys F fs j f i b′ ∙ sym (same j i h b′) ∙ sym (getD-tab k n a i noKey (omega arith)))
 
   pub keys-of : tab k (t .count) 0 ≡ joinN (keysOf F fs) 0 fs
   keys-of =

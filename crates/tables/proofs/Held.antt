@@ -10,10 +10,10 @@ use Rattle.mesh.specs.Lists.{total}
 use Rattle.mesh.specs.Soup.{Corner, noCorner, Face, dense, Frame}
 use Rattle.mesh.proofs.Lists.{getD-map-lt}
 use Rattle.polygon.specs.Loops.{tab}
+use Rattle.polygon.proofs.Tabs.{length-tab, getD-tab}
 use Rattle.tables.specs.declared.layout.Plan.{Plan}
 use Rattle.tables.specs.Kept.{Kept}
 use Rattle.tables.specs.Soups.{pointIn, gatherIn, startIn, pointsIn, plain, bare, cornerIn, faceIn, soupIn, Sound, Holds}
-use Rattle.tables.proofs.Tabs.{length-tab, tab-at}
 use Rattle.tables.proofs.Stays.{sound-kept, points-kept, soup-kept}
 
 -- what corner c of the tables has of a corner of the soup
@@ -35,7 +35,7 @@ module _ {w : List ℕ} {t : Plan} (S : Sound w t) (fs : List Face) (count : len
       ext-getD noCorner (map bare f) (tab (cornerIn w t) n a) (length-map f bare ∙ l ∙ sym (length-tab (cornerIn w t) n a)) (λ i b.
       let i-lt : i < length f = let q = length-map f bare in omega arith in
       let q = are j i h i-lt in
-      getD-map-lt bare f i noCorner noCorner i-lt ∙ sym (ap₂ plain (q .point) (q .gather)) ∙ sym (tab-at (cornerIn w t) n a i noCorner (omega arith)))
+      getD-map-lt bare f i noCorner noCorner i-lt ∙ sym (ap₂ plain (q .point) (q .gather)) ∙ sym (getD-tab (cornerIn w t) n a i noCorner (omega arith)))
 
   pub holds-of : (F : Frame) → pointsIn w t ≡ F .points → dense fs ≡ fs → Holds w t F fs
   unfolding soupIn
@@ -46,7 +46,7 @@ module _ {w : List ℕ} {t : Plan} (S : Sound w t) (fs : List Face) (count : len
     faces = ext-getD [] (map (map bare) fs) (tab (faceIn w t) (t .faces) 0) (length-map fs (map bare) ∙ count ∙ sym (length-tab (faceIn w t) (t .faces) 0)) (λ j b.
         let j-lt : j < t .faces = let q = length-map fs (map bare) in omega arith in
         getD-map-lt (map bare) fs j [] [] (omega arith) ∙ same-face j j-lt
-        ∙ sym (tab-at (faceIn w t) (t .faces) 0 j [] j-lt ∙ ap (faceIn w t) (zero-add j)));
+        ∙ sym (getD-tab (faceIn w t) (t .faces) 0 j [] j-lt ∙ ap (faceIn w t) (zero-add j)));
   }
 
 total-suc : (l : List Face) (j : ℕ) → j < length l → total length (take (suc j) l) ≡ total length (take j l) + length (getD l j [])
@@ -66,7 +66,7 @@ module _ {w : List ℕ} {t : Plan} {F : Frame} {fs : List Face} (H : Holds w t F
   face-held j h =
       let l = faces-held in
       sym (getD-map-lt (map bare) fs j [] [] (omega arith)) ∙ ap (λ (s : List Face). getD s j []) (H .faces)
-      ∙ tab-at (faceIn w t) (t .faces) 0 j [] h ∙ ap (faceIn w t) (zero-add j)
+      ∙ getD-tab (faceIn w t) (t .faces) 0 j [] h ∙ ap (faceIn w t) (zero-add j)
 
   pub start-held : (j : ℕ) → j < t .faces → startIn w t (suc j) ≡ startIn w t j + length (getD fs j [])
   unfolding faceIn
@@ -85,7 +85,7 @@ module _ {w : List ℕ} {t : Plan} {F : Frame} {fs : List Face} (H : Holds w t F
       let n = startIn w t (suc j) - a in
       let s = start-held j h in
       let e : cornerIn w t (a + i) ≡ bare (getD f i noCorner)
-      = sym (tab-at (cornerIn w t) n a i noCorner (omega arith)) ∙ sym (ap (λ (k : Face). getD k i noCorner) (face-held j h)) ∙ getD-map-lt bare f i noCorner noCorner b in
+      = sym (getD-tab (cornerIn w t) n a i noCorner (omega arith)) ∙ sym (ap (λ (k : Face). getD k i noCorner) (face-held j h)) ∙ getD-map-lt bare f i noCorner noCorner b in
       record { point = ap (λ (c : Corner). c .point) e; gather = ap (λ (c : Corner). c .gather) e }
 
   -- the corners of the faces before face j

@@ -8,13 +8,14 @@ use native.Mathlib.Numerals.{add-one}
 use native.Mathlib.Omega.{arith}
 use Rattle.block.specs.declared.crease.CreaseRule.{CreaseRule}
 use Rattle.polygon.specs.Loops.{tab}
+use Rattle.polygon.proofs.Tabs.{tab-shift, tab-same, map-tab}
 use Rattle.mesh.specs.Soup.{Corner, pointsOf}
 use Rattle.tables.specs.declared.layout.Plan.{Plan}
 use Rattle.tables.specs.declared.reading.Stretch.{Stretch}
 use Rattle.tables.specs.Kept.{seg, Kept}
 use Rattle.tables.specs.Soups.{pointIn, gatherIn, ownerIn, startIn, numberIn, placeIn, namedIn, pointsIn, plain, cornerIn, faceIn, soupIn, frameIn, Sound, Ends}
 use Rattle.tables.proofs.Keep.{kept-at, kept-seg}
-use Rattle.tables.proofs.Tabs.{tab-ext, map-tab, seg-tab}
+use Rattle.tables.proofs.Tabs.{seg-tab}
 
 -- ---- first corners
 
@@ -94,11 +95,11 @@ module _ {b : ℕ} {v w : List ℕ} (K : Kept b v w) (t : Plan) where
         let m = start-le S (suc g) k in
         let r = S .rises g k in
         ap₂ (λ (x y : ℕ). tab (cornerIn w t) (y - x) x) (start-kept g (omega arith)) (start-kept (suc g) (omega arith))
-        ∙ tab-ext (cornerIn w t) (cornerIn v t) (startIn v t (suc g) - startIn v t g) (startIn v t g) (λ j l. corner-kept (startIn v t g + j) (omega arith))
+        ∙ tab-shift (cornerIn w t) (cornerIn v t) (startIn v t (suc g) - startIn v t g) (startIn v t g) (startIn v t g) (λ j l. corner-kept (startIn v t g + j) (omega arith))
 
     pub soup-kept : soupIn w t ≡ soupIn v t
     unfolding soupIn
-    soup-kept = tab-ext (faceIn w t) (faceIn v t) (t .faces) 0 (λ j l. rw zero-add (face-kept j l))
+    soup-kept = tab-same (faceIn w t) (faceIn v t) (t .faces) face-kept
 
     pub frame-kept : (ccw : Bool) (rule : CreaseRule) → frameIn w t ccw rule ≡ frameIn v t ccw rule
     unfolding frameIn

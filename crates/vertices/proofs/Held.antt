@@ -12,7 +12,7 @@ use lib.ListN.{length, getD, set, take, drop, length-append, length-set}
 use lib.Seq.{sets, getD-append-seam, take-set-le}
 use Rattle.mesh.specs.Lists.{has, place, meet, firsts}
 use Rattle.mesh.specs.Vertices.{Key, sameKey}
-use Rattle.mesh.proofs.Lists.{All-append, All-getD, T-true, has-getD, firsts-distinct}
+use Rattle.mesh.proofs.Lists.{All-append, All-getD, T-true, has-getD, firsts-distinct, meet-old, meet-new}
 use Rattle.mesh.proofs.Keys.{sameKey-sound, sameKey-self}
 use Rattle.vertices.specs.declared.places.Widths.{Widths}
 use Rattle.vertices.specs.declared.places.Chains.{Chains}
@@ -68,14 +68,6 @@ module _ (w : Widths) (pts : List ℕ) (z : Store) (x₀ : List ℕ) (s : Store)
 
 -- ---- meeting a key
 
-pub meet-old : (ks : List Key) (k : Key) → has sameKey k ks ≡ true → meet sameKey ks k ≡ ks
-unfolding meet
-meet-old ks k e = ap (λ (b : Bool). cond b ks (ks ++ (k ∷ []))) e
-
-pub meet-new : (ks : List Key) (k : Key) → has sameKey k ks ≡ false → meet sameKey ks k ≡ ks ++ (k ∷ [])
-unfolding meet
-meet-new ks k e = ap (λ (b : Bool). cond b ks (ks ++ (k ∷ []))) e
-
 abbrev Own : List Key → Type 0
 Own ks = (i : ℕ) (d : Key) → i < length ks → place sameKey (getD ks i d) ks ≡ i
 
@@ -86,7 +78,7 @@ own-meet ks k D = firsts-distinct sameKey sameKey-self ks (k ∷ []) D
 -- a new key's number is the next
 pub place-new : (ks : List Key) (k : Key) → Own ks → has sameKey k ks ≡ false → place sameKey k (meet sameKey ks k) ≡ length ks
 place-new ks k D e =
-    let m = meet-new ks k e in
+    let m = meet-new sameKey k ks e in
     let l : length (ks ++ (k ∷ [])) ≡ length ks + 1 = length-append ks (k ∷ []) in
     let o : Own (ks ++ (k ∷ [])) = subst Own m (own-meet ks k D) in
     ap (place sameKey k) m
@@ -127,9 +119,9 @@ pub vertexed-old : (w : Widths) (t : Chains) (n : ℕ) (k : Key) (s : Store) (x 
 vertexed-old w t n k s x m p R C f h =
     record {
       number = λ z x₀ ks H e. let a = held-old w (pointsIn t m) z x₀ s x ks H (R .widths) k n p e f h in
-          sym (ap (place sameKey k) (meet-old ks k (a .0)) ∙ a .1);
+          sym (ap (place sameKey k) (meet-old sameKey k ks (a .0)) ∙ a .1);
       holds = λ z x₀ ks H e. let a = held-old w (pointsIn t m) z x₀ s x ks H (R .widths) k n p e f h in
-          subst (Holds w (pointsIn t m) z x₀ s x) (sym (meet-old ks k (a .0))) H;
+          subst (Holds w (pointsIn t m) z x₀ s x) (sym (meet-old sameKey k ks (a .0))) H;
       chained = subst (Chained t (s .sources) m) (count-same n (p - 1) (omega (arith, place-le w s n k))) C;
       front = refl;
       len = refl;
@@ -175,7 +167,7 @@ module _ (w : Widths) (t : Chains) (n v : ℕ) (l : List ℕ) (s : Store) (x m :
       let L = R .laid in
       record {
         number = λ z x₀ ks H e. sym (place-new ks k (H .distinct) (held-new w (pointsIn t m) z x₀ s x ks H W k n p e f h) ∙ e);
-        holds = λ z x₀ ks H e. let a = meet-new ks k (held-new w (pointsIn t m) z x₀ s x ks H W k n p e f h) in
+        holds = λ z x₀ ks H e. let a = meet-new sameKey k ks (held-new w (pointsIn t m) z x₀ s x ks H W k n p e f h) in
             subst (Holds w (pointsIn t m) z x₀ s′ x′) (sym a) (held-grow z x₀ ks H e (subst Own a (own-meet ks k (H .distinct))));
         chained = rw (A .sources, A .table, ← count-more n) (chain-grow t (s .sources) m n v C L b (omega (arith, R .roomy .sources)));
         front = ap (take (t .heads)) (A .table) ∙ linked-front t m n v (omega arith);

@@ -9,9 +9,10 @@ use lib.Dec.{T}
 use lib.ListN.{length, getD, set, length-append, length-map, length-set}
 use lib.Seq.{take-set-le}
 use Rattle.polygon.specs.Loops.{tab}
+use Rattle.polygon.proofs.Tabs.{length-tab, tab-add}
 use Rattle.mesh.specs.Lists.{has, place, meet, firsts, flat}
 use Rattle.mesh.specs.Vertices.{Key, sameKey}
-use Rattle.mesh.proofs.Lists.{T-true, middle, place-lt, length-firsts, firsts-append, has-firsts-new}
+use Rattle.mesh.proofs.Lists.{meet-old, meet-new, T-true, middle, place-lt, length-firsts, firsts-append, has-firsts-new}
 use Rattle.mesh.proofs.Keys.{sameKey-sound, sameKey-self}
 use Rattle.mesh.proofs.Facts.{number-stays}
 use Rattle.vertices.specs.declared.places.Widths.{Widths}
@@ -24,24 +25,14 @@ use Rattle.vertices.proofs.Seek.{cases}
 use Rattle.vertices.proofs.Keys.{roomy-le}
 use Rattle.vertices.proofs.Chains.{chained-none, chained-set}
 use Rattle.vertices.proofs.Rows.{length-filled, rows-stay, position-wide, normal-wide, colour-wide, texture-wide}
-use Rattle.vertices.proofs.Held.{laid-le, meet-old, meet-new, place-new, count-same, count-more}
+use Rattle.vertices.proofs.Held.{laid-le, place-new, count-same, count-more}
 
 -- ---- the vertices of the first corners
 
 module _ (f : ℕ → Key) where
-  length-tab : (k i : ℕ) → length (tab f k i) ≡ k
-  unfolding tab
-  length-tab zero i = refl
-  length-tab (suc k) i = ap suc (length-tab k (suc i))
-
-  tab-add : (k j i : ℕ) → tab f (k + j) i ≡ tab f k i ++ tab f j (i + k)
-  unfolding tab
-  tab-add zero j i = rw (add-zero i, zero-add j)
-  tab-add (suc k) j i = rw (suc-add k j, add-suc i k) (ap (λ (l : List Key). f i ∷ l) (tab-add k j (suc i) ∙ rw (suc-add i k)))
-
   tab-more : (c : ℕ) → tab f (c + 1) 0 ≡ tab f c 0 ++ (f c ∷ [])
   unfolding tab
-  tab-more c = tab-add c 1 0 ∙ rw (zero-add c)
+  tab-more c = tab-add f c 1 0 ∙ rw (zero-add c)
 
   pub made-none : madeOf f 0 ≡ []
   unfolding madeOf tab firsts
@@ -57,7 +48,7 @@ module _ (f : ℕ → Key) where
   unfolding madeOf
   made-few c =
       let a : length (firsts sameKey [] (tab f c 0)) ≤ 0 + length (tab f c 0) = length-firsts sameKey [] (tab f c 0) in
-      omega (arith, length-tab c 0)
+      omega (arith, length-tab f c 0)
 
   made-has : (c : ℕ) → T (has sameKey (f c) (madeOf f (c + 1)))
   unfolding madeOf has
@@ -68,7 +59,7 @@ module _ (f : ℕ → Key) where
 
   stays-by : (c j : ℕ) → place sameKey (f c) (madeOf f (c + 1 + j)) ≡ place sameKey (f c) (madeOf f (c + 1))
   unfolding madeOf
-  stays-by c j = ap (λ (l : List Key). place sameKey (f c) (firsts sameKey [] l)) (tab-add (c + 1) j 0) ∙ number-stays (f c) (tab f (c + 1) 0) (tab f j (0 + (c + 1))) (made-has c)
+  stays-by c j = ap (λ (l : List Key). place sameKey (f c) (firsts sameKey [] l)) (tab-add f (c + 1) j 0) ∙ number-stays (f c) (tab f (c + 1) 0) (tab f j (0 + (c + 1))) (made-has c)
 
   -- a number once given stays
   pub made-stays : (c m : ℕ) → c < m → place sameKey (f c) (madeOf f m) ≡ place sameKey (f c) (madeOf f (c + 1))
@@ -81,10 +72,10 @@ meet-count : (ks : List Key) (k : Key) → ((i : ℕ) (d : Key) → i < length k
     → length (meet sameKey ks k) ≡ countAfter (length ks) (place sameKey k (meet sameKey ks k))
 meet-count ks k D =
     ⊎-elim
-    (λ e. let m = meet-old ks k e in
+    (λ e. let m = meet-old sameKey k ks e in
     let l : place sameKey k ks < length ks = place-lt sameKey k ks (subst T (sym e) tt) in
     rw m (count-same (length ks) (place sameKey k ks) l))
-    (λ e. let m = meet-new ks k e in
+    (λ e. let m = meet-new sameKey k ks e in
     ap length m ∙ length-append ks (k ∷ []) ∙ count-more (length ks) ∙ ap (countAfter (length ks)) (sym (place-new ks k D e)))
     (cases (has sameKey k ks))
 
