@@ -33,7 +33,8 @@ use Rattle.faces.proofs.Joined.{made-joined}
 use Rattle.mending.specs.Mend.{mendedWords}
 use Rattle.mending.proofs.MendedWords.{mended-slice}
 use Rattle.build.specs.declared.shared.Shared.{Shared}
-use Rattle.build.specs.Built.{Told, Wide, part, over, Ready, Meshed, Built}
+use Rattle.lent.specs.Lent.{over}
+use Rattle.build.specs.Built.{Told, Wide, part, Ready, Meshed, Built}
 use Rattle.build.proofs.Asked.{storeOf, tables-kept}
 
 -- an attribute that is made, or not

@@ -1,9 +1,9 @@
 -- FORMAT 5, 10.3, 11, 12: the soup that the tables hold, with the keys of its corners; what is asked of the slices; and what they hold of the mesh.
 use mathlib.Core.Path.{_≡_}
 use mathlib.Core.Logic.{_⊎_}
-use mathlib.Core.List.{List, [], _++_}
+use mathlib.Core.List.{List, []}
 use Prim.Native.Nat.{ℕ, zero, suc, _+_, _*_, _-_, _^_, _≤_, _<_}
-use lib.ListN.{length, drop, replicate}
+use lib.ListN.{length, replicate}
 use lib.Ieee.{Float, binary32, ofBits}
 use Rattle.polygon.specs.Loops.{tab}
 use Rattle.mesh.specs.Lists.{joinN}
@@ -15,8 +15,9 @@ use Rattle.tables.specs.Soups.{startIn, Holds}
 use Rattle.vertices.specs.declared.places.Widths.{Widths}
 use Rattle.corners.specs.Laid.{tablesOf, Laid}
 use Rattle.corners.specs.Corner.{Lent, keyIn}
+use Rattle.lent.specs.declared.Counts.{Counts}
+use Rattle.lent.specs.Lent.{over}
 use Rattle.build.specs.declared.shared.Shared.{Shared}
-use Rattle.build.specs.declared.shared.Counts.{Counts}
 
 -- FORMAT 8, 11: the tables hold the soup of F and fs, and give each of its corners its key
 pub record Told (L : Lent) (s : Shared) (t : Plan) (w : List ℕ) (F : Frame) (fs : List Face) : Type 0 where
@@ -58,10 +59,6 @@ pub record Ready (L : Lent) (s : Shared) (t : Plan) (w : List ℕ) (o : Slices) 
 unfoldable pub part : ℕ → List ℕ → List ℕ
 part zero l = []
 part (suc n) l = l
-
--- FORMAT 5: what is made stands in front, and then what the slice held
-abbrev pub over : List ℕ → List ℕ → List ℕ
-over made held = made ++ drop (length made) held
 
 -- FORMAT 5: the slices o became m, which hold the mesh M
 pub record Meshed (widths : Widths) (M : Mesh) (o m : Slices) (r : Counts) : Type 0 where

@@ -2,6 +2,5 @@
 mod shared;
 mod whole;
 
-pub use shared::Counts;
 pub use shared::Shared;
 pub use whole::build;

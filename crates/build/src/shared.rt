@@ -1,4 +1,4 @@
-// What the faces of a soup share (FORMAT 8, PolyMesh), and how much is made of it.
+// What the faces of a soup share (FORMAT 8, PolyMesh).
 use corners::Attributes;
 use vertices::Widths;
 
@@ -7,10 +7,4 @@ pub struct Shared {
     pub convex: bool,
     pub widths: Widths,
     pub attributes: Attributes,
-}
-
-// FORMAT 5: how many vertices and how many indices.
-pub struct Counts {
-    pub vertices: usize,
-    pub indices: usize,
 }

@@ -1,10 +1,10 @@
 // FORMAT 5, 10.3, 11, 12, PolyMesh::build and then fix_zero_normals: all of it.
 ghost use Rattle.build.specs.Built.{Ready, Built};
-use crate::shared::Counts;
 use crate::shared::Shared;
 use corners::all_vertices;
 use corners::corner_tables;
 use faces::all_faces;
+use lent::Counts;
 use mending::fix_zero_normals;
 use tables::Plan;
 use tables::clear_floats;

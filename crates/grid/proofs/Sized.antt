@@ -1,0 +1,77 @@
+-- What is asked of a grid, its plan and its tables, from a block that was not refused.
+use mathlib.Core.Path.{_≡_, refl}
+use mathlib.Core.Bool.{Bool, true, false, _||_, true≢false}
+use mathlib.Core.List.{List}
+use Prim.Native.Nat.{ℕ, _+_, _-_, _*_, _≤_}
+use native.Mathlib.Omega.{arith}
+use borrow.Author.Tests.{ltb-false}
+use lib.Dec.{ltb}
+use lib.ListN.{length}
+use Rattle.bits.specs.Bits.{entries}
+use Rattle.bits.proofs.Fields.{field-lt}
+use Rattle.block.specs.declared.header.Header.{Header}
+use Rattle.block.specs.Header.{countsOf, headerOf}
+use Rattle.block.specs.Lists.{gridWidths, wordCount, listSize, listBytes}
+use Rattle.block.proofs.ListLaws.{widths-grid, size-by, list-entries}
+use Rattle.mesh.specs.Grid.{xDimension, zDimension}
+use Rattle.mesh.specs.Sizes.{quadCount, heightCount, isNoGrid}
+use Rattle.tables.specs.declared.layout.Plan.{Plan}
+use Rattle.tables.specs.Layout.{most, planOf}
+use Rattle.tables.specs.Soups.{pointIn}
+use Rattle.tables.specs.Listed.{Listing, Listed}
+use Rattle.tables.proofs.Room.{plan-fits}
+use Rattle.grid.specs.Sides.{Sides, Planned}
+use Rattle.grid.specs.Textures.{Placed}
+
+pub sides-of : (bs : List ℕ) (h : Header) → h ≡ headerOf bs → 2 ≤ xDimension h → 2 ≤ zDimension h → xDimension h * zDimension h ≤ most → Sides h
+unfolding headerOf countsOf
+sides-of bs h e x z f = record {
+  wide = x;
+  deep = z;
+  width = rw e (field-lt bs 20 14);
+  depth = rw e (field-lt bs 34 14);
+  few = f;
+}
+
+-- FORMAT 2.4, 2.5: of a block of the right length, the list of heights has as many entries as its count tells
+pub heights-in : (bs : List ℕ) (h : Header) → h .kind ≡ 2 → length bs ≡ 4 * wordCount (h .kind) (h .alpha) (h .counts) → (n : ℕ) → n ≤ heightCount h
+    → n ≤ length (entries (listBytes bs h 3))
+heights-in bs h k w n l =
+    let s : listSize (h .kind) (h .alpha) (h .counts) 3 ≡ 1 * heightCount h = size-by (h .kind) (h .alpha) (h .counts) (gridWidths (h .alpha)) 3 (widths-grid (h .kind) (h .alpha) k) in
+    omega (arith, list-entries bs h 3 w)
+
+-- FORMAT 3, 6: of a grid that has a shape
+pub shape-of : (h : Header) → isNoGrid h ≡ false → (2 ≤ xDimension h) × (2 ≤ zDimension h) × (xDimension h * zDimension h ≤ heightCount h)
+shape-of h e =
+    let r = none (ltb (xDimension h) 2) (ltb (zDimension h) 2) (ltb (heightCount h) (xDimension h * zDimension h)) e in
+    (ltb-false _ _ (r .0), ltb-false _ _ (r .1), ltb-false _ _ (r .2))
+  where
+    none : (a b c : Bool) → (a || (b || c)) ≡ false → (a ≡ false) × (b ≡ false) × (c ≡ false)
+    none false false false e = (refl, refl, refl)
+    none true b c e = absurd (true≢false e)
+    none false true c e = absurd (true≢false e)
+    none false false true e = absurd (true≢false e)
+
+-- FORMAT 4: the plan of a grid, in the words that are lent
+pub planned : (h : Header) (len : ℕ) → Sides h → 4 * quadCount h ≤ most → 8 * (4 * quadCount h + xDimension h * zDimension h) + 8 ≤ len
+    → Planned h len (planOf (xDimension h * zDimension h) (4 * quadCount h) (quadCount h))
+unfolding planOf
+planned h len S c l = record {
+  sides = S;
+  room = plan-fits (xDimension h * zDimension h) (4 * quadCount h) (quadCount h) len (S .few) c (omega arith) l;
+  gathers = refl;
+  spots = refl;
+  count = refl;
+  faces = refl;
+}
+
+-- the corners that are listed name points of the grid
+pub placed : (h : Header) (w : List ℕ) (t : Plan) (ls : List Listing) (textures : ℕ) → Listed w t ls → t .spots ≡ xDimension h * zDimension h → t .corners + t .count ≤ textures
+    → textures + 2 * t .count ≤ length w → Placed h w (t .corners) textures (t .count)
+unfolding pointIn
+placed h w t ls textures L s b r = record {
+  few = L .room .few;
+  below = b;
+  room = r;
+  within = λ c l. omega (arith, L .within c l);
+}

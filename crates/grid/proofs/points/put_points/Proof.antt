@@ -1,0 +1,96 @@
+use mathlib.Core.List.{List}
+use Prim.Native.Nat.{_<_}
+use lib.ListN.{length}
+use Rattle.grid.proofs.Stored.{Rows, rows-start, rows-more}
+use Rattle.mesh.specs.Grid.{xDimension, zDimension, gridPoint, gridPoints}
+use Rattle.mesh.specs.Words.{words3}
+use Rattle.block.specs.Lists.{listBytes}
+use Rattle.bits.specs.Bits.{entries}
+use mathlib.Core.Path.{_≡_, ap, _∙_}
+use Prim.Native.Nat.{ℕ, _*_, _-_, _≤_}
+use native.Mathlib.Omega.{arith}
+use borrow.Author.Needs.{needs}
+use Rattle.grid.proofs.points.put_points.Statement.{statement}
+use Rattle.grid.proofs.points.put_points.Tie as tie
+
+abbrev Inv-loop : tie.InvT-loop
+Inv-loop block h s work₀ at n heights k₀ work k = (k ≤ n) × (n ≡ xDimension h * zDimension h) × (heights ≡ listBytes block h 3) × Rows (λ (j : ℕ). words3 (gridPoint h s (entries (listBytes block h 3)) j)) at work₀ work k
+
+abbrev μ-loop : tie.MeasureT-loop
+μ-loop block h s work₀ at n heights k₀ work k = n - k
+
+array-read-wide : tie.Need-array-read-wide Inv-loop μ-loop
+array-read-wide c = search needs
+
+wide-requires : tie.Need-wide-requires Inv-loop μ-loop
+wide-requires c κs = search needs
+
+array-read-wide-2 : tie.Need-array-read-wide-2 Inv-loop μ-loop
+array-read-wide-2 c = search needs
+
+wide-requires-2 : tie.Need-wide-requires-2 Inv-loop μ-loop
+wide-requires-2 c κs = search needs
+
+mul-n : tie.Need-mul-n Inv-loop μ-loop
+mul-n c = let e : c .before .wide .result * c .wide2 .result ≡ xDimension (c .before .before .before .before .before .args .h) * zDimension (c .before .before .before .before .before .args .h) = λ i. c .before .wide .ensures i * c .wide2 .ensures i in omega (arith, c .before .before .before .before .before .pre .0 .few)
+
+list-part-requires : tie.Need-list-part-requires Inv-loop μ-loop
+list-part-requires c κs = search needs
+
+loop-holds : tie.Need-loop-holds Inv-loop μ-loop
+loop-holds c = (omega arith, λ i. c .before .before .wide .ensures i * c .before .wide2 .ensures i, c .list-part .ensures, rows-start _ _ _)
+
+mul-put3 : tie.Need-mul-put3 Inv-loop μ-loop
+mul-put3 c = omega (arith, c .before .before .loop .inv .1, c .before .before .before .before .before .before .before .before .before .pre .0 .few)
+
+add-put3 : tie.Need-add-put3 Inv-loop μ-loop
+add-put3 c = omega (arith, c .before .before .loop .inv .1, c .before .before .before .before .before .before .before .before .before .pre .0 .few, c .before .before .before .before .before .before .before .before .before .pre .2)
+
+grid-point-requires : tie.Need-grid-point-requires Inv-loop μ-loop
+grid-point-requires c κs = let q : c .before .before .loop .k < length (entries (listBytes (c .before .before .before .before .before .before .before .before .before .args .block .now) (c .before .before .before .before .before .before .before .before .before .args .h) 3)) = omega (arith, c .before .loop-test .taken, c .before .before .loop .inv .1, c .before .before .before .before .before .before .before .before .before .pre .1) in (c .before .before .before .before .before .before .before .before .before .pre .0, omega (arith, c .before .loop-test .taken, c .before .before .loop .inv .1), rw (c .before .before .before .list-part .ensures) q)
+
+put3-requires : tie.Need-put3-requires Inv-loop μ-loop
+put3-requires c κs = omega (arith, c .before .before .before .loop .inv .1, c .before .before .before .loop .inv .3 .kept .len, c .before .before .before .before .before .before .before .before .before .before .pre .2)
+
+add-k : tie.Need-add-k Inv-loop μ-loop
+add-k c = omega (arith, c .before .before .before .before .before .before .loop .inv .1, c .before .before .before .before .before .before .before .before .before .before .before .before .before .pre .0 .few)
+
+loop-less : tie.Need-loop-less Inv-loop μ-loop
+loop-less c = search needs
+
+loop-again : tie.Need-loop-again Inv-loop μ-loop
+loop-again c =
+    let I = c .before .before .before .before .before .before .loop .inv in
+    let l : c .before .before .before .before .before .before .loop .k < xDimension (c .before .before .before .before .before .before .before .before .before .before .before .before .before .args .h) * zDimension (c .before .before .before .before .before .before .before .before .before .before .before .before .before .args .h) = omega (arith, c .before .before .before .before .before .loop-test .taken, I .1) in
+    let v = c .before .before .before .grid-point .ensures ∙ ap (λ (x : List ℕ). gridPoint (c .before .before .before .before .before .before .before .before .before .before .before .before .before .args .h) (c .before .before .before .before .before .before .before .before .before .before .before .before .before .args .s) (entries x) (c .before .before .before .before .before .before .loop .k)) (c .before .before .before .before .before .before .before .list-part .ensures) in
+    (omega (arith, c .before .before .before .before .before .loop-test .taken), I .1, I .2, rows-more _ _ _ _ _ _ _ _ l (c .before .before .before .before .before .before .before .before .before .before .before .before .before .pre .2) (I .3) (ap words3 v) (c .before .before .put3 .ensures .0) (c .before .before .put3 .ensures .1))
+
+same-length : tie.Need-same-length Inv-loop μ-loop
+same-length c = c .before .loop .inv .3 .kept .len
+
+returns : tie.Need-returns Inv-loop μ-loop
+unfolding gridPoints
+returns c = let e : c .before .loop .k ≡ xDimension (c .before .before .before .before .before .before .before .before .args .h) * zDimension (c .before .before .before .before .before .before .before .before .args .h) = omega (arith, c .before .loop .inv .1) in (c .before .loop .inv .3 .kept, rw e at (c .before .loop .inv .3 .rows))
+
+pub put-points-spec : {M : Type 1} → statement M
+put-points-spec =
+    tie.close
+    (tie.spec
+    Inv-loop
+    μ-loop
+    array-read-wide
+    wide-requires
+    array-read-wide-2
+    wide-requires-2
+    mul-n
+    list-part-requires
+    loop-holds
+    mul-put3
+    add-put3
+    grid-point-requires
+    put3-requires
+    add-k
+    loop-less
+    loop-again
+    same-length
+    returns)

@@ -1,0 +1,47 @@
+use Rattle.grid.proofs.Held.{corners-asked, tables-written}
+use mathlib.Core.Path.{_∙_}
+use native.Mathlib.Omega.{arith}
+use borrow.Author.Needs.{needs}
+use Rattle.grid.proofs.quads.list_faces.Statement.{statement}
+use Rattle.grid.proofs.quads.list_faces.Tie as tie
+
+array-read-wide : tie.Need-array-read-wide
+array-read-wide c = search needs
+
+wide-requires : tie.Need-wide-requires
+wide-requires c κs = search needs
+
+put-corners-requires : tie.Need-put-corners-requires
+put-corners-requires c κs = corners-asked _ _ _ _ _ _ (c .before .before .before .before .pre) (c .before .wide .ensures) (omega (arith, c .before .before .before .before .pre .room))
+
+add-put-multiples : tie.Need-add-put-multiples
+add-put-multiples c = search needs
+
+put-multiples-requires : tie.Need-put-multiples-requires
+put-multiples-requires c κs = let P = c .before .before .before .before .before .before .before .before .before .pre in let R = P .room in (omega (arith, P .count, P .faces, R .few), omega (arith, c .before .before .before .before .put-corners .ensures .0 .len))
+
+put-corners-requires-2 : tie.Need-put-corners-requires-2
+put-corners-requires-2 c κs = let R = c .before .before .before .before .before .before .before .before .before .before .before .before .before .pre .room in let e = c .before .before .before .put-multiples .ensures .0 .len ∙ c .before .before .before .before .before .before .before .before .put-corners .ensures .0 .len in corners-asked _ _ _ _ _ _ (c .before .before .before .before .before .before .before .before .before .before .before .before .before .pre) (c .before .before .before .before .before .before .before .before .before .before .wide .ensures) (omega arith)
+
+put-multiples-requires-2 : tie.Need-put-multiples-requires-2
+put-multiples-requires-2 c κs = let R = c .before .before .before .before .before .before .before .before .before .before .before .before .before .before .before .before .before .pre .room in let e = c .before .before .before .put-corners2 .ensures .0 .len ∙ c .before .before .before .before .before .before .before .put-multiples .ensures .0 .len ∙ c .before .before .before .before .before .before .before .before .before .before .before .before .put-corners .ensures .0 .len in (omega arith, omega arith)
+
+same-length : tie.Need-same-length
+same-length c = search needs
+
+returns : tie.Need-returns
+returns c = tables-written _ _ _ _ _ _ _ _ (c .before .before .before .before .before .before .before .before .before .before .before .before .before .before .before .before .before .before .before .before .pre) (c .before .before .before .before .before .before .before .before .before .before .before .before .before .before .before .before .before .wide .ensures) (c .before .before .before .before .before .before .before .before .before .before .before .before .before .before .before .put-corners .ensures) (c .before .before .before .before .before .before .before .before .before .before .put-multiples .ensures) (c .before .before .before .before .before .before .put-corners2 .ensures) (c .before .before .put-multiples2 .ensures)
+
+pub list-faces-spec : {M : Type 1} → statement M
+list-faces-spec =
+    tie.close
+    (tie.spec
+    array-read-wide
+    wide-requires
+    put-corners-requires
+    add-put-multiples
+    put-multiples-requires
+    put-corners-requires-2
+    put-multiples-requires-2
+    same-length
+    returns)

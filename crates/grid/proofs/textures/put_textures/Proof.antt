@@ -1,0 +1,84 @@
+use Rattle.grid.specs.Textures.{gridTexture}
+use Rattle.texture.proofs.Filled.{textured-none, textured-more}
+use Rattle.texture.specs.Textured.{Textured}
+use Rattle.tables.proofs.Keep.{kept-at}
+use lib.ListN.{getD}
+use mathlib.Core.Path.{_≡_, _∙_, ap}
+use Prim.Native.Nat.{ℕ, _+_, _-_, _≤_}
+use native.Mathlib.Omega.{arith}
+use borrow.Author.Needs.{needs}
+use Rattle.grid.proofs.textures.put_textures.Statement.{statement}
+use Rattle.grid.proofs.textures.put_textures.Tie as tie
+
+abbrev Inv-loop : tie.InvT-loop
+Inv-loop block h s work₀ corners textures count c₀ work c = (c ≤ count) × Textured textures c (λ (j : ℕ). gridTexture block h s (getD work₀ (corners + j) 0)) work₀ work
+
+abbrev μ-loop : tie.MeasureT-loop
+μ-loop block h s work₀ corners textures count c₀ work c = count - c
+
+loop-holds : tie.Need-loop-holds Inv-loop μ-loop
+loop-holds c = (omega arith, textured-none _ _ _)
+
+add-wide : tie.Need-add-wide Inv-loop μ-loop
+add-wide c = omega (arith, c .before .before .before .before .pre .1 .below, c .before .before .before .before .pre .1 .room, c .loop-test .taken)
+
+mul-wide : tie.Need-mul-wide Inv-loop μ-loop
+mul-wide c = search needs
+
+slice-read-wide : tie.Need-slice-read-wide Inv-loop μ-loop
+slice-read-wide c = omega (arith, c .before .before .before .before .before .pre .1 .below, c .before .before .before .before .before .pre .1 .room, c .before .loop-test .taken, c .before .before .loop .inv .1 .kept .len)
+
+wide-requires : tie.Need-wide-requires Inv-loop μ-loop
+wide-requires c κs = search needs
+
+mul-put2 : tie.Need-mul-put2 Inv-loop μ-loop
+mul-put2 c = omega (arith, c .before .before .before .before .before .before .before .pre .1 .few, c .before .before .before .loop-test .taken)
+
+add-put2 : tie.Need-add-put2 Inv-loop μ-loop
+add-put2 c = omega (arith, c .before .before .before .before .before .before .before .pre .1 .room, c .before .before .before .loop-test .taken)
+
+texture-of-requires : tie.Need-texture-of-requires Inv-loop μ-loop
+texture-of-requires c κs = let q = c .before .wide .ensures ∙ kept-at (c .before .before .before .before .loop .inv .1 .kept) (c .before .before .before .before .before .before .before .args .corners + c .before .before .before .before .loop .c) (omega (arith, c .before .before .before .before .before .before .before .pre .1 .below, c .before .before .before .loop-test .taken)) in (c .before .before .before .before .before .before .before .pre .0, rw q (c .before .before .before .before .before .before .before .pre .1 .within (c .before .before .before .before .loop .c) (c .before .before .before .loop-test .taken)))
+
+put2-requires : tie.Need-put2-requires Inv-loop μ-loop
+put2-requires c κs = omega (arith, c .before .before .before .before .before .before .before .before .pre .1 .room, c .before .before .before .before .loop-test .taken, c .before .before .before .before .before .loop .inv .1 .kept .len)
+
+add-c : tie.Need-add-c Inv-loop μ-loop
+add-c c = omega (arith, c .before .before .before .before .before .before .before .before .before .before .before .pre .1 .few, c .before .before .before .before .before .before .before .loop-test .taken)
+
+loop-less : tie.Need-loop-less Inv-loop μ-loop
+loop-less c = omega (arith, c .before .before .before .before .before .before .before .loop-test .taken)
+
+loop-again : tie.Need-loop-again Inv-loop μ-loop
+loop-again c =
+    let T = c .before .before .before .before .before .before .before .before .loop .inv .1 in
+    let q = c .before .before .before .before .before .wide .ensures ∙ kept-at (T .kept) (c .before .before .before .before .before .before .before .before .before .before .before .args .corners + c .before .before .before .before .before .before .before .before .loop .c) (omega (arith, c .before .before .before .before .before .before .before .before .before .before .before .pre .1 .below, c .before .before .before .before .before .before .before .loop-test .taken)) in
+    let v = c .before .before .before .texture-of .ensures ∙ ap (gridTexture (c .before .before .before .before .before .before .before .before .before .before .before .args .block .now) (c .before .before .before .before .before .before .before .before .before .before .before .args .h) (c .before .before .before .before .before .before .before .before .before .before .before .args .s)) q in
+    (omega (arith, c .before .before .before .before .before .before .before .loop-test .taken), textured-more _ _ _ _ _ _ _ T v (c .before .before .put2 .ensures .0) (c .before .before .put2 .ensures .1))
+
+same-length : tie.Need-same-length Inv-loop μ-loop
+same-length c = c .before .loop .inv .1 .kept .len
+
+returns : tie.Need-returns Inv-loop μ-loop
+returns c = let e : c .before .loop .c ≡ c .before .before .before .before .args .count = omega (arith, c .before .loop .inv .0, c .loop-test .left) in rw e at (c .before .loop .inv .1)
+
+pub put-textures-spec : {M : Type 1} → statement M
+put-textures-spec =
+    tie.close
+    (tie.spec
+    Inv-loop
+    μ-loop
+    loop-holds
+    add-wide
+    mul-wide
+    slice-read-wide
+    wide-requires
+    mul-put2
+    add-put2
+    texture-of-requires
+    put2-requires
+    add-c
+    loop-less
+    loop-again
+    same-length
+    returns)

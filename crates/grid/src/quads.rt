@@ -1,0 +1,80 @@
+// FORMAT 8.3, elevation_grid (quad): the quads of a grid, as tables.
+ghost use mathlib.Core.Path.{_≡_};
+ghost use Prim.Native.Nat.{ℕ, _+_, _-_, _*_, _≤_, _<_};
+ghost use lib.ListN.{length};
+ghost use Rattle.mesh.specs.Grid.{xDimension, zDimension};
+ghost use Rattle.tables.specs.Kept.{Kept, TableOf};
+ghost use Rattle.tables.specs.Layout.{most};
+ghost use Rattle.tables.specs.Listed.{Listed};
+ghost use Rattle.grid.specs.Sides.{Planned};
+ghost use Rattle.grid.specs.Listings.{cornerPoint, gridListings};
+use block::Header;
+use tables::Plan;
+use tables::narrow;
+use tables::wide;
+
+// The number of the point in column i of row j.
+fn point_at(xd: usize, i: usize, j: usize) -> usize
+    requires { ⌜ (xd ≤ most) × (i ≤ most) × (j ≤ most) ⌝ }
+    ensures { λ r. ⌜ r ≡ i + j * xd ⌝ }
+{
+    i + j * xd
+}
+
+// The point of corner c, which is corner c % 4 of quad c / 4.
+fn corner_point(xd: usize, c: usize) -> usize
+    requires { ⌜ (2 ≤ xd) × (xd ≤ most) × (c ≤ most) ⌝ }
+    ensures { λ r. ⌜ r ≡ cornerPoint xd c ⌝ }
+{
+    let q = c / 4;
+    let i = q % (xd - 1);
+    let j = q / (xd - 1);
+    let k = c % 4;
+    if k == 0 {
+        return point_at(xd, i, j);
+    }
+    if k == 1 {
+        return point_at(xd, i, j + 1);
+    }
+    if k == 2 {
+        return point_at(xd, i + 1, j + 1);
+    }
+    point_at(xd, i + 1, j)
+}
+
+// The points of n corners, from place a on.
+fn put_corners(work: &mut [u32], a: usize, n: usize, xd: usize)
+    requires { ⌜ (2 ≤ xd) × (xd ≤ most) × (n ≤ most) × ((c : ℕ) → c < n → cornerPoint xd c ≤ most) × (a + n ≤ length (now work)) ⌝ }
+    ensures { λ _. ⌜ Kept a (now (work .entry)) (now (work .exit)) × TableOf (now (work .exit)) a n (cornerPoint xd) ⌝ }
+{
+    let mut c = 0;
+    while c < n {
+        work[a + c] = narrow(corner_point(xd, c));
+        c += 1;
+    }
+}
+
+// 0, by, 2 * by, ..: n of them, from place a on.
+fn put_multiples(work: &mut [u32], a: usize, n: usize, by: usize)
+    requires { ⌜ (by * n ≤ most + by) × (a + n ≤ length (now work)) ⌝ }
+    ensures { λ _. ⌜ Kept a (now (work .entry)) (now (work .exit)) × TableOf (now (work .exit)) a n (λ (j : ℕ). by * j) ⌝ }
+{
+    let mut j = 0;
+    while j < n {
+        work[a + j] = narrow(by * j);
+        j += 1;
+    }
+}
+
+// Quad q has number q and the corners from 4 * q on; a corner's place is its point.
+pub fn list_faces(h: Header, work: &mut [u32], t: Plan)
+    requires { ⌜ Planned h (length (now work)) t ⌝ }
+    ensures { λ _. ⌜ Kept (t .corners) (now (work .entry)) (now (work .exit)) × Listed (now (work .exit)) t (gridListings (xDimension h) (zDimension h)) ⌝ }
+{
+    let counts = h.counts;
+    let xd = wide(counts[0]);
+    put_corners(work, t.corners, t.count, xd);
+    put_multiples(work, t.starts, t.faces + 1, 4);
+    put_corners(work, t.places, t.count, xd);
+    put_multiples(work, t.numbers, t.faces, 1);
+}

@@ -1,0 +1,2 @@
+-- The laws of accepted blocks.
+pub mod Accepts

@@ -1,0 +1,57 @@
+-- FORMAT 3, 4, 5: a block that rows 1 to 7 of the table let pass, slices as long as it asks, and what they hold in the end.
+use mathlib.Core.Path.{_≡_}
+use mathlib.Core.Bool.{false}
+use mathlib.Core.List.{List, _++_}
+use Prim.Native.Nat.{ℕ, _+_, _*_, _≤_}
+use lib.ListN.{length, drop, replicate}
+use lib.Ieee.{Float, binary32, ofBits}
+use Rattle.block.specs.declared.header.Header.{Header}
+use Rattle.block.specs.declared.settings.Settings.{Settings}
+use Rattle.block.specs.Header.{headerOf}
+use Rattle.block.specs.Settings.{settingsOf}
+use Rattle.block.specs.Refusal.{Taken}
+use Rattle.mesh.specs.Mesh.{Mesh, Slices, slicesOf}
+use Rattle.mesh.specs.Sizes.{Sizes, sizesOf, isNoShape, isOverCorners}
+use Rattle.mesh.specs.Result.{madeOf}
+use Rattle.tables.specs.Layout.{most}
+use Rattle.lent.specs.declared.Counts.{Counts}
+
+-- FORMAT 3: h and s are what the block has, and none of the rows 1 to 7 holds
+pub record Accepted (limit : ℕ) (bs : List ℕ) (h : Header) (s : Settings) : Type 0 where
+  pub low : limit ≤ most
+  pub header : h ≡ headerOf bs
+  pub settings : s ≡ settingsOf bs
+  pub taken : Taken limit bs h
+  pub shape : isNoShape h ≡ false
+  pub corners : isOverCorners limit bs h ≡ false
+
+-- FORMAT 4: the slices o, w working numbers and f working floats are long enough for the sizes z
+pub record Enough (z : Sizes) (o : Slices) (w f : ℕ) : Type 0 where
+  pub positions : 3 * z .corners ≤ length (o .positions)
+  pub normals : 3 * z .corners ≤ length (o .normals)
+  pub colours : 4 * z .corners ≤ length (o .colours)
+  pub textures : 2 * z .corners ≤ length (o .textures)
+  pub sources : z .corners ≤ length (o .sources)
+  pub indices : z .indices ≤ length (o .indices)
+  pub words : 8 * (z .corners + z .points) + 8 ≤ w
+  pub floats : 8 * (z .corners + z .points) + 8 ≤ f
+
+-- FORMAT 5: what is made stands in front, and then what the slice held
+abbrev pub over : List ℕ → List ℕ → List ℕ
+over made held = made ++ drop (length made) held
+
+-- FORMAT 5: the slices o became m, which hold what is made of the mesh M of a block with header h
+pub record Shaped (h : Header) (M : Mesh) (o m : Slices) (r : Counts) : Type 0 where
+  pub vertices : r .vertices ≡ length (M .sources)
+  pub count : r .indices ≡ length (M .indices)
+  pub sources : m .sources ≡ over (madeOf h (slicesOf M) .sources) (o .sources)
+  pub positions : m .positions ≡ over (madeOf h (slicesOf M) .positions) (o .positions)
+  pub normals : m .normals ≡ over (madeOf h (slicesOf M) .normals) (o .normals)
+  pub colours : m .colours ≡ over (madeOf h (slicesOf M) .colours) (o .colours)
+  pub textures : m .textures ≡ over (madeOf h (slicesOf M) .textures) (o .textures)
+  pub indices : m .indices ≡ over (madeOf h (slicesOf M) .indices) (o .indices)
+
+-- FORMAT 4: the working slices w and f became w′ and f′, which hold zeros
+pub record Cleared (w w′ : List ℕ) (f f′ : List Float) : Type 0 where
+  pub words : w′ ≡ replicate (length w) 0
+  pub floats : f′ ≡ replicate (length f) (ofBits binary32 0)

@@ -1,0 +1,49 @@
+use Prim.Native.Nat.{_+_, _*_, _-_}
+use mathlib.Core.Path.{_≡_}
+use Rattle.tables.specs.Kept.{seg}
+use native.Mathlib.Omega.{arith}
+use borrow.Author.Needs.{needs}
+use Rattle.texture.proofs.filling.texture_at.Statement.{statement}
+use Rattle.texture.proofs.filling.texture_at.Tie as tie
+
+mul-end : tie.Need-mul-end
+mul-end c = search needs
+
+add-end : tie.Need-add-end
+add-end c = search needs
+
+mul-default-at : tie.Need-mul-default-at
+mul-default-at c = search needs
+
+sub-default-at : tie.Need-sub-default-at
+sub-default-at c = search needs
+
+part-default-at-start : tie.Need-part-default-at-start
+part-default-at-start c = search needs
+
+part-default-at-end : tie.Need-part-default-at-end
+part-default-at-end c = search needs
+
+default-at-requires : tie.Need-default-at-requires
+default-at-requires c κs = search needs
+
+corner-texture-requires : tie.Need-corner-texture-requires
+corner-texture-requires c κs = search needs
+
+returns : tie.Need-returns
+unfolding seg
+returns c = let e : c .before .before .before .before .before .before .args .points + 3 * c .before .before .before .before .before .before .args .spots - c .before .before .before .before .before .before .args .points ≡ 3 * c .before .before .before .before .before .before .args .spots = omega arith in rw (c .corner-texture .ensures, c .before .default-at .ensures, e)
+
+pub texture-at-spec : {M : Type 1} → statement M
+texture-at-spec =
+    tie.close
+    (tie.spec
+    mul-end
+    add-end
+    mul-default-at
+    sub-default-at
+    part-default-at-start
+    part-default-at-end
+    default-at-requires
+    corner-texture-requires
+    returns)
