@@ -104,13 +104,17 @@ normal-part : (n : Words3) (c : Words4) (x : Words2) (u : ℕ) → u ≡ 3 → t
 unfolding seg
 normal-part n c x u e = rw e refl
 
+-- an attribute read by its width, which is n or 0
+by-width : {A : Type 0} (read : ℕ → A) (n : ℕ) (q : A) (u : ℕ) → ((u ≡ n) × (q ≡ read n)) ⊎ ((u ≡ 0) × (q ≡ read 0)) → read u ≡ q
+by-width read n q u h = ⊎-elim (λ e. ap read (e .0) ∙ sym (e .1)) (λ e. ap read (e .0) ∙ sym (e .1)) h
+
 colour-part : (n : Words3) (c q : Words4) (x : Words2) (u : ℕ) → ((u ≡ 4) × (q ≡ c)) ⊎ ((u ≡ 0) × (q ≡ no4)) → four (seg (nine n c x) 3 u) ≡ q
 unfolding seg
-colour-part n c q x u h = ⊎-elim (λ e. ap (λ (k : ℕ). four (seg (nine n c x) 3 k)) (e .0) ∙ sym (e .1)) (λ e. ap (λ (k : ℕ). four (seg (nine n c x) 3 k)) (e .0) ∙ sym (e .1)) h
+colour-part n c q x u h = by-width (λ (k : ℕ). four (seg (nine n c x) 3 k)) 4 q u h
 
 texture-part : (n : Words3) (c : Words4) (x q : Words2) (u : ℕ) → ((u ≡ 2) × (q ≡ x)) ⊎ ((u ≡ 0) × (q ≡ no2)) → two (seg (nine n c x) 7 u) ≡ q
 unfolding seg
-texture-part n c x q u h = ⊎-elim (λ e. ap (λ (k : ℕ). two (seg (nine n c x) 7 k)) (e .0) ∙ sym (e .1)) (λ e. ap (λ (k : ℕ). two (seg (nine n c x) 7 k)) (e .0) ∙ sym (e .1)) h
+texture-part n c x q u h = by-width (λ (k : ℕ). two (seg (nine n c x) 7 k)) 2 q u h
 
 -- three floats from m on whose words are those of v
 pub three-at : (e : List Float) (m : ℕ) (v : Words3) → map (toBits binary32) (take 3 (drop m e)) ≡ words3 v
