@@ -1,0 +1,54 @@
+-- FORMAT 4, 8.4: the listed faces have as many corners as C says, three or more each, and each corner names one of P points.
+use mathlib.Core.Path.{_≡_, refl, ap, _∙_}
+use mathlib.Core.Bool.{Bool, true, false}
+use mathlib.Core.List.{List, []}
+use Prim.Native.Nat.{ℕ, _+_, _*_, _≤_, _<_}
+use native.Mathlib.Omega.{arith}
+use lib.ListN.{length, getD, length-map}
+use Rattle.block.specs.declared.header.Header.{Header}
+use Rattle.block.specs.Header.{headerOf}
+use Rattle.mesh.specs.Lists.{total}
+use Rattle.mesh.specs.Extrusion.{spineCount, sectionCount, sectionOf, capLength, hasCap}
+use Rattle.mesh.specs.Sizes.{one, sideCount, capCount, extrusionSizes}
+use Rattle.mesh.proofs.Lists.{All-getD}
+use Rattle.mesh.proofs.Tabs.{total-mapN}
+use Rattle.tables.specs.Listed.{Use, Listing, noUse, usesAt}
+use Rattle.extrusion.specs.Listings.{facePoints, useOf, extrusionListings}
+use Rattle.extrusion.proofs.Counting.{corners-count, three-there, face-full}
+use Rattle.extrusion.proofs.Inside.{Below, faces-below}
+use Rattle.extrusion.proofs.Tabled.{listings-length, uses-length, use-at}
+
+listed-total : (n m cap : ℕ) (b e : Bool) → total (λ (l : Listing). length (l .uses)) (extrusionListings n m cap b e) ≡ total length (facePoints n m cap b e)
+unfolding extrusionListings
+listed-total n m cap b e = total-mapN (λ (l : Listing). length (l .uses)) length _ (λ k ps. length-map ps useOf) 0 (facePoints n m cap b e)
+
+-- FORMAT 4: C
+pub listed-corners : (bs : List ℕ)
+    → total (λ (l : Listing). length (l .uses))
+    (extrusionListings (spineCount (headerOf bs)) (sectionCount (headerOf bs)) (capLength (sectionOf bs (headerOf bs))) (headerOf bs .«begin_cap») (headerOf bs .«end_cap»))
+    ≡ extrusionSizes bs (headerOf bs) .corners
+unfolding extrusionSizes
+listed-corners bs = listed-total _ _ _ _ _ ∙ corners-count (spineCount (headerOf bs)) (sectionCount (headerOf bs)) (capLength (sectionOf bs (headerOf bs))) (headerOf bs .«begin_cap») (headerOf bs .«end_cap»)
+
+module _ (n m cap : ℕ) (b e : Bool) (j : ℕ) (l : j < length (extrusionListings n m cap b e)) where
+  pub listed-full : 2 ≤ m → 3 ≤ length (usesAt (extrusionListings n m cap b e) j)
+  listed-full h =
+      let k : j < length (facePoints n m cap b e) = rw (listings-length n m cap b e) at l in
+      rw (uses-length n m cap b e j k) (face-full n m cap b e h j k)
+
+  pub listed-within : 2 ≤ n → cap ≤ m → (i : ℕ) → i < length (usesAt (extrusionListings n m cap b e) j) → getD (usesAt (extrusionListings n m cap b e) j) i noUse .point < n * m
+  listed-within hn hc i h =
+      let k : j < length (facePoints n m cap b e) = rw (listings-length n m cap b e) at l in
+      let q : i < length (getD (facePoints n m cap b e) j []) = rw (uses-length n m cap b e j k) at h in
+      rw (ap (λ (u : Use). u .point) (use-at n m cap b e j i k h))
+      (All-getD (λ (p : ℕ). p < n * m) (getD (facePoints n m cap b e) j []) (All-getD (Below n m cap b e hn hc) (facePoints n m cap b e) (faces-below n m cap b e hn hc) [] j k) 0 i q)
+
+-- FORMAT 4: a third of the corners is room for the faces
+pub faces-third : (h : Header) (cap : ℕ) → (sideCount h + capCount h cap) * 3 ≤ 4 * sideCount h + capCount h cap * cap
+faces-third h cap = go (hasCap (h .«begin_cap») cap) (hasCap (h .«end_cap») cap) refl refl
+  where
+    go : (s t : Bool) → hasCap (h .«begin_cap») cap ≡ s → hasCap (h .«end_cap») cap ≡ t → (sideCount h + (one s + one t)) * 3 ≤ 4 * sideCount h + (one s + one t) * cap
+    go true true p q = let c = three-there cap (h .«begin_cap») p in omega arith
+    go true false p q = let c = three-there cap (h .«begin_cap») p in omega arith
+    go false true p q = let c = three-there cap (h .«end_cap») q in omega arith
+    go false false p q = omega arith

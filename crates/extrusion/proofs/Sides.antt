@@ -1,0 +1,148 @@
+-- FORMAT 8.4: laws of the points of the faces, as they are written.
+use mathlib.Core.Path.{_≡_, refl, sym, ap, _∙_}
+use mathlib.Core.Bool.{Bool, true, false}
+use mathlib.Core.List.{List, [], _∷_, _++_, append-assoc, append-nil, reverse}
+use Prim.Native.Nat.{ℕ, zero, suc, _+_, _-_, _*_, _≤_, _<_}
+use native.Mathlib.Nat.{suc-mul, mul-le-mul-right}
+use native.Mathlib.Numerals.{add-one}
+use native.Mathlib.Omega.{arith}
+use lib.Dec.{leb}
+use lib.ListN.{length, set, length-append}
+use lib.Seq.{sets-eq}
+use Rattle.polygon.specs.Loops.{tab}
+use Rattle.polygon.proofs.Tabs.{length-tab}
+use Rattle.mesh.specs.Lists.{flat}
+use Rattle.mesh.specs.Quads.{tabs, quad}
+use Rattle.mesh.specs.Extrusion.{hasCap}
+use Rattle.mesh.proofs.Tabs.{tab-reverse}
+use Rattle.tables.specs.Layout.{most}
+use Rattle.tables.specs.Kept.{spliced}
+use Rattle.extrusion.specs.Listings.{spot, sidePoints, beginPoints, endPoints, facePoints}
+use Rattle.extrusion.proofs.Pieces.{flat-append, length-pieces, splice-more}
+
+-- four stores
+pub put-four : {A : Type 0} (l : List A) (k : ℕ) (a b c d : A) → k + 4 ≤ length l
+    → set (set (set (set l k a) (k + 1) b) (k + 2) c) (k + 3) d ≡ spliced l k (a ∷ b ∷ c ∷ d ∷ [])
+unfolding spliced
+put-four l k a b c d h =
+    let e : k + 3 ≡ suc (suc (suc k)) = omega arith in
+    let f : k + 2 ≡ suc (suc k) = omega arith in
+    rw (e, f, add-one) (sets-eq (a ∷ b ∷ c ∷ d ∷ []) l k h)
+
+next-row : (i m : ℕ) → (i + 1) * m ≡ i * m + m
+next-row i m = ap (λ (k : ℕ). k * m) (add-one i) ∙ suc-mul i m
+
+pub quad-is : (m i j a b c d : ℕ) → a ≡ i * m + j → b ≡ i * m + j + 1 → c ≡ i * m + j + m + 1 → d ≡ i * m + j + m → a ∷ b ∷ c ∷ d ∷ [] ≡ quad (spot m) i j
+unfolding quad
+quad-is m i j a b c d ea eb ec ed =
+    let s = next-row i m in
+    let fb : b ≡ i * m + (j + 1) = omega arith in
+    let fc : c ≡ (i + 1) * m + (j + 1) = omega arith in
+    let fd : d ≡ (i + 1) * m + j = omega arith in
+    λ t. ea t ∷ fb t ∷ fc t ∷ fd t ∷ []
+
+pub quad-length : {A : Type 0} (f : ℕ → ℕ → A) (i j : ℕ) → length (quad f i j) ≡ 4
+unfolding quad
+quad-length f i j = refl
+
+-- room for quad j of k quads
+pub quad-room : (k w j : ℕ) → j < w → k + j * 4 + 4 ≤ k + w * 4
+quad-room k w j h = omega arith
+
+-- the sides of a row
+pub row-width : (m i : ℕ) → length (flat (tab (quad (spot m) i) (m - 1) 0)) ≡ (m - 1) * 4
+row-width m i = length-pieces (quad (spot m) i) 4 (quad-length (spot m) i) (m - 1)
+
+flat-rows : {A : Type 0} (f : ℕ → ℕ → List A) (m n i : ℕ) → flat (tab (λ i. flat (tab (f i) m 0)) n i) ≡ flat (flat (tab (λ i. tab (f i) m 0) n i))
+unfolding tab flat
+flat-rows f m zero i = refl
+flat-rows f m (suc n) i =
+    ap (λ (r : List _). flat (tab (f i) m 0) ++ r) (flat-rows f m n (suc i)) ∙ sym (flat-append (tab (f i) m 0) (flat (tab (λ i. tab (f i) m 0) n (suc i))))
+
+pub sides-are : (n m : ℕ) → flat (tab (λ i. flat (tab (quad (spot m) i) (m - 1) 0)) (n - 1) 0) ≡ flat (sidePoints n m)
+unfolding tabs
+sides-are n m = flat-rows (quad (spot m)) (m - 1) (n - 1) 0
+
+-- points of row i and of the next
+pub rows-most : (n m i : ℕ) → n * m ≤ most → i < n - 1 → i * m + m + m ≤ most
+rows-most n m i h l =
+    let p : suc (suc i) * m ≤ n * m = mul-le-mul-right m (omega arith) in
+    omega (arith, suc-mul (suc i) m, suc-mul i m)
+
+pub last-row : (n m : ℕ) → 2 ≤ n → n * m ≡ (n - 1) * m + m
+last-row n m h = let e : n ≡ suc (n - 1) = omega arith in ap (λ (k : ℕ). k * m) e ∙ suc-mul (n - 1) m
+
+pub section-least : (n m : ℕ) → 2 ≤ n → m ≤ n * m
+section-least n m h = let e : 1 * m ≤ n * m = mul-le-mul-right m (omega arith) in omega arith
+
+-- ---- caps
+
+pub cap-yes : (w : Bool) (cap : ℕ) (r : Bool) → w ≡ true → r ≡ leb 3 cap → r ≡ hasCap w cap
+cap-yes w cap r e f = rw e f
+
+pub cap-no : (w : Bool) (cap : ℕ) → w ≡ false → false ≡ hasCap w cap
+cap-no w cap e = rw e refl
+
+module _ (w : Bool) (cap : ℕ) (t : Bool) (e : t ≡ hasCap w cap) where
+  pub begin-yes : t ≡ true → flat (beginPoints w cap) ≡ tab (λ j. cap - 1 - j) cap 0
+  unfolding beginPoints flat
+  begin-yes f = rw (← e, f) (append-nil (reverse (tab (λ j. j) cap 0)) ∙ tab-reverse (λ j. j) cap)
+
+  pub begin-no : t ≡ false → flat (beginPoints w cap) ≡ []
+  unfolding beginPoints flat
+  begin-no f = rw (← e, f) refl
+
+  pub end-yes : (p : ℕ) → t ≡ true → flat (endPoints w p cap) ≡ tab (λ j. p + j) cap 0
+  unfolding endPoints flat
+  end-yes p f = rw (← e, f) (append-nil (tab (λ j. p + j) cap 0))
+
+  pub end-no : (p : ℕ) → t ≡ false → flat (endPoints w p cap) ≡ []
+  unfolding endPoints flat
+  end-no p f = rw (← e, f) refl
+
+pub length-by : (p : List ℕ) (f : ℕ → ℕ) (n : ℕ) → p ≡ tab f n 0 → length p ≡ n
+length-by p f n e = ap length e ∙ length-tab f n 0
+
+-- ---- all faces
+
+pub flat-faces : (n m cap : ℕ) (b e : Bool)
+    → flat (facePoints n m cap b e) ≡ flat (sidePoints n m) ++ (flat (beginPoints b cap) ++ flat (endPoints e ((n - 1) * m) cap))
+unfolding facePoints
+flat-faces n m cap b e =
+    flat-append (sidePoints n m) (beginPoints b cap ++ endPoints e ((n - 1) * m) cap)
+    ∙ ap (λ (r : List ℕ). flat (sidePoints n m) ++ r) (flat-append (beginPoints b cap) (endPoints e ((n - 1) * m) cap))
+
+pub sides-width : (n m : ℕ) → length (flat (sidePoints n m)) ≡ (n - 1) * ((m - 1) * 4)
+sides-width n m = sym (ap length (sides-are n m)) ∙ length-pieces (λ i. flat (tab (quad (spot m) i) (m - 1) 0)) ((m - 1) * 4) (row-width m) (n - 1)
+
+-- the room of each part
+module _ (n m cap : ℕ) (b e : Bool) (k len : ℕ) (h : k + length (flat (facePoints n m cap b e)) ≤ len) where
+  whole-room : k + ((n - 1) * ((m - 1) * 4) + (length (flat (beginPoints b cap)) + length (flat (endPoints e ((n - 1) * m) cap)))) ≤ len
+  whole-room =
+      let x = sides-width n m in
+      let y = length-append (flat (beginPoints b cap)) (flat (endPoints e ((n - 1) * m) cap)) in
+      let z = ap length (flat-faces n m cap b e) ∙ length-append (flat (sidePoints n m)) (flat (beginPoints b cap) ++ flat (endPoints e ((n - 1) * m) cap)) in
+      omega arith
+
+  pub sides-room : k + (n - 1) * ((m - 1) * 4) ≤ len
+  sides-room = omega (arith, whole-room)
+
+  pub begin-room : k + (n - 1) * ((m - 1) * 4) + length (flat (beginPoints b cap)) ≤ len
+  begin-room = omega (arith, whole-room)
+
+  pub end-room : (a : ℕ) → a ≡ k + (n - 1) * ((m - 1) * 4) + length (flat (beginPoints b cap)) → a + length (flat (endPoints e ((n - 1) * m) cap)) ≤ len
+  end-room a q = omega (arith, whole-room)
+
+  pub uses-put : (l x y z : List ℕ) (a : ℕ) → len ≡ length l → x ≡ spliced l k (flat (sidePoints n m))
+      → y ≡ spliced x (k + (n - 1) * ((m - 1) * 4)) (flat (beginPoints b cap)) → a ≡ k + (n - 1) * ((m - 1) * 4) + length (flat (beginPoints b cap))
+      → z ≡ spliced y a (flat (endPoints e ((n - 1) * m) cap)) → z ≡ spliced l k (flat (facePoints n m cap b e))
+  uses-put l x y z a el ex ey ea ez =
+      let S = flat (sidePoints n m) in
+      let B = flat (beginPoints b cap) in
+      let E = flat (endPoints e ((n - 1) * m) cap) in
+      let w = sides-width n m in
+      let r = whole-room in
+      let s = length-append S B in
+      let yy : y ≡ spliced l k (S ++ B) = ey ∙ ap (λ (v : List ℕ). spliced v (k + (n - 1) * ((m - 1) * 4)) B) ex ∙ splice-more l k (k + (n - 1) * ((m - 1) * 4)) S B (omega arith) (omega arith) in
+      ez ∙ ap (λ (v : List ℕ). spliced v a E) yy ∙ splice-more l k a (S ++ B) E (omega arith) (omega arith)
+      ∙ ap (spliced l k) (append-assoc S B E ∙ sym (flat-faces n m cap b e))

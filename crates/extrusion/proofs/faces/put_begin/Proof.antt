@@ -1,0 +1,37 @@
+use Prim.Native.Nat.{_+_, ℕ}
+use Rattle.extrusion.proofs.Pieces.{splice-start}
+use Rattle.extrusion.proofs.Sides.{begin-no, begin-yes, length-by}
+use Rattle.tables.specs.Kept.{spliced}
+use borrow.Author.Needs.{needs}
+use lib.ListN.{length}
+use mathlib.Core.List.{List}
+use mathlib.Core.Path.{_∙_, ap, sym}
+use native.Mathlib.Nat.{add-zero}
+use native.Mathlib.Omega.{arith}
+use Rattle.extrusion.proofs.faces.put_begin.Statement.{statement}
+use Rattle.extrusion.proofs.faces.put_begin.Tie as tie
+
+has-cap-requires : tie.Need-has-cap-requires
+has-cap-requires c κs = search needs
+
+put-down-requires : tie.Need-put-down-requires
+put-down-requires c κs = (c .before .before .before .before .pre .0, omega (arith, c .before .before .before .before .pre .1, length-by _ _ _ (begin-yes (c .before .before .before .before .args .wanted) (c .before .before .before .before .args .cap) _ (c .before .before .has-cap .ensures) (c .before .if1 .taken))))
+
+add-result : tie.Need-add-result
+add-result c = search needs
+
+same-length : tie.Need-same-length
+same-length c = search needs
+
+returns : tie.Need-returns
+returns c = let q = begin-yes (c .before .before .before .before .before .before .before .args .wanted) (c .before .before .before .before .before .before .before .args .cap) _ (c .before .before .before .before .before .has-cap .ensures) (c .before .before .before .before .if1 .taken) in
+    (c .before .before .put-down .ensures ∙ ap (spliced (c .before .before .before .before .before .before .before .args .work .now) (c .before .before .before .before .before .before .before .args .k)) (sym q), ap (λ (x : ℕ). c .before .before .before .before .before .before .before .args .k + x) (sym (length-by _ _ _ q)))
+
+returns-2 : tie.Need-returns-2
+returns-2 c = let q = begin-no (c .before .before .before .args .wanted) (c .before .before .before .args .cap) _ (c .before .has-cap .ensures) (c .if1 .left) in
+    (splice-start _ _ ∙ ap (spliced (c .before .before .before .args .work .now) (c .before .before .before .args .k)) (sym q), sym (ap (λ (x : List ℕ). c .before .before .before .args .k + length x) q ∙ add-zero (c .before .before .before .args .k)))
+
+pub put-begin-spec : {M : Type 1} → statement M
+put-begin-spec =
+    tie.close
+    (tie.spec has-cap-requires put-down-requires add-result same-length returns returns-2)

@@ -1,0 +1,66 @@
+use Prim.Native.Nat.{_-_, _≤_}
+use Rattle.extrusion.proofs.Pieces.{Pieces, pieces-all, pieces-more, pieces-none}
+use Rattle.extrusion.proofs.Sides.{quad-length, quad-room}
+use Rattle.extrusion.specs.Listings.{spot}
+use Rattle.mesh.specs.Quads.{quad}
+use borrow.Author.Needs.{needs}
+use mathlib.Core.Path.{refl}
+use native.Mathlib.Omega.{arith}
+use Rattle.extrusion.proofs.faces.put_quad_row.Statement.{statement}
+use Rattle.extrusion.proofs.faces.put_quad_row.Tie as tie
+
+abbrev Inv-loop : tie.InvT-loop
+Inv-loop work₀ k m i j₀ work j = (j ≤ m - 1) × Pieces (quad (spot m) i) work₀ k j work
+
+abbrev μ-loop : tie.MeasureT-loop
+μ-loop work₀ k m i j₀ work j = m - j
+
+loop-holds : tie.Need-loop-holds Inv-loop μ-loop
+loop-holds c = (omega arith, pieces-none _ _ _)
+
+sub-loop : tie.Need-sub-loop Inv-loop μ-loop
+sub-loop c = search needs
+
+mul-put-quad : tie.Need-mul-put-quad Inv-loop μ-loop
+mul-put-quad c = search needs
+
+add-put-quad : tie.Need-add-put-quad Inv-loop μ-loop
+add-put-quad c = search needs
+
+put-quad-requires : tie.Need-put-quad-requires Inv-loop μ-loop
+put-quad-requires c κs = (omega (arith, quad-room (c .before .before .before .before .args .k) (c .before .before .before .before .args .m - 1) (c .before .before .loop .j) (c .before .loop-test .taken), c .before .before .loop .inv .1 .size, c .before .before .before .before .pre .1), omega (arith, c .before .loop-test .taken, c .before .before .before .before .pre .2))
+
+add-j : tie.Need-add-j Inv-loop μ-loop
+add-j c = search needs
+
+loop-less : tie.Need-loop-less Inv-loop μ-loop
+loop-less c = search needs
+
+loop-again : tie.Need-loop-again Inv-loop μ-loop
+loop-again c = (
+  omega arith,
+  pieces-more _ 4 (quad-length _ _) (c .before .before .before .before .before .before .before .args .work .now) _ _ _ (c .before .before .before .before .before .before .before .args .k) (c .before .before .before .before .before .loop .j) (omega (arith, c .before .before .before .before .loop-test .taken, c .before .before .before .before .before .before .before .pre .1)) (c .before .before .before .before .before .loop .inv .1) refl (c .before .before .put-quad .ensures),
+)
+
+same-length : tie.Need-same-length Inv-loop μ-loop
+same-length c = c .before .loop .inv .1 .size
+
+returns : tie.Need-returns Inv-loop μ-loop
+returns c = pieces-all _ _ _ _ _ _ (c .before .loop .inv .1) (omega arith)
+
+pub put-quad-row-spec : {M : Type 1} → statement M
+put-quad-row-spec =
+    tie.close
+    (tie.spec
+    Inv-loop
+    μ-loop
+    loop-holds
+    sub-loop
+    mul-put-quad
+    add-put-quad
+    put-quad-requires
+    add-j
+    loop-less
+    loop-again
+    same-length
+    returns)

@@ -1,0 +1,78 @@
+use Prim.Native.Nat.{_*_, _-_, _≤_}
+use Rattle.extrusion.proofs.Pieces.{Pieces, pieces-all, pieces-more, pieces-none}
+use Rattle.extrusion.proofs.Sides.{row-width, rows-most, section-least, sides-are}
+use Rattle.extrusion.proofs.Walking.{row-room}
+use Rattle.extrusion.specs.Listings.{spot}
+use Rattle.mesh.specs.Lists.{flat}
+use Rattle.mesh.specs.Quads.{quad}
+use Rattle.polygon.specs.Loops.{tab}
+use Rattle.tables.specs.Kept.{spliced}
+use borrow.Author.Needs.{needs}
+use mathlib.Core.Path.{_∙_, ap, refl}
+use native.Mathlib.Omega.{arith}
+use Rattle.extrusion.proofs.faces.put_sides.Statement.{statement}
+use Rattle.extrusion.proofs.faces.put_sides.Tie as tie
+
+abbrev Inv-loop : tie.InvT-loop
+Inv-loop work₀ k n m w i₀ work i = (i ≤ n - 1) × Pieces (λ i. flat (tab (quad (spot m) i) (m - 1) 0)) work₀ k i work
+
+abbrev μ-loop : tie.MeasureT-loop
+μ-loop work₀ k n m w i₀ work i = n - i
+
+sub-w : tie.Need-sub-w Inv-loop μ-loop
+sub-w c = search needs
+
+mul-w : tie.Need-mul-w Inv-loop μ-loop
+mul-w c = omega (arith, section-least (c .before .args .n) (c .before .args .m) (c .before .pre .0), c .before .pre .2)
+
+loop-holds : tie.Need-loop-holds Inv-loop μ-loop
+loop-holds c = (omega arith, pieces-none _ _ _)
+
+sub-loop : tie.Need-sub-loop Inv-loop μ-loop
+sub-loop c = search needs
+
+mul-put-quad-row : tie.Need-mul-put-quad-row Inv-loop μ-loop
+mul-put-quad-row c = omega (arith, row-room _ _ ((c .before .before .before .before .args .m - 1) * 4) _ _ (c .before .before .before .before .pre .3) (c .before .loop-test .taken))
+
+add-put-quad-row : tie.Need-add-put-quad-row Inv-loop μ-loop
+add-put-quad-row c = omega (arith, row-room _ _ ((c .before .before .before .before .args .m - 1) * 4) _ _ (c .before .before .before .before .pre .3) (c .before .loop-test .taken))
+
+put-quad-row-requires : tie.Need-put-quad-row-requires Inv-loop μ-loop
+put-quad-row-requires c κs = (c .before .before .before .before .pre .1, omega (arith, row-room _ _ ((c .before .before .before .before .args .m - 1) * 4) _ _ (c .before .before .before .before .pre .3) (c .before .loop-test .taken), c .before .before .loop .inv .1 .size), rows-most _ _ _ (c .before .before .before .before .pre .2) (c .before .loop-test .taken))
+
+add-i : tie.Need-add-i Inv-loop μ-loop
+add-i c = search needs
+
+loop-less : tie.Need-loop-less Inv-loop μ-loop
+loop-less c = search needs
+
+loop-again : tie.Need-loop-again Inv-loop μ-loop
+loop-again c = (
+  omega arith,
+  pieces-more _ ((c .before .before .before .before .before .before .before .args .m - 1) * 4) (row-width _) (c .before .before .before .before .before .before .before .args .work .now) _ _ _ (c .before .before .before .before .before .before .before .args .k) (c .before .before .before .before .before .loop .i) (row-room _ _ ((c .before .before .before .before .before .before .before .args .m - 1) * 4) _ _ (c .before .before .before .before .before .before .before .pre .3) (c .before .before .before .before .loop-test .taken)) (c .before .before .before .before .before .loop .inv .1) refl (c .before .before .put-quad-row .ensures),
+)
+
+same-length : tie.Need-same-length Inv-loop μ-loop
+same-length c = c .before .loop .inv .1 .size
+
+returns : tie.Need-returns Inv-loop μ-loop
+returns c = pieces-all _ _ _ _ _ _ (c .before .loop .inv .1) (omega arith) ∙ ap (spliced (c .before .before .before .args .work .now) (c .before .before .before .args .k)) (sides-are _ _)
+
+pub put-sides-spec : {M : Type 1} → statement M
+put-sides-spec =
+    tie.close
+    (tie.spec
+    Inv-loop
+    μ-loop
+    sub-w
+    mul-w
+    loop-holds
+    sub-loop
+    mul-put-quad-row
+    add-put-quad-row
+    put-quad-row-requires
+    add-i
+    loop-less
+    loop-again
+    same-length
+    returns)

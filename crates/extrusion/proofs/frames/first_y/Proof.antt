@@ -1,0 +1,54 @@
+use Prim.Native.Nat.{_-_, _≤_}
+use Rattle.extrusion.proofs.Planes.{first-step}
+use Rattle.extrusion.proofs.Values.{count3}
+use Rattle.mesh.specs.Extrusion.{threes}
+use Rattle.mesh.specs.Frames.{firstOf, firstY, yOwn}
+use borrow.Author.Needs.{needs}
+use lib.ListN.{length}
+use mathlib.Core.Path.{_≡_, refl}
+use native.Mathlib.Omega.{arith}
+use Rattle.extrusion.proofs.frames.first_y.Statement.{statement}
+use Rattle.extrusion.proofs.frames.first_y.Tie as tie
+
+abbrev Inv-loop : tie.InvT-loop
+Inv-loop s n y₀ i₀ y i = (i ≤ n) × (y ≡ firstOf (yOwn (threes s n)) i)
+
+abbrev μ-loop : tie.MeasureT-loop
+μ-loop s n y₀ i₀ y i = n - i
+
+loop-holds : tie.Need-loop-holds Inv-loop μ-loop
+unfolding firstOf
+loop-holds c = (omega arith, refl)
+
+y-own-requires : tie.Need-y-own-requires Inv-loop μ-loop
+y-own-requires c κs = search needs
+
+or-requires : tie.Need-or-requires Inv-loop μ-loop
+or-requires c κs = search needs
+
+add-i : tie.Need-add-i Inv-loop μ-loop
+add-i c = search needs
+
+loop-less : tie.Need-loop-less Inv-loop μ-loop
+loop-less c = search needs
+
+loop-again : tie.Need-loop-again Inv-loop μ-loop
+loop-again c = (omega arith, first-step _ _ _ _ _ (c .before .before .before .loop .inv .1) (c .before .y-own .ensures) (c .or .ensures))
+
+returns : tie.Need-returns Inv-loop μ-loop
+unfolding firstY
+returns c = let e : c .before .loop .i ≡ length (threes (c .before .before .before .args .s .now) (c .before .before .before .args .n)) = omega (arith, count3 (c .before .before .before .args .s .now) (c .before .before .before .args .n)) in rw e at (c .before .loop .inv .1)
+
+pub first-y-spec : {M : Type 1} → statement M
+first-y-spec =
+    tie.close
+    (tie.spec
+    Inv-loop
+    μ-loop
+    loop-holds
+    y-own-requires
+    or-requires
+    add-i
+    loop-less
+    loop-again
+    returns)

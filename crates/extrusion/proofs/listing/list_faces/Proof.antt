@@ -1,0 +1,55 @@
+use Rattle.extrusion.proofs.Tabled.{faces-put, room-corners, room-numbers, room-places, room-starts, sides-most, starts-room, uses-room}
+use borrow.Author.Needs.{needs}
+use mathlib.Core.Path.{refl}
+use native.Mathlib.Omega.{arith}
+use Rattle.extrusion.proofs.listing.list_faces.Statement.{statement}
+use Rattle.extrusion.proofs.listing.list_faces.Tie as tie
+
+spine-count-requires : tie.Need-spine-count-requires
+spine-count-requires c κs = search needs
+
+section-count-requires : tie.Need-section-count-requires
+section-count-requires c κs = search needs
+
+put-uses-requires : tie.Need-put-uses-requires
+put-uses-requires c κs = uses-room (c .before .before .before .before .pre) _ _ (c .before .before .spine-count .ensures) (c .before .section-count .ensures) _ _ (room-corners (c .before .before .before .before .pre))
+
+sub-put-starts : tie.Need-sub-put-starts
+sub-put-starts c = search needs
+
+sub-put-starts-2 : tie.Need-sub-put-starts-2
+sub-put-starts-2 c = search needs
+
+mul-put-starts : tie.Need-mul-put-starts
+mul-put-starts c = omega (arith, sides-most (c .before .before .before .before .before .before .before .before .pre) _ _ (c .before .before .before .before .before .before .spine-count .ensures) (c .before .before .before .before .before .section-count .ensures))
+
+put-starts-requires : tie.Need-put-starts-requires
+put-starts-requires c κs = starts-room (c .before .before .before .before .before .before .before .before .pre) _ _ (c .before .before .before .before .before .before .spine-count .ensures) (c .before .before .before .before .before .section-count .ensures) _ (omega (arith, room-starts (c .before .before .before .before .before .before .before .before .pre), c .before .before .work .given))
+
+put-uses-requires-2 : tie.Need-put-uses-requires-2
+put-uses-requires-2 c κs = uses-room (c .before .before .before .before .before .before .before .before .before .before .before .before .pre) _ _ (c .before .before .before .before .before .before .before .before .before .before .spine-count .ensures) (c .before .before .before .before .before .before .before .before .before .section-count .ensures) _ _ (omega (arith, room-places (c .before .before .before .before .before .before .before .before .before .before .before .before .pre), c .before .before .before .before .before .before .work .given, c .before .before .work2 .given))
+
+put-numbers-requires : tie.Need-put-numbers-requires
+put-numbers-requires c κs = (c .before .before .before .before .before .before .before .before .before .before .before .before .before .before .before .before .pre .room .many, omega (arith, room-numbers (c .before .before .before .before .before .before .before .before .before .before .before .before .before .before .before .before .pre), c .before .before .before .before .before .before .before .before .before .before .work .given, c .before .before .before .before .before .before .work2 .given, c .before .before .work3 .given))
+
+same-length : tie.Need-same-length
+same-length c = search needs
+
+returns : tie.Need-returns
+returns c = faces-put (c .before .before .before .before .before .before .before .before .before .before .before .before .before .before .before .before .before .before .before .pre) _ _ (c .before .before .before .before .before .before .before .before .before .before .before .before .before .before .before .before .before .spine-count .ensures) (c .before .before .before .before .before .before .before .before .before .before .before .before .before .before .before .before .section-count .ensures) _ _ _ _ _ refl (c .before .before .before .before .before .before .before .before .before .before .before .before .before .before .put-uses .ensures) (c .before .before .before .before .before .before .before .before .before .before .put-starts .ensures .0) (c .before .before .before .before .before .before .before .before .before .before .put-starts .ensures .1) (c .before .before .before .before .before .before .put-uses2 .ensures) (c .before .before .put-numbers .ensures .0) (c .before .before .put-numbers .ensures .1)
+
+pub list-faces-spec : {M : Type 1} → statement M
+list-faces-spec =
+    tie.close
+    (tie.spec
+    spine-count-requires
+    section-count-requires
+    put-uses-requires
+    sub-put-starts
+    sub-put-starts-2
+    mul-put-starts
+    put-starts-requires
+    put-uses-requires-2
+    put-numbers-requires
+    same-length
+    returns)

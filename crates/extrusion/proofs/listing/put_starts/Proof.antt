@@ -1,0 +1,80 @@
+use Prim.Native.Nat.{_+_, _-_, _≤_}
+use Rattle.extrusion.proofs.Counting.{size-most, start-more, start-none, start-rises}
+use Rattle.extrusion.specs.Listings.{startAt}
+use Rattle.tables.proofs.Keep.{kept-all, kept-set, table-more, table-none}
+use Rattle.tables.specs.Kept.{Kept, TableOf}
+use borrow.Author.Needs.{needs}
+use mathlib.Core.Path.{_∙_, _≡_}
+use native.Mathlib.Omega.{arith}
+use Rattle.extrusion.proofs.listing.put_starts.Statement.{statement}
+use Rattle.extrusion.proofs.listing.put_starts.Tie as tie
+
+abbrev Inv-loop : tie.InvT-loop
+Inv-loop work₀ k sides faces cap c₀ j₀ work c j = (j ≤ faces + 1) × (c ≡ startAt sides cap j) × Kept k work₀ work × TableOf work k j (startAt sides cap)
+
+abbrev μ-loop : tie.MeasureT-loop
+μ-loop work₀ k sides faces cap c₀ j₀ work c j = faces + 1 - j
+
+loop-holds : tie.Need-loop-holds Inv-loop μ-loop
+loop-holds c = (omega arith, start-none _ _, kept-all, table-none)
+
+add-loop : tie.Need-add-loop Inv-loop μ-loop
+add-loop c = search needs
+
+narrow-requires : tie.Need-narrow-requires Inv-loop μ-loop
+narrow-requires c κs = omega (arith, c .before .loop .inv .1, start-rises (c .before .before .before .args .sides) (c .before .before .before .args .cap) (c .before .loop .j) (c .before .before .before .args .faces) (omega arith), c .before .before .before .pre .1)
+
+add-work : tie.Need-add-work Inv-loop μ-loop
+add-work c = search needs
+
+mul-work : tie.Need-mul-work Inv-loop μ-loop
+mul-work c = search needs
+
+slice-write-work : tie.Need-slice-write-work Inv-loop μ-loop
+slice-write-work c = omega (arith, c .before .before .loop .inv .2 .len)
+
+size-at-requires : tie.Need-size-at-requires Inv-loop μ-loop
+size-at-requires c κs = search needs
+
+add-c : tie.Need-add-c Inv-loop μ-loop
+add-c c = omega (arith, c .before .before .before .loop .inv .1, start-rises (c .before .before .before .before .before .args .sides) (c .before .before .before .before .before .args .cap) (c .before .before .before .loop .j) (c .before .before .before .before .before .args .faces) (omega arith), c .before .before .before .before .before .pre .1, size-most (c .before .before .before .before .before .args .sides) (c .before .before .before .before .before .args .cap) (c .before .before .before .loop .j) (c .before .before .before .before .before .pre .2), c .size-at .ensures)
+
+add-j : tie.Need-add-j Inv-loop μ-loop
+add-j c = search needs
+
+loop-less : tie.Need-loop-less Inv-loop μ-loop
+loop-less c = search needs
+
+loop-again : tie.Need-loop-again Inv-loop μ-loop
+loop-again c = (
+  omega arith,
+  start-more _ _ _ _ _ (c .before .before .before .loop .inv .1) (c .size-at .ensures),
+  kept-set _ _ (c .before .before .before .loop .inv .2) (omega arith),
+  table-more _ (c .before .before .before .before .before .args .k) (c .before .before .before .loop .j) _ (omega (arith, c .before .before .before .loop .inv .2 .len)) (c .before .narrow .ensures ∙ c .before .before .before .loop .inv .1) (c .before .before .before .loop .inv .3),
+)
+
+same-length : tie.Need-same-length Inv-loop μ-loop
+same-length c = c .before .loop .inv .2 .len
+
+returns : tie.Need-returns Inv-loop μ-loop
+returns c = let e : c .before .loop .j ≡ c .before .before .before .args .faces + 1 = omega arith in (c .before .loop .inv .2, rw e at (c .before .loop .inv .3))
+
+pub put-starts-spec : {M : Type 1} → statement M
+put-starts-spec =
+    tie.close
+    (tie.spec
+    Inv-loop
+    μ-loop
+    loop-holds
+    add-loop
+    narrow-requires
+    add-work
+    mul-work
+    slice-write-work
+    size-at-requires
+    add-c
+    add-j
+    loop-less
+    loop-again
+    same-length
+    returns)

@@ -1,0 +1,76 @@
+use Prim.Native.Nat.{_-_, _≤_}
+use Rattle.extrusion.proofs.Pieces.{Pieces, pieces-all, pieces-more, pieces-none}
+use Rattle.extrusion.proofs.Walking.{row-is, spot-is, spot-length, spotOf}
+use Rattle.extrusion.specs.Rows.{axesOf}
+use Rattle.mesh.specs.Extrusion.{twos}
+use Rattle.tables.specs.Kept.{spliced}
+use borrow.Author.Needs.{needs}
+use mathlib.Core.Path.{_∙_, _≡_, ap}
+use native.Mathlib.Omega.{arith}
+use Rattle.extrusion.proofs.points.put_row.Statement.{statement}
+use Rattle.extrusion.proofs.points.put_row.Tie as tie
+
+abbrev Inv-loop : tie.InvT-loop
+Inv-loop section m o f q sc work₀ k j₀ work j = (j ≤ m) × Pieces (spotOf o (axesOf f) q sc (twos section m)) work₀ k j work
+
+abbrev μ-loop : tie.MeasureT-loop
+μ-loop section m o f q sc work₀ k j₀ work j = m - j
+
+loop-holds : tie.Need-loop-holds Inv-loop μ-loop
+loop-holds c = (omega arith, pieces-none _ _ _)
+
+pair-at-requires : tie.Need-pair-at-requires Inv-loop μ-loop
+pair-at-requires c κs = search needs
+
+local-requires : tie.Need-local-requires Inv-loop μ-loop
+local-requires c κs = search needs
+
+placed-requires : tie.Need-placed-requires Inv-loop μ-loop
+placed-requires c κs = search needs
+
+mul-put-point : tie.Need-mul-put-point Inv-loop μ-loop
+mul-put-point c = search needs
+
+add-put-point : tie.Need-add-put-point Inv-loop μ-loop
+add-put-point c = search needs
+
+put-point-requires : tie.Need-put-point-requires Inv-loop μ-loop
+put-point-requires c κs = omega (arith, c .before .before .before .before .before .loop .inv .1 .size, c .before .before .before .before .loop-test .taken, c .before .before .before .before .before .before .before .before .pre .1)
+
+add-j : tie.Need-add-j Inv-loop μ-loop
+add-j c = search needs
+
+loop-less : tie.Need-loop-less Inv-loop μ-loop
+loop-less c = search needs
+
+loop-again : tie.Need-loop-again Inv-loop μ-loop
+loop-again c = (
+  omega arith,
+  pieces-more _ 3 (spot-length _ _ _ _ _) (c .before .before .before .before .before .before .before .before .before .before .before .args .work .now) _ _ _ (c .before .before .before .before .before .before .before .before .before .before .before .args .k) (c .before .before .before .before .before .before .before .before .loop .j) (omega (arith, c .before .before .before .before .before .before .before .loop-test .taken, c .before .before .before .before .before .before .before .before .before .before .before .pre .1)) (c .before .before .before .before .before .before .before .before .loop .inv .1) (spot-is _ _ _ _ _ _ _ _ _ (c .before .before .before .before .before .before .pair-at .ensures) (c .before .before .before .before .before .local .ensures) (c .before .before .before .before .placed .ensures)) (c .before .before .put-point .ensures),
+)
+
+same-length : tie.Need-same-length Inv-loop μ-loop
+same-length c = c .before .loop .inv .1 .size
+
+returns : tie.Need-returns Inv-loop μ-loop
+returns c = let e : c .before .loop .j ≡ c .before .before .before .before .args .m = omega arith in
+    pieces-all _ _ _ _ _ _ (c .before .loop .inv .1) e ∙ ap (spliced (c .before .before .before .before .args .work .now) (c .before .before .before .before .args .k)) (row-is _ _ _ _ (c .before .before .before .before .args .section .now) (c .before .before .before .before .args .m))
+
+pub put-row-spec : {M : Type 1} → statement M
+put-row-spec =
+    tie.close
+    (tie.spec
+    Inv-loop
+    μ-loop
+    loop-holds
+    pair-at-requires
+    local-requires
+    placed-requires
+    mul-put-point
+    add-put-point
+    put-point-requires
+    add-j
+    loop-less
+    loop-again
+    same-length
+    returns)

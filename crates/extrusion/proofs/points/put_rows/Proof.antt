@@ -1,0 +1,110 @@
+use Prim.Native.Nat.{_*_, _-_, _<_, _^_, _≤_}
+use Rattle.extrusion.proofs.Pieces.{pieces-all}
+use Rattle.extrusion.proofs.Values.{count2}
+use Rattle.extrusion.proofs.Walking.{Walked, row-room, walk-start, walk-step}
+use Rattle.mesh.specs.Extrusion.{threes, turnIn, twos}
+use Rattle.polygon.specs.Loops.{tab}
+use borrow.Author.Needs.{needs}
+use lib.ListN.{length}
+use mathlib.Core.Path.{_≡_}
+use native.Mathlib.Omega.{arith}
+use Rattle.extrusion.proofs.points.put_rows.Statement.{statement}
+use Rattle.extrusion.proofs.points.put_rows.Tie as tie
+
+abbrev Inv-loop : tie.InvT-loop
+Inv-loop spine n section m scales scale-count turns turn-count work₀ k w first y0 y₀ prev₀ i₀ work y prev i = (i ≤ n) × (length work₀ < 2 ^ 64) × (n < 2 ^ 63) × Walked (threes spine n) (twos section m) (twos scales scale-count) (tab (turnIn turns) turn-count 0) work₀ k i work y prev
+
+abbrev μ-loop : tie.MeasureT-loop
+μ-loop spine n section m scales scale-count turns turn-count work₀ k w first y0 y₀ prev₀ i₀ work y prev i = n - i
+
+mul-w : tie.Need-mul-w Inv-loop μ-loop
+mul-w c = search needs
+
+first-z-requires : tie.Need-first-z-requires Inv-loop μ-loop
+first-z-requires c κs = search needs
+
+first-y-requires : tie.Need-first-y-requires Inv-loop μ-loop
+first-y-requires c κs = search needs
+
+loop-holds : tie.Need-loop-holds Inv-loop μ-loop
+loop-holds c = (omega arith, omega arith, omega arith, walk-start _ _ _ _ _ _ _ (c .first-y .ensures))
+
+y-own-requires : tie.Need-y-own-requires Inv-loop μ-loop
+y-own-requires c κs = (c .before .before .before .before .before .before .before .before .before .pre .0, c .before .before .before .before .before .before .before .before .before .pre .4, c .loop-test .taken)
+
+or-requires : tie.Need-or-requires Inv-loop μ-loop
+or-requires c κs = search needs
+
+z-own-requires : tie.Need-z-own-requires Inv-loop μ-loop
+z-own-requires c κs = (c .before .before .before .before .before .before .before .before .before .before .before .pre .0, c .before .before .before .before .before .before .before .before .before .before .before .pre .4, c .before .before .loop-test .taken)
+
+pick-z-requires : tie.Need-pick-z-requires Inv-loop μ-loop
+pick-z-requires c κs = search needs
+
+axes-by-requires : tie.Need-axes-by-requires Inv-loop μ-loop
+axes-by-requires c κs = search needs
+
+spine-at-requires : tie.Need-spine-at-requires Inv-loop μ-loop
+spine-at-requires c κs = (c .before .before .before .before .before .before .before .before .before .before .before .before .before .before .pre .0, c .before .before .before .before .before .loop-test .taken)
+
+turn-at-requires : tie.Need-turn-at-requires Inv-loop μ-loop
+turn-at-requires c κs = c .before .before .before .before .before .before .before .before .before .before .before .before .before .before .before .pre .3
+
+scale-at-requires : tie.Need-scale-at-requires Inv-loop μ-loop
+scale-at-requires c κs = c .before .before .before .before .before .before .before .before .before .before .before .before .before .before .before .before .pre .2
+
+mul-put-row : tie.Need-mul-put-row Inv-loop μ-loop
+mul-put-row c = let r = row-room _ _ (3 * c .before .before .before .before .before .before .before .before .before .before .before .before .before .before .before .before .before .before .args .m) _ _ (c .before .before .before .before .before .before .before .before .before .before .before .before .before .before .before .before .before .before .pre .5) (c .before .before .before .before .before .before .before .before .before .loop-test .taken) in omega (arith, r, c .before .before .before .before .before .before .before .before .before .before .loop .inv .1)
+
+add-put-row : tie.Need-add-put-row Inv-loop μ-loop
+add-put-row c = let r = row-room _ _ (3 * c .before .before .before .before .before .before .before .before .before .before .before .before .before .before .before .before .before .before .args .m) _ _ (c .before .before .before .before .before .before .before .before .before .before .before .before .before .before .before .before .before .before .pre .5) (c .before .before .before .before .before .before .before .before .before .loop-test .taken) in omega (arith, r, c .before .before .before .before .before .before .before .before .before .before .loop .inv .1)
+
+put-row-requires : tie.Need-put-row-requires Inv-loop μ-loop
+put-row-requires c κs = let r = row-room _ _ (3 * c .before .before .before .before .before .before .before .before .before .before .before .before .before .before .before .before .before .before .args .m) _ _ (c .before .before .before .before .before .before .before .before .before .before .before .before .before .before .before .before .before .before .pre .5) (c .before .before .before .before .before .before .before .before .before .loop-test .taken) in (c .before .before .before .before .before .before .before .before .before .before .before .before .before .before .before .before .before .before .pre .1, omega (arith, r, c .before .before .before .before .before .before .before .before .before .before .loop .inv .3 .rows .size))
+
+add-i : tie.Need-add-i Inv-loop μ-loop
+add-i c = omega (arith, c .before .before .before .before .before .before .before .before .before .before .before .before .loop-test .taken, c .before .before .before .before .before .before .before .before .before .before .before .before .before .loop .inv .2)
+
+loop-less : tie.Need-loop-less Inv-loop μ-loop
+loop-less c = omega (arith, c .before .before .before .before .before .before .before .before .before .before .before .before .loop-test .taken)
+
+loop-again : tie.Need-loop-again Inv-loop μ-loop
+loop-again c = (
+  omega (arith, c .before .before .before .before .before .before .before .before .before .before .before .before .loop-test .taken),
+  c .before .before .before .before .before .before .before .before .before .before .before .before .before .loop .inv .1,
+  c .before .before .before .before .before .before .before .before .before .before .before .before .before .loop .inv .2,
+  walk-step _ _ _ _ _ _ _ _ _ _ _ _ _ _ _ _ _ _ _ _ _ _ (c .before .before .before .before .before .before .before .before .before .before .before .before .before .loop .inv .3) (count2 _ _) (row-room _ _ (3 * c .before .before .before .before .before .before .before .before .before .before .before .before .before .before .before .before .before .before .before .before .before .args .m) _ _ (c .before .before .before .before .before .before .before .before .before .before .before .before .before .before .before .before .before .before .before .before .before .pre .5) (c .before .before .before .before .before .before .before .before .before .before .before .before .loop-test .taken)) (c .before .before .before .before .before .before .before .before .before .before .before .before .before .before .before .first-z .ensures) (c .before .before .before .before .before .before .before .before .before .before .before .before .before .before .first-y .ensures) (c .before .before .before .before .before .before .before .before .before .before .before .y-own .ensures) (c .before .before .before .before .before .before .before .before .before .before .or .ensures) (c .before .before .before .before .before .before .before .before .before .z-own .ensures) (c .before .before .before .before .before .before .before .before .pick-z .ensures) (c .before .before .before .before .before .before .before .axes-by .ensures) (c .before .before .before .before .before .before .spine-at .ensures) (c .before .before .before .before .before .turn-at .ensures) (c .before .before .before .before .scale-at .ensures) (c .before .before .put-row .ensures),
+)
+
+same-length : tie.Need-same-length Inv-loop μ-loop
+same-length c = c .before .loop .inv .3 .rows .size
+
+returns : tie.Need-returns Inv-loop μ-loop
+returns c = let e : c .before .loop .i ≡ c .before .before .before .before .before .before .before .before .before .args .n = omega (arith, c .before .loop .inv .0, c .loop-test .left) in pieces-all _ _ _ _ _ _ (c .before .loop .inv .3 .rows) e
+
+pub put-rows-spec : {M : Type 1} → statement M
+put-rows-spec =
+    tie.close
+    (tie.spec
+    Inv-loop
+    μ-loop
+    mul-w
+    first-z-requires
+    first-y-requires
+    loop-holds
+    y-own-requires
+    or-requires
+    z-own-requires
+    pick-z-requires
+    axes-by-requires
+    spine-at-requires
+    turn-at-requires
+    scale-at-requires
+    mul-put-row
+    add-put-row
+    put-row-requires
+    add-i
+    loop-less
+    loop-again
+    same-length
+    returns)

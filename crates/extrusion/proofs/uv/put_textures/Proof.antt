@@ -1,0 +1,97 @@
+use Prim.Native.Nat.{_-_, _≤_}
+use Rattle.extrusion.proofs.Textures.{corner-within, made-more, made-none}
+use Rattle.extrusion.specs.Corners.{Made}
+use Rattle.mesh.specs.Extrusion.{extrusionOf}
+use borrow.Author.Needs.{needs}
+use mathlib.Core.Path.{_≡_}
+use native.Mathlib.Omega.{arith}
+use Rattle.extrusion.proofs.uv.put_textures.Statement.{statement}
+use Rattle.extrusion.proofs.uv.put_textures.Tie as tie
+
+abbrev Inv-loop : tie.InvT-loop
+Inv-loop block h s floats at fit work₀ corners numbers textures count c₀ work c = (c ≤ count) × Made (extrusionOf block) corners numbers textures c work₀ work
+
+abbrev μ-loop : tie.MeasureT-loop
+μ-loop block h s floats at fit work₀ corners numbers textures count c₀ work c = count - c
+
+loop-holds : tie.Need-loop-holds Inv-loop μ-loop
+loop-holds c = (omega arith, made-none _ _ _ _ _)
+
+add-wide : tie.Need-add-wide Inv-loop μ-loop
+add-wide c = omega (arith, c .loop-test .taken, c .before .before .before .before .before .pre .2 .points, c .before .before .before .before .before .pre .2 .room)
+
+mul-wide : tie.Need-mul-wide Inv-loop μ-loop
+mul-wide c = search needs
+
+slice-read-wide : tie.Need-slice-read-wide Inv-loop μ-loop
+slice-read-wide c = omega (arith, c .before .loop-test .taken, c .before .before .before .before .before .before .pre .2 .points, c .before .before .before .before .before .before .pre .2 .room, c .before .before .loop .inv .1 .kept .len)
+
+wide-requires : tie.Need-wide-requires Inv-loop μ-loop
+wide-requires c κs = search needs
+
+add-wide-2 : tie.Need-add-wide-2 Inv-loop μ-loop
+add-wide-2 c = omega (arith, c .before .before .loop-test .taken, c .before .before .before .before .before .before .before .pre .2 .faces, c .before .before .before .before .before .before .before .pre .2 .room)
+
+mul-wide-2 : tie.Need-mul-wide-2 Inv-loop μ-loop
+mul-wide-2 c = search needs
+
+slice-read-wide-2 : tie.Need-slice-read-wide-2 Inv-loop μ-loop
+slice-read-wide-2 c = omega (arith, c .before .before .before .loop-test .taken, c .before .before .before .before .before .before .before .before .pre .2 .faces, c .before .before .before .before .before .before .before .before .pre .2 .room, c .before .before .before .before .loop .inv .1 .kept .len)
+
+wide-requires-2 : tie.Need-wide-requires-2 Inv-loop μ-loop
+wide-requires-2 c κs = search needs
+
+corner-texture-requires : tie.Need-corner-texture-requires Inv-loop μ-loop
+corner-texture-requires c κs = (c .before .before .before .before .before .before .before .before .before .pre .0, c .before .before .before .before .before .before .before .before .before .pre .1, corner-within (c .before .before .before .before .before .before .before .before .before .pre .2) (c .before .before .before .before .before .loop .inv .1 .kept) _ _ (c .before .before .before .before .loop-test .taken) (c .before .before .wide .ensures))
+
+mul-put-two : tie.Need-mul-put-two Inv-loop μ-loop
+mul-put-two c = omega (arith, c .before .before .before .before .before .before .loop-test .taken, c .before .before .before .before .before .before .before .before .before .before .before .pre .2 .room)
+
+add-put-two : tie.Need-add-put-two Inv-loop μ-loop
+add-put-two c = omega (arith, c .before .before .before .before .before .before .loop-test .taken, c .before .before .before .before .before .before .before .before .before .before .before .pre .2 .room)
+
+put-two-requires : tie.Need-put-two-requires Inv-loop μ-loop
+put-two-requires c κs = omega (arith, c .before .before .before .before .before .before .loop-test .taken, c .before .before .before .before .before .before .before .before .before .before .before .pre .2 .room, c .before .before .before .before .before .before .before .loop .inv .1 .kept .len)
+
+add-c : tie.Need-add-c Inv-loop μ-loop
+add-c c = omega (arith, c .before .before .before .before .before .before .before .before .before .loop-test .taken, c .before .before .before .before .before .before .before .before .before .before .before .before .before .before .pre .2 .room)
+
+loop-less : tie.Need-loop-less Inv-loop μ-loop
+loop-less c = omega (arith, c .before .before .before .before .before .before .before .before .before .loop-test .taken)
+
+loop-again : tie.Need-loop-again Inv-loop μ-loop
+loop-again c = (
+  omega (arith, c .before .before .before .before .before .before .before .before .before .loop-test .taken),
+  made-more _ _ _ _ _ _ _ (c .before .before .before .before .before .before .before .before .before .before .loop .c) (c .before .before .before .before .before .before .before .before .before .before .before .before .before .before .args .count) _ _ _ (c .before .before .before .before .before .before .before .before .before .before .loop .inv .1) (c .before .before .before .before .before .before .before .before .before .loop-test .taken) (c .before .before .before .before .before .before .before .before .before .before .before .before .before .before .pre .2 .points) (c .before .before .before .before .before .before .before .before .before .before .before .before .before .before .pre .2 .faces) (c .before .before .before .before .before .before .before .before .before .before .before .before .before .before .pre .2 .room) (c .before .before .before .before .before .before .before .wide .ensures) (c .before .before .before .before .before .wide2 .ensures) (c .before .before .before .before .corner-texture .ensures) (c .before .before .put-two .ensures),
+)
+
+same-length : tie.Need-same-length Inv-loop μ-loop
+same-length c = c .before .loop .inv .1 .kept .len
+
+returns : tie.Need-returns Inv-loop μ-loop
+returns c = let e : c .before .loop .c ≡ c .before .before .before .before .before .args .count = omega (arith, c .before .loop .inv .0, c .loop-test .left) in rw e at (c .before .loop .inv .1)
+
+pub put-textures-spec : {M : Type 1} → statement M
+put-textures-spec =
+    tie.close
+    (tie.spec
+    Inv-loop
+    μ-loop
+    loop-holds
+    add-wide
+    mul-wide
+    slice-read-wide
+    wide-requires
+    add-wide-2
+    mul-wide-2
+    slice-read-wide-2
+    wide-requires-2
+    corner-texture-requires
+    mul-put-two
+    add-put-two
+    put-two-requires
+    add-c
+    loop-less
+    loop-again
+    same-length
+    returns)

@@ -1,0 +1,6 @@
+-- What the contracts of `extrusion` cite beside the definitions of the mesh.
+pub mod Given
+pub mod Rows
+pub mod Steps
+pub mod Listings
+pub mod Corners
