@@ -17,7 +17,7 @@ use Rattle.mesh.specs.Quads.{quad}
 use Rattle.mesh.specs.Extrusion.{hasCap}
 use Rattle.mesh.specs.Sizes.{one}
 use Rattle.mesh.proofs.Lists.{All-append, All-getD}
-use Rattle.mesh.proofs.Tabs.{tabs-tab, flat-total, total-append, total-tabs}
+use Rattle.mesh.proofs.Tabs.{tabs-tab, flat-total, total-append, total-tabs, total-suc}
 use Rattle.tables.specs.Layout.{most}
 use Rattle.extrusion.specs.Listings.{oneIf, spot, sidePoints, beginPoints, endPoints, facePoints, sizeAt, startAt}
 use Rattle.extrusion.proofs.Sides.{quad-length}
@@ -55,12 +55,6 @@ size-most s cap j h = go (ltb j s)
 -- ---- of a list of lists
 
 module _ {A : Type 0} where
-  total-suc : (l : List (List A)) (j : ℕ) → j < length l → total length (take (suc j) l) ≡ total length (take j l) + length (getD l j [])
-  unfolding total
-  total-suc [] j b = absurd (not-suc-le-zero b)
-  total-suc (f ∷ l) zero b = omega arith
-  total-suc (f ∷ l) (suc j) b = let r = total-suc l j (le-of-suc-le-suc b) in omega arith
-
   -- element i of list j, among all
   pub flat-place : (l : List (List A)) (j i : ℕ) (d : A) → j < length l → i < length (getD l j []) → getD (flat l) (total length (take j l) + i) d ≡ getD (getD l j []) i d
   unfolding total flat

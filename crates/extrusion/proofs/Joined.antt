@@ -16,7 +16,7 @@ use Rattle.mesh.specs.Soup.{Corner, Face}
 use Rattle.mesh.specs.Quads.{quad}
 use Rattle.mesh.specs.Sizes.{sideCount, capCount, extrusionSizes}
 use Rattle.mesh.specs.Extrusion.{Extrusion, spineCount, sectionCount, sectionOf, extrusionOf, hasCap, closes, capLength, sideCorner, capCorner, sides, capFace, faceIf, caps, extrusionFaces}
-use Rattle.mesh.proofs.Tabs.{tabs-tab, tab-reverse}
+use Rattle.mesh.proofs.Tabs.{tabs-tab, tab-reverse, mapN-tab}
 use Rattle.mesh.proofs.Shapes.{sides-listed}
 use Rattle.tables.specs.declared.layout.Plan.{Plan}
 use Rattle.tables.specs.Layout.{Room}
@@ -35,11 +35,6 @@ module _ {A B : Type 0} (G : ℕ → A → B) where
   mapN-append n (a ∷ x) y =
       let e : suc n + length x ≡ n + suc (length x) = omega arith in
       ap (λ (r : List B). G n a ∷ r) (mapN-append (suc n) x y ∙ ap (λ (k : ℕ). mapN G (suc n) x ++ mapN G k y) e)
-
-  mapN-tab : (f : ℕ → A) (k i : ℕ) → mapN G i (tab f k i) ≡ tab (λ j. G j (f j)) k i
-  unfolding mapN tab
-  mapN-tab f zero i = refl
-  mapN-tab f (suc k) i = ap (λ (r : List B). G i (f i) ∷ r) (mapN-tab f k (suc i))
 
 -- the faces of numbered lists of points
 faces-of : (corner : ℕ → Use → Corner) (k : ℕ) (l : List (List ℕ))

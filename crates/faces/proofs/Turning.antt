@@ -6,10 +6,11 @@ use Prim.Native.Nat.{ℕ, suc, _+_, _-_, _*_, _≤_, _<_}
 use native.Mathlib.Nat.{zero-add, add-zero, add-suc, suc-add, sub-zero}
 use native.Mathlib.Numerals.{add-one}
 use native.Mathlib.Omega.{arith}
-use lib.ListN.{length, drop, set, length-append}
+use lib.ListN.{length, drop, length-append}
 use lib.Seq.{sets, sets-eq, length-sets}
 use Rattle.polygon.specs.Loops.{tab}
 use Rattle.mesh.specs.Lists.{flat}
+use Rattle.mesh.proofs.Lists.{sets-append}
 use Rattle.tables.specs.declared.layout.Plan.{Plan}
 use Rattle.tables.specs.Kept.{Kept}
 use Rattle.tables.specs.Soups.{startIn}
@@ -17,12 +18,6 @@ use Rattle.tables.proofs.Keep.{kept-all, kept-then}
 use Rattle.tables.proofs.Stays.{sound-kept}
 use Rattle.faces.specs.Indices.{oneFace, allFaces, Ready, Put, Made}
 use Rattle.faces.proofs.Pieces.{length-one, one-kept}
-
-sets-append : (xs ys l : List ℕ) (at : ℕ) → sets l at (xs ++ ys) ≡ sets (sets l at xs) (at + length xs) ys
-sets-append [] ys l at = ap (λ (k : ℕ). sets l k ys) (sym (add-zero at))
-sets-append (x ∷ xs) ys l at =
-    sets-append xs ys (set l at x) (suc at)
-    ∙ ap (λ (k : ℕ). sets (sets (set l at x) (suc at) xs) k ys) (suc-add at (length xs) ∙ sym (add-suc at (length xs)))
 
 module _ (w₀ : List ℕ) (t : Plan) (ccw convex : Bool) where
   -- the faces from g on

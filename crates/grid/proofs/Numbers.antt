@@ -7,13 +7,14 @@ use lib.ListN.{getD}
 use Rattle.block.specs.declared.header.Header.{Header}
 use Rattle.mesh.specs.Quads.{quad}
 use Rattle.mesh.specs.Grid.{xDimension, zDimension}
+use Rattle.mesh.proofs.Within.{cell}
 use Rattle.tables.specs.Layout.{most}
 use Rattle.grid.specs.Sides.{Sides}
 use Rattle.grid.specs.Listings.{quadOf, cornerPoint}
 
 -- the point (i, j) is one of the grid's
 inside : (xd zd i j : ℕ) → i < xd → j < zd → i + j * xd < xd * zd
-inside xd zd i j h k = let e : suc j * xd ≤ zd * xd = mul-le-mul-right xd k in omega (arith, suc-mul j xd, mul-comm zd xd)
+inside xd zd i j h k = omega (arith, cell i j xd zd h k, mul-comm zd xd)
 
 -- the column and the row of the point (i, j)
 pub column-of : (xd i j : ℕ) → i < xd → (i + j * xd) % xd ≡ i

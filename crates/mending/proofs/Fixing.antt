@@ -17,12 +17,13 @@ use Rattle.math.specs.declared.vector.Unit.the-variants.{Of, Nothing}
 use Rattle.math.specs.Vector.{yAxis, vlen, unitOf, one as oneF}
 use Rattle.math.specs.Order.{magnitude}
 use Rattle.polygon.specs.Loops.{tab}
-use Rattle.polygon.proofs.Tabs.{length-tab}
+use Rattle.polygon.proofs.Tabs.{length-tab, map-tab}
 use Rattle.mesh.specs.Lists.{mapN, flat}
 use Rattle.mesh.specs.Words.{words3, floats, bits, pointWords}
 use Rattle.mesh.specs.Mend.{visible, orWords, renorm, vertexSpot, firstNormal, mendBy, mended}
 use Rattle.mesh.specs.Mesh.{meshOf}
 use Rattle.mesh.proofs.Lists.{All-of, length-words, length-mapN, or-right}
+use Rattle.mesh.proofs.Tabs.{mapN-tab}
 use Rattle.mending.specs.Mend.{lentFrame, lentKey, lentKeys, mendedWords, found, Firsts, isNone, badAt, anyBad, Served}
 use Rattle.mending.proofs.Threes.{Threes, threes-start, threes-go, threes-end}
 use Rattle.mending.proofs.Lent.{first-same, spot-in, spot-out}
@@ -87,16 +88,6 @@ module _ (ps is ns : List ℕ) (count : ℕ) (t : List ℕ) where
 
 -- ---- all vertices
 
-mapN-tab : {A B : Type 0} (g : ℕ → A → B) (h : ℕ → A) (k i : ℕ) → mapN g i (tab h k i) ≡ tab (λ v. g v (h v)) k i
-unfolding mapN tab
-mapN-tab g h zero i = refl
-mapN-tab {B = B} g h (suc k) i = ap (λ (r : List B). g i (h i) ∷ r) (mapN-tab g h k (suc i))
-
-map-tab : {A B : Type 0} (h : A → B) (f : ℕ → A) (k i : ℕ) → map h (tab f k i) ≡ tab (λ v. h (f v)) k i
-unfolding tab
-map-tab h f zero i = refl
-map-tab {B = B} h f (suc k) i = ap (λ (r : List B). h (f i) ∷ r) (map-tab h f k (suc i))
-
 -- the mended normal of vertex v
 abbrev one : List ℕ → List ℕ → List ℕ → ℕ → ℕ → Words3
 one ps is ns count v = mended (lentFrame ps) (lentKeys ns count) is v (lentKey ns v)
@@ -110,7 +101,7 @@ module _ (ps is ns₀ : List ℕ) (count : ℕ) where
   unfolding mendedWords meshOf lentKeys
   mended-tab =
       ap flat
-      (sym (map-tab words3 (one ps is ns₀ count) count 0)
+      (sym (map-tab (one ps is ns₀ count) words3 count 0)
       ∙ ap (map words3) (sym (mapN-tab (mended (lentFrame ps) (lentKeys ns₀ count) is) (lentKey ns₀) count 0)))
 
   pub mending-start : Mending ps is ns₀ count ns₀ 0

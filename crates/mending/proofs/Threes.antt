@@ -9,14 +9,9 @@ use lib.ListN.{length, getD, set, length-set}
 use lib.Seq.{sets, getD-set-same, getD-set-other}
 use Rattle.polygon.specs.Loops.{tab}
 use Rattle.mesh.specs.Lists.{flat}
+use Rattle.mesh.proofs.Lists.{sets-append}
 
 -- ---- a run of stores
-
-sets-append : (xs ys l : List ℕ) (i : ℕ) → sets l i (xs ++ ys) ≡ sets (sets l i xs) (i + length xs) ys
-sets-append [] ys l i = ap (λ (j : ℕ). sets l j ys) (sym (add-zero i))
-sets-append (x ∷ xs) ys l i =
-    sets-append xs ys (set l i x) (suc i)
-    ∙ ap (λ (j : ℕ). sets (sets (set l i x) (suc i) xs) j ys) (suc-add i (length xs) ∙ sym (add-suc i (length xs)))
 
 -- elsewhere
 pub sets-other : (xs l : List ℕ) (i j : ℕ) → ((k : ℕ) → k < length xs → j ≡ i + k → ⊥) → getD (sets l i xs) j 0 ≡ getD l j 0

@@ -8,8 +8,8 @@ use native.Mathlib.Omega.{arith}
 use borrow.Author.Tests.{ltb-true, ltb-false}
 use lib.Dec.{T, eqb, ltb, eqb→eq, eqb-refl}
 use lib.Ieee.Fits.{and-i, and-l, and-r}
-use lib.ListN.{length, getD, take, drop, length-append, length-drop, length-map, List·getD-append}
-use lib.Seq.{take-append-le, drop-append-le, take-at, drop-append-add, getD-at, take-nil, take-take, drop-drop}
+use lib.ListN.{length, getD, set, take, drop, length-append, length-drop, length-map, List·getD-append}
+use lib.Seq.{sets, take-append-le, drop-append-le, take-at, drop-append-add, getD-at, take-nil, take-take, drop-drop}
 use Rattle.polygon.specs.Loops.{All}
 use Rattle.mesh.specs.Lists.{mapN, joinN, total, has, place, meet, firsts, sameWords, flat}
 
@@ -430,3 +430,11 @@ pub sameWords-self : (a : List ℕ) → T (sameWords a a)
 unfolding sameWords
 sameWords-self [] = tt
 sameWords-self (x ∷ xs) = and-i (eqb x x) (sameWords xs xs) (eqb-refl x) (sameWords-self xs)
+
+-- ---- stores, one list after another
+
+pub sets-append : (xs ys l : List ℕ) (i : ℕ) → sets l i (xs ++ ys) ≡ sets (sets l i xs) (i + length xs) ys
+sets-append [] ys l i = ap (λ (j : ℕ). sets l j ys) (sym (add-zero i))
+sets-append (x ∷ xs) ys l i =
+    sets-append xs ys (set l i x) (suc i)
+    ∙ ap (λ (j : ℕ). sets (sets (set l i x) (suc i) xs) j ys) (suc-add i (length xs) ∙ sym (add-suc i (length xs)))

@@ -5,7 +5,7 @@ use Prim.Native.Nat.{ℕ, zero, suc, _+_, _-_, _*_, _/_, _%_, _<_}
 use native.Mathlib.Nat.{not-suc-le-zero, le-of-suc-le-suc, zero-add, add-zero, add-suc, suc-add, suc-mul, zero-mul, div-eq-of-lt, mod-eq-of-lt, add-mul-div-right, add-mul-mod-self-right, add-comm}
 use native.Mathlib.Numerals.{add-one}
 use native.Mathlib.Omega.{arith}
-use lib.ListN.{length, getD, length-append}
+use lib.ListN.{length, getD, take, length-append}
 use Rattle.polygon.specs.Loops.{tab}
 use Rattle.polygon.proofs.Tabs.{tab-shift, tab-add}
 use Rattle.mesh.specs.Lists.{mapN, total, flat}
@@ -78,3 +78,15 @@ pub total-mapN : {A B : Type 0} (size : B → ℕ) (by : A → ℕ) (g : ℕ →
 unfolding total mapN
 total-mapN size by g h n [] = refl
 total-mapN size by g h n (x ∷ xs) = λ i. h n x i + total-mapN size by g h (suc n) xs i
+
+pub mapN-tab : {A B : Type 0} (g : ℕ → A → B) (f : ℕ → A) (k i : ℕ) → mapN g i (tab f k i) ≡ tab (λ j. g j (f j)) k i
+unfolding mapN tab
+mapN-tab g f zero i = refl
+mapN-tab {B = B} g f (suc k) i = ap (λ (r : List B). g i (f i) ∷ r) (mapN-tab g f k (suc i))
+
+-- the sizes before the next one
+pub total-suc : {A : Type 0} (l : List (List A)) (j : ℕ) → j < length l → total length (take (suc j) l) ≡ total length (take j l) + length (getD l j [])
+unfolding total
+total-suc [] j b = absurd (not-suc-le-zero b)
+total-suc (f ∷ l) zero b = omega arith
+total-suc (f ∷ l) (suc j) b = let r = total-suc l j (le-of-suc-le-suc b) in omega arith

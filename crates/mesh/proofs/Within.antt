@@ -37,7 +37,7 @@ abbrev pub Within : ℕ → Face → Type 0
 Within n f = All (λ (c : Corner). (c .point < n) × (c .gather < n)) f
 
 module _ {A : Type 0} (Q : A → Type 0) where
-  All-tab : (f : ℕ → A) (k i : ℕ) → ((t : ℕ) → t < k → Q (f (i + t))) → All Q (tab f k i)
+  pub All-tab : (f : ℕ → A) (k i : ℕ) → ((t : ℕ) → t < k → Q (f (i + t))) → All Q (tab f k i)
   unfolding tab
   All-tab f zero i h = tt
   All-tab f (suc k) i h = (
@@ -46,15 +46,15 @@ module _ {A : Type 0} (Q : A → Type 0) where
   )
 
   -- from place 0
-  All-by : (f : ℕ → A) (k : ℕ) → ((t : ℕ) → t < k → Q (f t)) → All Q (tab f k 0)
+  pub All-by : (f : ℕ → A) (k : ℕ) → ((t : ℕ) → t < k → Q (f t)) → All Q (tab f k 0)
   All-by f k h = All-tab f k 0 (λ t l. subst (λ (s : ℕ). Q (f s)) (sym (zero-add t)) (h t l))
 
-  All-flat : (l : List (List A)) → All (λ (x : List A). All Q x) l → All Q (flat l)
+  pub All-flat : (l : List (List A)) → All (λ (x : List A). All Q x) l → All Q (flat l)
   unfolding flat
   All-flat [] h = tt
   All-flat (x ∷ xs) h = All-append Q x (flat xs) (h .0) (All-flat xs (h .1))
 
-All-tabs : {A : Type 0} (Q : A → Type 0) (f : ℕ → ℕ → A) (n m : ℕ) → ((i j : ℕ) → i < n → j < m → Q (f i j)) → All Q (tabs f n m)
+pub All-tabs : {A : Type 0} (Q : A → Type 0) (f : ℕ → ℕ → A) (n m : ℕ) → ((i j : ℕ) → i < n → j < m → Q (f i j)) → All Q (tabs f n m)
 unfolding tabs
 All-tabs Q f n m h = All-flat Q _ (All-by (λ (x : List _). All Q x) (λ i. tab (f i) m 0) n (λ i l. All-by Q (f i) m (λ j k. h i j l k)))
 
@@ -64,7 +64,7 @@ All-mapN Q g h n [] = tt
 All-mapN Q g h n (x ∷ xs) = (h n x, All-mapN Q g h (suc n) xs)
 
 -- column a of row b, in rows of x
-cell : (a b x z : ℕ) → a < x → b < z → a + b * x < z * x
+pub cell : (a b x z : ℕ) → a < x → b < z → a + b * x < z * x
 cell a b x z h k = let e : suc b * x ≤ z * x = mul-le-mul-right x k in omega (arith, suc-mul b x)
 
 quad-within : (n : ℕ) (f : ℕ → ℕ → Corner) (a b : ℕ) → ((i j : ℕ) → i < a → j < b → (f i j .point < n) × (f i j .gather < n))

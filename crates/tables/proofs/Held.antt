@@ -9,6 +9,7 @@ use lib.Seq.{ext-getD}
 use Rattle.mesh.specs.Lists.{total}
 use Rattle.mesh.specs.Soup.{Corner, noCorner, Face, dense, Frame}
 use Rattle.mesh.proofs.Lists.{getD-map-lt}
+use Rattle.mesh.proofs.Tabs.{total-suc}
 use Rattle.polygon.specs.Loops.{tab}
 use Rattle.polygon.proofs.Tabs.{length-tab, getD-tab}
 use Rattle.tables.specs.declared.layout.Plan.{Plan}
@@ -48,12 +49,6 @@ module _ {w : List ℕ} {t : Plan} (S : Sound w t) (fs : List Face) (count : len
         getD-map-lt (map bare) fs j [] [] (omega arith) ∙ same-face j j-lt
         ∙ sym (getD-tab (faceIn w t) (t .faces) 0 j [] j-lt ∙ ap (faceIn w t) (zero-add j)));
   }
-
-total-suc : (l : List Face) (j : ℕ) → j < length l → total length (take (suc j) l) ≡ total length (take j l) + length (getD l j [])
-unfolding total
-total-suc [] j b = absurd (not-suc-le-zero b)
-total-suc (f ∷ l) zero b = omega arith
-total-suc (f ∷ l) (suc j) b = let r = total-suc l j (le-of-suc-le-suc b) in omega arith
 
 -- and back
 module _ {w : List ℕ} {t : Plan} {F : Frame} {fs : List Face} (H : Holds w t F fs) where
