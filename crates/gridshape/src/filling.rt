@@ -1,0 +1,64 @@
+// FORMAT 8.3: the tables of a grid, as `build` reads them.
+ghost use mathlib.Core.Path.{_≡_};
+ghost use Prim.Native.Nat.{_+_, _*_, _≤_};
+ghost use lib.ListN.{length};
+ghost use Rattle.bits.specs.Bits.{entries};
+ghost use Rattle.block.specs.Lists.{listBytes};
+ghost use Rattle.mesh.specs.Grid.{xDimension, zDimension};
+ghost use Rattle.mesh.specs.Sizes.{quadCount};
+ghost use Rattle.tables.specs.Layout.{most};
+ghost use Rattle.grid.specs.Sides.{Sides, Planned};
+ghost use Rattle.grid.specs.Textures.{Placed};
+ghost use Rattle.gridshape.specs.Shape.{gridPlan, Tabled, TexturesAt};
+use block::Header;
+use block::Settings;
+use grid::list_faces;
+use grid::put_points;
+use grid::put_textures;
+use soups::face_widths;
+use soups::prepare;
+use tables::Plan;
+use tables::plan_of;
+use tables::wide;
+
+// The plan for a grid's points, corners and quads.
+pub fn plan_grid(h: Header) -> Plan
+    requires { ⌜ Sides h × (4 * quadCount h ≤ most) ⌝ }
+    ensures { λ r. ⌜ r ≡ gridPlan h ⌝ }
+{
+    let counts = h.counts;
+    let xd = wide(counts[0]);
+    let zd = wide(counts[1]);
+    let quads = (zd - 1) * (xd - 1);
+    plan_of(xd * zd, 4 * quads, quads)
+}
+
+// All tables but that of texture.
+pub fn put_tables(
+    block: &[u8],
+    h: Header,
+    s: Settings,
+    t: Plan,
+    work: &mut [u32],
+    floats: &mut [f32],
+)
+    requires { ⌜ Planned h (length (now work)) t × (xDimension h * zDimension h ≤ length (entries (listBytes (now block) h 3))) × (3 * t .count ≤ length (now floats)) ⌝ }
+    ensures { λ _. ⌜ Tabled (now (block .entry)) h s t (now (work .entry)) (now (work .exit)) (now (floats .entry)) (now (floats .exit)) ⌝ }
+{
+    put_points(block, h, s, work, t.points);
+    list_faces(h, work, t);
+    let rule = s.crease;
+    prepare(work, t, h.normals, h.ccw, rule, floats);
+}
+
+// The table of texture, where texture is made.
+pub fn texture_where(block: &[u8], h: Header, s: Settings, t: Plan, work: &mut [u32])
+    requires { ⌜ Sides h × Placed h (now work) (t .corners) (t .owners + t .count) (t .count) ⌝ }
+    ensures { λ _. ⌜ TexturesAt (now (block .entry)) h s t (now (work .entry)) (now (work .exit)) ⌝ }
+{
+    let widths = face_widths(h);
+    if widths.texture == 0 {
+        return;
+    }
+    put_textures(block, h, s, work, t.corners, t.owners + t.count, t.count);
+}

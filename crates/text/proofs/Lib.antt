@@ -1,0 +1,6 @@
+-- The laws behind the functions, and the theorems that callers cite.
+mod Pieces
+mod Spelling
+pub mod ReadBack
+pub mod TextFits
+pub mod Rows
