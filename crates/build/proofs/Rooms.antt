@@ -1,7 +1,6 @@
 -- FORMAT 4: how many indices the kept faces make, and that the corners' tables fit the words that are lent.
-use mathlib.Core.Path.{_≡_, refl, ap, _∙_}
-use mathlib.Core.Bool.{Bool, true, false, cond}
-use mathlib.Core.Logic.{inl, inr}
+use mathlib.Core.Path.{_≡_, ap, _∙_}
+use mathlib.Core.Bool.{Bool}
 use mathlib.Core.List.{List}
 use Prim.Native.Nat.{ℕ, zero, suc, _+_, _-_, _*_, _^_, _≤_, _<_}
 use native.Mathlib.Omega.{arith}
@@ -14,7 +13,6 @@ use Rattle.tables.specs.Soups.{startIn, Sound}
 use Rattle.corners.specs.Laid.{tablesAt, Laid, tablesOf}
 use Rattle.faces.specs.Indices.{oneFace, allFaces}
 use Rattle.faces.proofs.Pieces.{length-one}
-use Rattle.build.specs.Built.{Wide}
 
 -- each kept face of n corners, 3 or more, makes 3 (n - 2) indices
 module _ {w : List ℕ} {t : Plan} (S : Sound w t) (ccw convex : Bool) (long : (g : ℕ) → g < t .faces → startIn w t g + 3 ≤ startIn w t (suc g)) where
@@ -56,12 +54,3 @@ module _ (spots count faces : ℕ) (p : spots ≤ most) (c : count ≤ most) (f 
   pub plan-low : planOf spots count faces .owners ≤ 2 ^ 32
   unfolding planOf
   plan-low = omega arith
-
--- FORMAT 5: the width of an attribute, by whether it is made
-pub wide-by : (made : Bool) (n : ℕ) → Wide n (cond made n 0)
-wide-by true n = inr refl
-wide-by false n = inl refl
-
-pub wide-few : (made : Bool) (n count len : ℕ) → n * count ≤ len → cond made n 0 * count ≤ len
-wide-few true n count len h = h
-wide-few false n count len h = omega arith

@@ -15,12 +15,12 @@ use Rattle.mesh.specs.Sizes.{Sizes, quadCount, gridSizes, byKind, sizesOf, isNo
 use Rattle.tables.specs.declared.layout.Plan.{Plan}
 use Rattle.tables.specs.Layout.{most, planOf}
 use Rattle.corners.specs.Laid.{tablesOf, Laid}
-use Rattle.lent.specs.Lent.{Enough}
+use Rattle.lent.specs.Lent.{Asked, Enough}
 use Rattle.lent.proofs.Accepts.{sizes-low}
 use Rattle.build.proofs.Rooms.{plan-laid, plan-low}
 use Rattle.grid.specs.Sides.{Sides, Planned}
 use Rattle.grid.proofs.Sized.{sides-of, heights-in, shape-of, planned}
-use Rattle.gridshape.specs.Shape.{Asked, gridPlan}
+use Rattle.gridshape.specs.Shape.{gridPlan}
 
 -- the plan, by the sides as the code reads them
 module _ (h : Header) {x z : ℕ} (ex : x ≡ xDimension h) (ez : z ≡ zDimension h) where
@@ -31,7 +31,7 @@ module _ (h : Header) {x z : ℕ} (ex : x ≡ xDimension h) (ez : z ≡ zDimensi
   unfolding gridPlan
   plan-by = ap₂ (λ (x z : ℕ). planOf (x * z) (4 * ((z - 1) * (x - 1))) ((z - 1) * (x - 1))) ex ez
 
-module _ {bs : List ℕ} {h : Header} {s : Settings} {o : Slices} {w f : ℕ} (A : Asked bs h s o w f) where
+module _ {bs : List ℕ} {h : Header} {s : Settings} {o : Slices} {w f : ℕ} (A : Asked 2 bs h s o w f) where
   sizes-are : sizesOf bs h ≡ gridSizes h
   unfolding sizesOf
   sizes-are = rw (A .kind) refl

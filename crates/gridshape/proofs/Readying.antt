@@ -21,17 +21,17 @@ use Rattle.corners.specs.Laid.{tablesOf, Laid}
 use Rattle.corners.specs.Corner.{Lent}
 use Rattle.soups.specs.Attributes.{faceWidths}
 use Rattle.lent.specs.declared.Counts.{Counts}
-use Rattle.lent.specs.Lent.{Shaped, Cleared}
+use Rattle.lent.specs.Lent.{Asked, Shaped, Cleared}
 use Rattle.build.specs.declared.shared.Shared.{Shared}
 use Rattle.build.specs.Built.{Wide, Told, Ready, Meshed, Built}
-use Rattle.build.proofs.Rooms.{wide-by, wide-few}
+use Rattle.lent.proofs.Made.{wide-by, wide-few}
 use Rattle.build.proofs.Shaping.{shaped-of}
-use Rattle.gridshape.specs.Shape.{Asked, gridPlan, gridShared, Tabled, TexturesAt}
+use Rattle.gridshape.specs.Shape.{gridPlan, gridShared, Tabled, TexturesAt}
 use Rattle.gridshape.proofs.Bounds.{enough, sides, planned-at, floats-enough, scratch-room, laid-at, low-at}
 use Rattle.gridshape.proofs.Telling.{four-at, Written, told}
 
 -- the plan t, the words w lent, then w₁ with the tables and w₂ with the textures; the floats d lent, then e
-module _ {bs : List ℕ} {h : Header} {s : Settings} {o : Slices} {w w₁ w₂ : List ℕ} {d e : List Float} (missing : Words4) (A : Asked bs h s o (length w) (length d))
+module _ {bs : List ℕ} {h : Header} {s : Settings} {o : Slices} {w w₁ w₂ : List ℕ} {d e : List Float} (missing : Words4) (A : Asked 2 bs h s o (length w) (length d))
     {t : Plan} (p : t ≡ gridPlan h) (T : Tabled bs h s t w w₁ d e) (X : TexturesAt bs h s t w₁ w₂) where
   len : length w₂ ≡ length w
   len = X .kept .len ∙ T .len

@@ -12,8 +12,7 @@ use Rattle.block.proofs.TableRows.{gridHeader, gridRest, grid, table-rows}
 use Rattle.mesh.specs.Mesh.{Slices}
 use Rattle.mesh.specs.Sizes.{Sizes}
 use Rattle.mesh.proofs.ShapeRows.{grid-soup}
-use Rattle.lent.specs.Lent.{Accepted, Enough}
-use Rattle.gridshape.specs.Shape.{Asked}
+use Rattle.lent.specs.Lent.{Asked, Accepted, Enough}
 
 abbrev bench : List ℕ
 bench = grid gridHeader
@@ -35,7 +34,7 @@ is-grid : headerOf bench .kind ≡ 2
 unfolding grid gridHeader gridRest headerOf countsOf field
 is-grid = refl
 
-pub met : Asked bench (headerOf bench) (settingsOf bench) slices 72 72
+pub met : Asked 2 bench (headerOf bench) (settingsOf bench) slices 72 72
 met = record {
   limit = 8192;
   accepted = accepted;

@@ -22,17 +22,9 @@ use Rattle.corners.specs.Laid.{tablesOf}
 use Rattle.corners.specs.Corner.{textureAt}
 use Rattle.soups.specs.Prepared.{Prepared}
 use Rattle.soups.specs.Attributes.{attributesOf, faceWidths}
-use Rattle.lent.specs.Lent.{Accepted, Enough}
 use Rattle.build.specs.declared.shared.Shared.{Shared}
 use Rattle.grid.specs.Listings.{gridListings}
 use Rattle.grid.specs.Textures.{gridTexture}
-
--- FORMAT 3, 4: the block bs with header h and settings s is a grid that is accepted under some limit, and the slices o, w words and f floats are enough for it
-pub record Asked (bs : List ℕ) (h : Header) (s : Settings) (o : Slices) (w f : ℕ) : Type 0 where
-  pub limit : ℕ
-  pub accepted : Accepted limit bs h s
-  pub kind : h .kind ≡ 2
-  pub enough : Enough (sizesOf bs h) o w f
 
 -- FORMAT 4, 8.3: P points, C corners, and a face for each quad
 unfoldable pub gridPlan : Header → Plan

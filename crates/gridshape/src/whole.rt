@@ -2,8 +2,8 @@
 ghost use mathlib.Core.Path.{_≡_};
 ghost use lib.ListN.{length};
 ghost use Rattle.mesh.specs.Grid.{gridMesh};
-ghost use Rattle.lent.specs.Lent.{Shaped, Cleared};
-ghost use Rattle.gridshape.specs.Shape.{gridShared, Asked};
+ghost use Rattle.lent.specs.Lent.{Asked, Shaped, Cleared};
+ghost use Rattle.gridshape.specs.Shape.{gridShared};
 use crate::filling::plan_grid;
 use crate::filling::put_tables;
 use crate::filling::texture_where;
@@ -45,7 +45,7 @@ pub fn make_grid(
     work: &mut [u32],
     floats: &mut [f32],
 ) -> Counts
-    requires { ⌜ Asked (now block) h s
+    requires { ⌜ Asked 2 (now block) h s
         (record { sources = now sources; positions = now positions; normals = now normals; colours = now colours; textures = now textures; indices = now indices })
         (length (now work)) (length (now floats)) ⌝ }
     ensures { λ r. ⌜ Shaped h (gridMesh missing (now (block .entry)))

@@ -1,2 +1,3 @@
--- The laws of accepted blocks.
+-- The laws of accepted blocks and of what is made.
 pub mod Accepts
+pub mod Made

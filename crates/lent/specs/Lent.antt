@@ -36,6 +36,13 @@ pub record Enough (z : Sizes) (o : Slices) (w f : ℕ) : Type 0 where
   pub words : 8 * (z .corners + z .points) + 8 ≤ w
   pub floats : 8 * (z .corners + z .points) + 8 ≤ f
 
+-- FORMAT 3, 4: a block of kind k is accepted under some limit, and the slices o, w words and f floats are enough for it
+pub record Asked (k : ℕ) (bs : List ℕ) (h : Header) (s : Settings) (o : Slices) (w f : ℕ) : Type 0 where
+  pub limit : ℕ
+  pub accepted : Accepted limit bs h s
+  pub kind : h .kind ≡ k
+  pub enough : Enough (sizesOf bs h) o w f
+
 -- FORMAT 5: what is made stands in front, and then what the slice held
 abbrev pub over : List ℕ → List ℕ → List ℕ
 over made held = made ++ drop (length made) held

@@ -1,0 +1,60 @@
+-- FORMAT 4, 6.3: where the tables of a line set stand, that they fit the words that are lent, and what is written to them.
+use mathlib.Core.Path.{_≡_, ap, ap₂, _∙_}
+use mathlib.Core.List.{List}
+use Prim.Native.Nat.{ℕ, _+_, _*_, _≤_}
+use native.Mathlib.Omega.{arith}
+use lib.ListN.{take}
+use Rattle.block.specs.Runs.{runs, sumOver}
+use Rattle.mesh.specs.Sizes.{named}
+use Rattle.tables.specs.Layout.{most}
+use Rattle.vertices.specs.Adding.{pointsIn}
+use Rattle.corners.specs.declared.laid.CornerTables.{CornerTables}
+use Rattle.corners.specs.Laid.{tablesAt, Laid}
+use Rattle.faceset.specs.Written.{Copied}
+use Rattle.lines.specs.Uses.{Listed}
+use Rattle.lines.proofs.Sums.{named-runs}
+use Rattle.lineshape.specs.Shape.{lineTables, Tabled}
+
+module _ (p : ℕ) (es : List ℕ) (few : p ≤ most) where
+  pub tables-laid : named p es ≤ most → (len : ℕ) → 8 * (named p es + p) + 8 ≤ len → Laid (lineTables p es) len
+  unfolding lineTables tablesAt
+  tables-laid low len l =
+      record {
+        few = low;
+        some = few;
+        points = omega arith;
+        corners = omega arith;
+        named = omega arith;
+        places = omega arith;
+        numbers = omega arith;
+        textures = omega arith;
+        heads = omega arith;
+        nexts = omega arith;
+      }
+
+  -- with the count c and the points s as the code has them
+  module _ {c s : ℕ} (n : c ≡ sumOver (named p) (runs es)) (q : s ≡ p) where
+    count-is : c ≡ named p es
+    count-is = n ∙ named-runs p (omega arith) es
+
+    pub tables-low : named p es ≤ most → (c ≤ most) × (s ≤ most)
+    tables-low low = (omega (arith, count-is), omega arith)
+
+    pub tables-by : tablesAt c 0 s (3 * s) (3 * s + c) (3 * s + c + c) (3 * s + c + c + c) ≡ lineTables p es
+    unfolding lineTables
+    tables-by = ap₂ (λ (c s : ℕ). tablesAt c 0 s (3 * s) (3 * s + c) (3 * s + c + c) (3 * s + c + c + c)) count-is q
+
+module _ (p : ℕ) (es : List ℕ) {t : CornerTables} (e : t ≡ lineTables p es) where
+  -- the points are at the start, and the corners' points follow
+  pub stand : (t .points ≡ 0) × (t .spots ≡ p) × (t .corners ≡ 3 * p) × (t .count ≡ named p es)
+  unfolding lineTables tablesAt
+  stand =
+      (ap (λ (t : CornerTables). t .points) e, ap (λ (t : CornerTables). t .spots) e, ap (λ (t : CornerTables). t .corners) e, ap (λ (t : CornerTables). t .count) e)
+
+  pub points-before : t .points + 3 * t .spots ≤ t .corners
+  points-before = omega (arith, stand .0, stand .1, stand .2)
+
+  pub tabled : {list w w₁ w₂ : List ℕ} → Copied (t .points) (3 * t .spots) list w w₁ → Listed p es t w₁ w₂ → Tabled p list es t w w₂
+  unfolding pointsIn
+  tabled {list} {w} {w₁} {w₂} C E =
+      record { held = w₁; len = C .kept .len; points = C .words ∙ ap (λ (k : ℕ). take (3 * k) list) (stand .1); listed = E }

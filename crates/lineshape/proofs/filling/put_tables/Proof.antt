@@ -1,0 +1,26 @@
+use mathlib.Core.Path.{sym}
+use native.Mathlib.Omega.{arith}
+use Rattle.lineshape.proofs.Tabling.{stand, points-before, tabled}
+use borrow.Author.Needs.{needs}
+use Rattle.lineshape.proofs.filling.put_tables.Statement.{statement}
+use Rattle.lineshape.proofs.filling.put_tables.Tie as tie
+
+mul-put-points : tie.Need-mul-put-points
+mul-put-points c = search needs
+
+put-points-requires : tie.Need-put-points-requires
+put-points-requires c κs = let Q = c .before .before .before .before .before .pre .1 in (omega (arith, c .before .before .before .before .before .pre .3, stand _ _ (c .before .before .before .before .before .pre .0) .1), omega (arith, Q .points, Q .named, Q .places, Q .numbers, Q .textures, Q .heads, Q .nexts))
+
+list-entries-requires : tie.Need-list-entries-requires
+list-entries-requires c κs = (rw (c .before .before .before .put-points .ensures .kept .len) (c .before .before .before .before .before .before .before .before .before .pre .1), points-before _ _ (c .before .before .before .before .before .before .before .before .before .pre .0), stand _ _ (c .before .before .before .before .before .before .before .before .before .pre .0) .3, omega (arith, c .before .before .before .before .before .before .before .before .before .pre .2), sym (stand _ _ (c .before .before .before .before .before .before .before .before .before .pre .0) .1), c .before .before .before .before .before .before .before .before .before .pre .4)
+
+same-length : tie.Need-same-length
+same-length c = search needs
+
+returns : tie.Need-returns
+returns c = tabled _ _ (c .before .before .before .before .before .before .before .before .before .before .before .before .pre .0) (c .before .before .before .before .before .before .put-points .ensures) (c .before .before .list-entries .ensures)
+
+pub put-tables-spec : {M : Type 1} → statement M
+put-tables-spec =
+    tie.close
+    (tie.spec mul-put-points put-points-requires list-entries-requires same-length returns)
