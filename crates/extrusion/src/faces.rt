@@ -48,7 +48,8 @@ fn put_sides(work: &mut [u32], k: usize, n: usize, m: usize)
     }
 }
 
-fn has_cap(wanted: bool, cap: usize) -> bool
+// A cap is there by its bit, where it has 3 corners or more.
+pub fn has_cap(wanted: bool, cap: usize) -> bool
     ensures { λ r. ⌜ r ≡ hasCap wanted cap ⌝ }
 {
     if wanted {

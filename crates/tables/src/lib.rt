@@ -8,7 +8,6 @@ pub use layout::plan_of;
 pub use reading::Stretch;
 pub use reading::gather_of;
 pub use reading::owner_of;
-pub use reading::point_of;
 pub use reading::stretch_of;
 pub use reading::wide;
 pub use writing::clear_floats;

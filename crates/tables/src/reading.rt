@@ -3,7 +3,7 @@ ghost use mathlib.Core.Path.{_≡_};
 ghost use Prim.Native.Nat.{_≤_, _<_};
 ghost use lib.ListN.{length};
 ghost use Rattle.tables.specs.Layout.{Room};
-ghost use Rattle.tables.specs.Soups.{pointIn, gatherIn, ownerIn, startIn, Sound, Ends};
+ghost use Rattle.tables.specs.Soups.{gatherIn, ownerIn, startIn, Sound, Ends};
 use crate::layout::Plan;
 use block::CornerNumber;
 use block::PointNumber;
@@ -18,14 +18,6 @@ pub fn wide(x: u32) -> usize
     ensures { λ r. ⌜ r ≡ x ⌝ }
 {
     x as usize
-}
-
-// The point of a corner.
-pub fn point_of(work: &[u32], t: Plan, c: CornerNumber) -> PointNumber
-    requires { ⌜ Room (length (now work)) t × (c .0 < t .count) ⌝ }
-    ensures { λ r. ⌜ r .0 ≡ pointIn (now (work .entry)) t (c .0) ⌝ }
-{
-    PointNumber(wide(work[t.corners + c.0]))
 }
 
 // The number that a corner is gathered by for normals (FORMAT 10.2).

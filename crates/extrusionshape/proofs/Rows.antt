@@ -1,0 +1,73 @@
+-- FORMAT 3, 4, worked: a prism over a closed triangle, with both caps and texture wanted, and slices just long enough, meets what is asked.
+use mathlib.Core.Path.{_≡_, refl, sym, subst}
+use mathlib.Core.Bool.{false}
+use mathlib.Core.List.{List, [], _∷_}
+use native.Mathlib.Omega.{arith}
+use Prim.Native.Nat.{ℕ}
+use lib.ListN.{replicate}
+use lib.Ieee.{ofBits, eq}
+use Rattle.bits.specs.Bits.{field}
+use Rattle.block.specs.Header.{countsOf, headerOf}
+use Rattle.block.specs.Lists.{widths, wordsIn, wordCount, listSize, listAt, placeOf}
+use Rattle.block.specs.Runs.{allBelow}
+use Rattle.block.specs.Refusal.{conditionsOf, firstFrom}
+use Rattle.block.specs.Settings.{settingsOf}
+use Rattle.block.proofs.Table.{taken-of}
+use Rattle.block.proofs.TableRows.{bytesOf, oneWord, number}
+use Rattle.polygon.specs.Loops.{tab}
+use Rattle.mesh.specs.Mesh.{Slices}
+use Rattle.mesh.specs.Arcs.{at2}
+use Rattle.mesh.specs.Extrusion.{sectionOf, closes, capLength}
+use Rattle.mesh.specs.Sizes.{Sizes, extrusionSizes, sizesOf, isNoShape, isOverCorners}
+use Rattle.lent.specs.Lent.{Asked, Accepted, Enough}
+
+-- the five words of the header, the twelve of the settings, 2 spine points, and 4 points of the cross-section
+abbrev prism : List ℕ
+prism =
+    bytesOf
+    (0x17c8_3000 ∷ 0x8004_0000 ∷ 0 ∷ 0 ∷ 0
+    ∷ 0 ∷ oneWord ∷ oneWord ∷ oneWord ∷ 0 ∷ 0 ∷ 0 ∷ oneWord ∷ oneWord ∷ oneWord ∷ 0 ∷ 0
+    ∷ 0 ∷ 0 ∷ 0 ∷ 0 ∷ oneWord ∷ 0
+    ∷ 0 ∷ 0 ∷ oneWord ∷ 0 ∷ 0 ∷ oneWord ∷ 0 ∷ 0 ∷ [])
+
+taken : number prism ≡ 0
+unfolding conditionsOf firstFrom allBelow headerOf countsOf widths wordsIn wordCount field
+taken = refl
+
+sizes : (sizesOf prism (headerOf prism) ≡ record { points = 8; corners = 18; indices = 24 })
+    × (isNoShape (headerOf prism) ≡ false)
+    × (isOverCorners 8192 prism (headerOf prism) ≡ false)
+    × (headerOf prism .kind ≡ 3)
+unfolding sizesOf extrusionSizes isNoShape isOverCorners sectionOf capLength closes at2 tab headerOf countsOf placeOf listAt listSize widths wordsIn field ofBits eq
+sizes = (refl, refl, refl, refl)
+
+accepted : Accepted 8192 prism (headerOf prism) (settingsOf prism)
+accepted = record {
+  low = omega arith;
+  header = refl;
+  settings = refl;
+  taken = taken-of 8192 prism (headerOf prism) taken;
+  shape = sizes .1;
+  corners = sizes .2;
+}
+
+abbrev slices : Slices
+slices = record { sources = replicate 18 7; positions = replicate 54 7; normals = replicate 54 7; colours = replicate 72 7; textures = replicate 36 7; indices = replicate 24 7 }
+
+pub met : Asked 3 prism (headerOf prism) (settingsOf prism) slices 216 216
+met = record {
+  limit = 8192;
+  accepted = accepted;
+  kind = sizes .3;
+  enough = subst (λ (z : Sizes). Enough z slices 216 216) (sym (sizes .0))
+      (record {
+        positions = omega arith;
+        normals = omega arith;
+        colours = omega arith;
+        textures = omega arith;
+        sources = omega arith;
+        indices = omega arith;
+        words = omega arith;
+        floats = omega arith;
+      });
+}

@@ -1,0 +1,24 @@
+use mathlib.Core.Path.{sym, _∙_}
+use mathlib.Core.Bool.{true≢false}
+use Rattle.extrusion.proofs.Textures.{arcs-held}
+use borrow.Author.Needs.{needs}
+use Rattle.extrusionshape.proofs.filling.arcs_where.Statement.{statement}
+use Rattle.extrusionshape.proofs.filling.arcs_where.Tie as tie
+
+mul-put-arcs : tie.Need-mul-put-arcs
+mul-put-arcs c = search needs
+
+put-arcs-requires : tie.Need-put-arcs-requires
+put-arcs-requires c κs = search needs
+
+same-length : tie.Need-same-length
+same-length c = search needs
+
+returns : tie.Need-returns
+returns c = record { held = λ u. arcs-held (c .before .before .before .before .before .before .before .before .pre .0) _ _ _ (c .before .before .before .before .before .before .before .before .pre .1) (c .before .before .put-arcs .ensures) }
+
+returns-2 : tie.Need-returns-2
+returns-2 c = record { held = λ u. absurd (true≢false (sym u ∙ c .if1 .left)) }
+
+pub arcs-where-spec : {M : Type 1} → statement M
+arcs-where-spec = tie.close (tie.spec mul-put-arcs put-arcs-requires same-length returns returns-2)

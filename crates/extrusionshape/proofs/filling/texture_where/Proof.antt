@@ -1,0 +1,38 @@
+use native.Mathlib.Omega.{arith}
+use Rattle.extrusionshape.proofs.Tabling.{measured, textures-put, textures-none}
+use borrow.Author.Needs.{needs}
+use Rattle.extrusionshape.proofs.filling.texture_where.Statement.{statement}
+use Rattle.extrusionshape.proofs.filling.texture_where.Tie as tie
+
+cap-fit-requires : tie.Need-cap-fit-requires
+cap-fit-requires c κs = c .before .before .before .before .pre .0
+
+mul-put-textures : tie.Need-mul-put-textures
+mul-put-textures c = omega (arith, c .before .before .before .before .before .before .pre .3)
+
+add-put-textures : tie.Need-add-put-textures
+add-put-textures c = let S = c .before .before .before .before .before .before .before .before in omega (arith, S .pre .4 .room, S .good)
+
+put-textures-requires : tie.Need-put-textures-requires
+put-textures-requires c κs = (measured (c .before .before .before .before .before .before .before .before .pre .0) (c .before .before .before .before .before .before .before .before .pre .2) (c .before .before .before .before .if1 .taken) (c .before .before .before .cap-fit .ensures), c .before .before .before .before .before .before .before .before .pre .1, c .before .before .before .before .before .before .before .before .pre .4)
+
+same-length : tie.Need-same-length
+same-length c = search needs
+
+returns : tie.Need-returns
+returns c = textures-put (c .before .before .put-textures .ensures)
+
+returns-2 : tie.Need-returns-2
+returns-2 c = textures-none (c .if1 .left)
+
+pub texture-where-spec : {M : Type 1} → statement M
+texture-where-spec =
+    tie.close
+    (tie.spec
+    cap-fit-requires
+    mul-put-textures
+    add-put-textures
+    put-textures-requires
+    same-length
+    returns
+    returns-2)

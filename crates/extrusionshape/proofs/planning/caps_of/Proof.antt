@@ -1,0 +1,34 @@
+use native.Mathlib.Omega.{arith}
+use Rattle.extrusionshape.proofs.Bounds.{caps-by}
+use borrow.Author.Needs.{needs}
+use Rattle.extrusionshape.proofs.planning.caps_of.Statement.{statement}
+use Rattle.extrusionshape.proofs.planning.caps_of.Tie as tie
+
+has-cap-requires : tie.Need-has-cap-requires
+has-cap-requires c κs = search needs
+
+one-if-requires : tie.Need-one-if-requires
+one-if-requires c κs = search needs
+
+has-cap-requires-2 : tie.Need-has-cap-requires-2
+has-cap-requires-2 c κs = search needs
+
+one-if-requires-2 : tie.Need-one-if-requires-2
+one-if-requires-2 c κs = search needs
+
+add-result : tie.Need-add-result
+add-result c = search needs
+
+returns : tie.Need-returns
+returns c = (caps-by (c .before .before .before .before .args .h) (c .before .before .before .before .args .cap) (c .before .before .before .has-cap .ensures) (c .before .before .one-if .ensures .0) (c .before .has-cap2 .ensures) (c .one-if2 .ensures .0), omega (arith, c .before .before .one-if .ensures .1, c .one-if2 .ensures .1))
+
+pub caps-of-spec : {M : Type 1} → statement M
+caps-of-spec =
+    tie.close
+    (tie.spec
+    has-cap-requires
+    one-if-requires
+    has-cap-requires-2
+    one-if-requires-2
+    add-result
+    returns)

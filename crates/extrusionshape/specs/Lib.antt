@@ -1,0 +1,2 @@
+-- What is asked for an extrusion, and what its tables hold.
+pub mod Shape

@@ -1,0 +1,80 @@
+// FORMAT 8.4: the tables of an extrusion, as `build` reads them.
+ghost use mathlib.Core.Path.{_≡_};
+ghost use Prim.Native.Nat.{_+_, _*_, _≤_};
+ghost use lib.ListN.{length};
+ghost use Rattle.block.specs.Settings.{settingsOf};
+ghost use Rattle.mesh.specs.Extrusion.{spineCount, sectionCount};
+ghost use Rattle.extrusion.specs.Given.{Given};
+ghost use Rattle.extrusion.specs.Listings.{Planned};
+ghost use Rattle.extrusion.specs.Corners.{Cornered};
+ghost use Rattle.extrusionshape.specs.Shape.{ArcsAt, Tabled, TexturesAt};
+use block::Header;
+use block::Settings;
+use extrusion::cap_fit;
+use extrusion::list_faces;
+use extrusion::put_arcs;
+use extrusion::put_points;
+use extrusion::put_textures;
+use soups::prepare;
+use tables::Plan;
+
+// The parameters of the cross-section and the spine, where texture is wanted, behind the room for three floats a corner.
+fn arcs_where(block: &[u8], h: Header, t: Plan, floats: &mut [f32])
+    requires { ⌜ Given (now block) h × (3 * t .count + (sectionCount h + spineCount h) ≤ length (now floats)) ⌝ }
+    ensures { λ _. ⌜ ArcsAt (now (block .entry)) h (now (floats .exit)) (3 * t .count) ⌝ }
+{
+    if h.need_uvs {
+        put_arcs(block, h, floats, 3 * t.count);
+    }
+}
+
+// All tables but that of texture. The normals are put in front of the parameters.
+pub fn put_tables(
+    block: &[u8],
+    h: Header,
+    s: Settings,
+    cap: usize,
+    t: Plan,
+    work: &mut [u32],
+    floats: &mut [f32],
+)
+    requires { ⌜ Given (now block) h × Planned h cap (length (now work)) t × (3 * t .count + (sectionCount h + spineCount h) ≤ length (now floats)) ⌝ }
+    ensures { λ _. ⌜ Tabled (now (block .entry)) h s cap t (now (work .entry)) (now (work .exit)) (now (floats .entry)) (now (floats .exit)) ⌝ }
+{
+    arcs_where(block, h, t, floats);
+    put_points(block, h, work, t.points);
+    list_faces(h, cap, work, t);
+    let rule = s.crease;
+    prepare(work, t, false, h.ccw, rule, floats);
+}
+
+// The table of texture, where texture is wanted.
+pub fn texture_where(
+    block: &[u8],
+    h: Header,
+    s: Settings,
+    t: Plan,
+    floats: &[f32],
+    work: &mut [u32],
+)
+    requires { ⌜ Given (now block) h × (s ≡ settingsOf (now block)) × ArcsAt (now block) h (now floats) (3 * t .count)
+        × (3 * t .count ≤ length (now floats)) × Cornered h (t .corners) (t .owners) (t .owners + t .count) (t .count) (now work) ⌝ }
+    ensures { λ _. ⌜ TexturesAt (now (block .entry)) h t (now (work .entry)) (now (work .exit)) ⌝ }
+{
+    if h.need_uvs {
+        let fit = cap_fit(block, h);
+        put_textures(
+            block,
+            h,
+            s,
+            floats,
+            3 * t.count,
+            fit,
+            work,
+            t.corners,
+            t.owners,
+            t.owners + t.count,
+            t.count,
+        );
+    }
+}
