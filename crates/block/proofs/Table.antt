@@ -98,7 +98,7 @@ none-of k [] e = tt
 none-of k (true ∷ bs) e = absurd (let h : suc k ≡ 0 = e in omega arith)
 none-of k (false ∷ bs) e = (refl, none-of (suc k) bs e)
 
-or-none : (a b : Bool) → (a || b) ≡ false → (a ≡ false) × (b ≡ false)
+pub or-none : (a b : Bool) → (a || b) ≡ false → (a ≡ false) × (b ≡ false)
 or-none false false e = (refl, refl)
 or-none false true e = absurd (true≢false e)
 or-none true b e = absurd (true≢false e)

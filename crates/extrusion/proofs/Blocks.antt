@@ -14,6 +14,7 @@ use Rattle.block.specs.Header.{countsOf, headerOf}
 use Rattle.block.specs.Settings.{settingsOf}
 use Rattle.block.specs.Refusal.{Taken}
 use Rattle.block.specs.Lists.{extrusionWidths, listBytes}
+use Rattle.block.proofs.Table.{or-none}
 use Rattle.block.proofs.ListLaws.{widths-extrusion, size-by, list-length}
 use Rattle.polygon.specs.Loops.{tab}
 use Rattle.polygon.proofs.Tabs.{tab-same}
@@ -122,15 +123,10 @@ settings-are bs = refl
 
 -- ---- a block that is not refused
 
-no-either : (a b : Bool) → (a || b) ≡ false → (a ≡ false) × (b ≡ false)
-no-either true b e = absurd (true≢false e)
-no-either false true e = absurd (true≢false e)
-no-either false false e = (refl, refl)
-
 -- FORMAT 3: rows 1 to 5 let it pass, and row 6
 pub given-of : {limit : ℕ} {bs : List ℕ} {h : Header} → Taken limit bs h → h ≡ headerOf bs → h .kind ≡ 3 → isNoShape h ≡ false → Given bs h
 unfolding isNoShape
 given-of {limit} {bs} {h} T e k s =
     let q : isNoExtrusion h ≡ false = rw k at s in
-    let r = no-either (ltb (spineCount h) 2) (ltb (sectionCount h) 2) q in
+    let r = or-none (ltb (spineCount h) 2) (ltb (sectionCount h) 2) q in
     record { head = e; kind = k; whole = T .length-is; spine = ltb-false _ _ (r .0); section = ltb-false _ _ (r .1) }

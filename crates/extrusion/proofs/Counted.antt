@@ -52,3 +52,6 @@ faces-third h cap = go (hasCap (h .«begin_cap») cap) (hasCap (h .«end_cap») 
     go true false p q = let c = three-there cap (h .«begin_cap») p in omega arith
     go false true p q = let c = three-there cap (h .«end_cap») q in omega arith
     go false false p q = omega arith
+
+pub caps-by : (h : Header) (cap : ℕ) {x y : Bool} {a b : ℕ} → x ≡ hasCap (h .«begin_cap») cap → a ≡ one x → y ≡ hasCap (h .«end_cap») cap → b ≡ one y → a + b ≡ capCount h cap
+caps-by h cap ex ea ey eb = λ i. (ea ∙ ap one ex) i + (eb ∙ ap one ey) i

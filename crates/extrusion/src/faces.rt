@@ -6,9 +6,11 @@ ghost use Rattle.polygon.specs.Loops.{tab};
 ghost use Rattle.mesh.specs.Lists.{flat};
 ghost use Rattle.mesh.specs.Quads.{quad};
 ghost use Rattle.mesh.specs.Extrusion.{hasCap};
+ghost use Rattle.mesh.specs.Sizes.{one, capCount};
 ghost use Rattle.tables.specs.Layout.{most};
 ghost use Rattle.tables.specs.Kept.{spliced};
 ghost use Rattle.extrusion.specs.Listings.{spot, sidePoints, beginPoints, endPoints, facePoints};
+use block::Header;
 use tables::narrow;
 
 // The points of the face in row i, column j, of rows of m.
@@ -49,13 +51,29 @@ fn put_sides(work: &mut [u32], k: usize, n: usize, m: usize)
 }
 
 // A cap is there by its bit, where it has 3 corners or more.
-pub fn has_cap(wanted: bool, cap: usize) -> bool
+fn has_cap(wanted: bool, cap: usize) -> bool
     ensures { λ r. ⌜ r ≡ hasCap wanted cap ⌝ }
 {
     if wanted {
         return 3 <= cap;
     }
     false
+}
+
+fn one_if(there: bool) -> usize
+    ensures { λ r. ⌜ (r ≡ one there) × (r ≤ 1) ⌝ }
+{
+    if there {
+        return 1;
+    }
+    0
+}
+
+// How many caps of `cap` corners there are.
+pub fn cap_count(h: Header, cap: usize) -> usize
+    ensures { λ r. ⌜ (r ≡ capCount h cap) × (r ≤ 2) ⌝ }
+{
+    one_if(has_cap(h.begin_cap, cap)) + one_if(has_cap(h.end_cap, cap))
 }
 
 // cap - 1, .. 1, 0

@@ -33,9 +33,6 @@ sum-product n m hn hm =
 
 -- ---- the code's numbers
 
-pub caps-by : (h : Header) (cap : ℕ) {x y : Bool} {a b : ℕ} → x ≡ hasCap (h .«begin_cap») cap → a ≡ one x → y ≡ hasCap (h .«end_cap») cap → b ≡ one y → a + b ≡ capCount h cap
-caps-by h cap ex ea ey eb = λ i. (ea ∙ ap one ex) i + (eb ∙ ap one ey) i
-
 -- the plan, by the counts as they are read
 module _ (h : Header) (cap : ℕ) {n m c : ℕ} (en : n ≡ spineCount h) (em : m ≡ sectionCount h) (ec : c ≡ capCount h cap) where
   pub counts-low : Sized h cap

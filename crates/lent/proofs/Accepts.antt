@@ -1,23 +1,18 @@
 -- FORMAT 3, 4: how large the sizes of an accepted block are.
-use mathlib.Core.Path.{_≡_, refl}
-use mathlib.Core.Bool.{Bool, true, false, _||_, true≢false}
 use mathlib.Core.List.{List}
 use Prim.Native.Nat.{ℕ, _≤_}
 use lib.Dec.{ltb}
 use borrow.Author.Tests.{ltb-false}
 use Rattle.block.specs.declared.header.Header.{Header}
 use Rattle.block.specs.declared.settings.Settings.{Settings}
+use Rattle.block.proofs.Table.{or-none}
 use Rattle.mesh.specs.Sizes.{Sizes, sizesOf, isOverCorners}
 use Rattle.lent.specs.Lent.{Accepted}
-
-neither : (a b : Bool) → (a || b) ≡ false → (a ≡ false) × (b ≡ false)
-neither true b e = absurd (true≢false e)
-neither false b e = (refl, e)
 
 module _ {limit : ℕ} {bs : List ℕ} {h : Header} {s : Settings} (A : Accepted limit bs h s) where
   -- FORMAT 3, 7
   pub sizes-low : (sizesOf bs h .points ≤ limit) × (sizesOf bs h .corners ≤ limit)
   unfolding isOverCorners
   sizes-low =
-      let e = neither (ltb limit (sizesOf bs h .points)) (ltb limit (sizesOf bs h .corners)) (A .corners) in
+      let e = or-none (ltb limit (sizesOf bs h .points)) (ltb limit (sizesOf bs h .corners)) (A .corners) in
       (ltb-false limit (sizesOf bs h .points) (e .0), ltb-false limit (sizesOf bs h .corners) (e .1))

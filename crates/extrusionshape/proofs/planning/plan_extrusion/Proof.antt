@@ -20,29 +20,29 @@ sub-sides-2 c = search needs
 mul-sides : tie.Need-mul-sides
 mul-sides c = omega (arith, counts-low (c .before .before .args .h) (c .before .before .args .cap) (c .before .spine-count .ensures) (c .section-count .ensures) refl (c .before .before .pre))
 
-caps-of-requires : tie.Need-caps-of-requires
-caps-of-requires c κs = search needs
+cap-count-requires : tie.Need-cap-count-requires
+cap-count-requires c κs = search needs
 
 mul-plan-of : tie.Need-mul-plan-of
-mul-plan-of c = omega (arith, counts-low (c .before .before .before .args .h) (c .before .before .before .args .cap) (c .before .before .spine-count .ensures) (c .before .section-count .ensures) (c .caps-of .ensures .0) (c .before .before .before .pre))
+mul-plan-of c = omega (arith, counts-low (c .before .before .before .args .h) (c .before .before .before .args .cap) (c .before .before .spine-count .ensures) (c .before .section-count .ensures) (c .cap-count .ensures .0) (c .before .before .before .pre))
 
 mul-plan-of-2 : tie.Need-mul-plan-of-2
-mul-plan-of-2 c = omega (arith, counts-low (c .before .before .before .args .h) (c .before .before .before .args .cap) (c .before .before .spine-count .ensures) (c .before .section-count .ensures) (c .caps-of .ensures .0) (c .before .before .before .pre))
+mul-plan-of-2 c = omega (arith, counts-low (c .before .before .before .args .h) (c .before .before .before .args .cap) (c .before .before .spine-count .ensures) (c .before .section-count .ensures) (c .cap-count .ensures .0) (c .before .before .before .pre))
 
 mul-plan-of-3 : tie.Need-mul-plan-of-3
-mul-plan-of-3 c = omega (arith, counts-low (c .before .before .before .args .h) (c .before .before .before .args .cap) (c .before .before .spine-count .ensures) (c .before .section-count .ensures) (c .caps-of .ensures .0) (c .before .before .before .pre))
+mul-plan-of-3 c = omega (arith, counts-low (c .before .before .before .args .h) (c .before .before .before .args .cap) (c .before .before .spine-count .ensures) (c .before .section-count .ensures) (c .cap-count .ensures .0) (c .before .before .before .pre))
 
 add-plan-of : tie.Need-add-plan-of
-add-plan-of c = omega (arith, counts-low (c .before .before .before .args .h) (c .before .before .before .args .cap) (c .before .before .spine-count .ensures) (c .before .section-count .ensures) (c .caps-of .ensures .0) (c .before .before .before .pre))
+add-plan-of c = omega (arith, counts-low (c .before .before .before .args .h) (c .before .before .before .args .cap) (c .before .before .spine-count .ensures) (c .before .section-count .ensures) (c .cap-count .ensures .0) (c .before .before .before .pre))
 
 add-plan-of-2 : tie.Need-add-plan-of-2
-add-plan-of-2 c = omega (arith, counts-low (c .before .before .before .args .h) (c .before .before .before .args .cap) (c .before .before .spine-count .ensures) (c .before .section-count .ensures) (c .caps-of .ensures .0) (c .before .before .before .pre))
+add-plan-of-2 c = omega (arith, counts-low (c .before .before .before .args .h) (c .before .before .before .args .cap) (c .before .before .spine-count .ensures) (c .before .section-count .ensures) (c .cap-count .ensures .0) (c .before .before .before .pre))
 
 plan-of-requires : tie.Need-plan-of-requires
-plan-of-requires c κs = let q = counts-low (c .before .before .before .args .h) (c .before .before .before .args .cap) (c .before .before .spine-count .ensures) (c .before .section-count .ensures) (c .caps-of .ensures .0) (c .before .before .before .pre) in (q .2, q .3, omega (arith, q .3, q .4))
+plan-of-requires c κs = let q = counts-low (c .before .before .before .args .h) (c .before .before .before .args .cap) (c .before .before .spine-count .ensures) (c .before .section-count .ensures) (c .cap-count .ensures .0) (c .before .before .before .pre) in (q .2, q .3, omega (arith, q .3, q .4))
 
 returns : tie.Need-returns
-returns c = c .plan-of .ensures ∙ plan-by (c .before .before .before .before .args .h) (c .before .before .before .before .args .cap) (c .before .before .before .spine-count .ensures) (c .before .before .section-count .ensures) (c .before .caps-of .ensures .0)
+returns c = c .plan-of .ensures ∙ plan-by (c .before .before .before .before .args .h) (c .before .before .before .before .args .cap) (c .before .before .before .spine-count .ensures) (c .before .before .section-count .ensures) (c .before .cap-count .ensures .0)
 
 pub plan-extrusion-spec : {M : Type 1} → statement M
 plan-extrusion-spec =
@@ -53,7 +53,7 @@ plan-extrusion-spec =
     sub-sides
     sub-sides-2
     mul-sides
-    caps-of-requires
+    cap-count-requires
     mul-plan-of
     mul-plan-of-2
     mul-plan-of-3

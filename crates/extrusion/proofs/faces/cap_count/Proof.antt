@@ -1,8 +1,8 @@
 use native.Mathlib.Omega.{arith}
-use Rattle.extrusionshape.proofs.Bounds.{caps-by}
+use Rattle.extrusion.proofs.Counted.{caps-by}
 use borrow.Author.Needs.{needs}
-use Rattle.extrusionshape.proofs.planning.caps_of.Statement.{statement}
-use Rattle.extrusionshape.proofs.planning.caps_of.Tie as tie
+use Rattle.extrusion.proofs.faces.cap_count.Statement.{statement}
+use Rattle.extrusion.proofs.faces.cap_count.Tie as tie
 
 has-cap-requires : tie.Need-has-cap-requires
 has-cap-requires c κs = search needs
@@ -22,8 +22,8 @@ add-result c = search needs
 returns : tie.Need-returns
 returns c = (caps-by (c .before .before .before .before .args .h) (c .before .before .before .before .args .cap) (c .before .before .before .has-cap .ensures) (c .before .before .one-if .ensures .0) (c .before .has-cap2 .ensures) (c .one-if2 .ensures .0), omega (arith, c .before .before .one-if .ensures .1, c .one-if2 .ensures .1))
 
-pub caps-of-spec : {M : Type 1} → statement M
-caps-of-spec =
+pub cap-count-spec : {M : Type 1} → statement M
+cap-count-spec =
     tie.close
     (tie.spec
     has-cap-requires

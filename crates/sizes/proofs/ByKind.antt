@@ -1,0 +1,102 @@
+-- FORMAT 3, 4: the sizes of each kind from what the code counts, and what is known of each kind.
+use mathlib.Core.Path.{_≡_, refl, sym, ap, subst, _∙_}
+use mathlib.Core.Bool.{false}
+use mathlib.Core.List.{List}
+use Prim.Native.Nat.{ℕ, _+_, _-_, _*_, _≤_, _<_}
+use native.Mathlib.Nat.{mul-comm}
+use native.Mathlib.Omega.{arith}
+use borrow.Author.Tests.{ltb-false}
+use lib.Dec.{ltb}
+use lib.ListN.{getD}
+use Rattle.bits.specs.Bits.{entries}
+use Rattle.block.specs.declared.header.Header.{Header}
+use Rattle.block.specs.declared.runs.Totals.{Totals}
+use Rattle.block.specs.Lists.{listBytes}
+use Rattle.block.specs.Runs.{runs, corners, triangles, sumOver, totals}
+use Rattle.block.proofs.Table.{or-none}
+use Rattle.mesh.specs.Extrusion.{spineCount, sectionCount, sectionOf, extrusionOf, capLength}
+use Rattle.mesh.specs.Grid.{xDimension, zDimension}
+use Rattle.mesh.specs.Sizes as spec
+use Rattle.mesh.specs.Sizes.{isNoGrid, isNoShape}
+use Rattle.tables.specs.Layout.{most}
+use Rattle.extrusion.specs.Given.{Given}
+use Rattle.extrusion.proofs.Blocks.{given-of, section-of, section-long}
+use Rattle.extrusion.proofs.Joined.{cap-fits}
+use Rattle.sizes.specs.declared.kinds.Sizes.{Sizes}
+use Rattle.sizes.specs.Known.{Known, Sides, Are}
+
+-- ---- the sizes of each kind
+
+module _ (bs : List ℕ) (h : Header) where
+  -- from the list l
+  module _ (l : List ℕ) (el : l ≡ listBytes bs h 1) where
+    over-list : (f : List ℕ → ℕ) (n : ℕ) → n ≡ sumOver f (runs (entries l)) → n ≡ sumOver f (runs (entries (listBytes bs h 1)))
+    over-list f n e = e ∙ ap (λ (l : List ℕ). sumOver f (runs (entries l))) el
+
+    pub face-set-are : (t : Totals) (p : ℕ) → t ≡ totals (spec.listedPoints h) (runs (entries l)) → p ≡ spec.listedPoints h
+        → Are (spec.faceSetSizes bs h) (record { points = p; corners = t .corners; indices = 3 * t .triangles })
+    unfolding spec.faceSetSizes
+    face-set-are t p et ep =
+        record {
+          points = ep;
+          corners = over-list (corners (spec.listedPoints h)) (t .corners) (ap (λ (t : Totals). t .corners) et);
+          indices = ap (λ (n : ℕ). 3 * n) (over-list (triangles (spec.listedPoints h)) (t .triangles) (ap (λ (t : Totals). t .triangles) et));
+        }
+
+    pub line-set-are : (c n p : ℕ) → c ≡ sumOver (spec.named (spec.listedPoints h)) (runs (entries l))
+        → n ≡ sumOver (spec.linesAfter (spec.listedPoints h) false) (runs (entries l)) → p ≡ spec.listedPoints h
+        → Are (spec.lineSetSizes bs h) (record { points = p; corners = c; indices = 2 * n })
+    unfolding spec.lineSetSizes
+    line-set-are c n p ec en ep =
+        record {
+          points = ep;
+          corners = over-list (spec.named (spec.listedPoints h)) c ec;
+          indices = ap (λ (n : ℕ). 2 * n) (over-list (spec.linesAfter (spec.listedPoints h) false) n en);
+        }
+
+  pub grid-are : (p q : ℕ) → p ≡ xDimension h * zDimension h → q ≡ spec.sideCount h → Are (spec.gridSizes h) (record { points = p; corners = 4 * q; indices = 6 * q })
+  unfolding spec.gridSizes
+  grid-are p q ep eq =
+      let e : q ≡ spec.quadCount h = eq ∙ mul-comm (xDimension h - 1) (zDimension h - 1) in
+      record { points = ep; corners = ap (λ (n : ℕ). 4 * n) e; indices = ap (λ (n : ℕ). 6 * n) e }
+
+  pub extrusion-are : (k n p q i : ℕ) → k ≡ capLength (sectionOf bs h) → n ≡ spec.capCount h k → p ≡ spineCount h * sectionCount h → q ≡ spec.sideCount h → i ≡ 3 * (k - 2)
+      → Are (spec.extrusionSizes bs h) (record { points = p; corners = 4 * q + n * k; indices = 6 * q + n * i })
+  unfolding spec.extrusionSizes
+  extrusion-are k n p q i ek en ep eq ei =
+      let m : n ≡ spec.capCount h (capLength (sectionOf bs h)) = en ∙ ap (spec.capCount h) ek in
+      let j : i ≡ 3 * (capLength (sectionOf bs h) - 2) = ei ∙ ap (λ (k : ℕ). 3 * (k - 2)) ek in
+      record { points = ep; corners = λ t. 4 * eq t + m t * ek t; indices = λ t. 6 * eq t + m t * j t }
+
+  -- by kind
+  pub of-kind : (r : Sizes) (k : ℕ) → h .kind ≡ k → Are (spec.byKind k (spec.faceSetSizes bs h) (spec.lineSetSizes bs h) (spec.gridSizes h) (spec.extrusionSizes bs h)) r → Are (spec.sizesOf bs h) r
+  unfolding spec.sizesOf
+  of-kind r k e A = subst (λ (k : ℕ). Are (spec.byKind k (spec.faceSetSizes bs h) (spec.lineSetSizes bs h) (spec.gridSizes h) (spec.extrusionSizes bs h)) r) (sym e) A
+
+-- ---- what is known of each kind
+
+module _ {bs : List ℕ} {h : Header} (K : Known bs h) where
+  pub count-few : (k : ℕ) → getD (h .counts) k 0 ≤ most
+  count-few k = omega (arith, K .taken .counts-are k, K .low)
+
+  pub last-kind : (h .kind ≡ 0 → ⊥) → (h .kind ≡ 1 → ⊥) → (h .kind ≡ 2 → ⊥) → h .kind ≡ 3
+  last-kind a b c = omega (arith, a, b, c, K .taken .kind-is)
+
+  pub grid-sides : h .kind ≡ 2 → Sides h
+  unfolding isNoShape
+  grid-sides e =
+      let s : isNoGrid h ≡ false = rw e at (K .shape) in
+      let a = or-none (ltb (xDimension h) 2) _ s in
+      let b = or-none (ltb (zDimension h) 2) _ (a .1) in
+      record { long = ltb-false _ _ (a .0); wide = ltb-false _ _ (b .0); length-few = count-few 0; width-few = count-few 1 }
+
+  pub extrusion-given : h .kind ≡ 3 → Given bs h × Sides h
+  extrusion-given e =
+      let G = given-of (K .taken) (K .header) e (K .shape) in
+      (G, record { long = G .spine; wide = G .section; length-few = count-few 0; width-few = count-few 1 })
+
+pub cap-few : {bs : List ℕ} {h : Header} → Given bs h → Sides h → (k : ℕ) → k ≡ capLength (sectionOf bs h) → k ≤ most
+unfolding sectionOf
+cap-few {bs} {h} G S k e =
+    let l : capLength (sectionOf bs h) ≡ capLength (extrusionOf bs .section) = ap capLength (section-of bs h (G .head)) in
+    omega (arith, e, l, cap-fits (extrusionOf bs), section-long G, S .width-few)

@@ -1,0 +1,5 @@
+-- The theorems that callers cite, and the laws of the functions.
+pub mod FaceLaws
+mod Within
+mod ByKind
+pub mod Decided

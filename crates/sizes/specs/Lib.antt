@@ -1,0 +1,2 @@
+-- What is known of a block whose sizes are asked for, and what its sizes are.
+pub mod Known

@@ -1,0 +1,9 @@
+// FORMAT 3, 4: P, C and N of a block, and the refusals that they and the shape decide.
+mod kinds;
+mod refusals;
+
+pub use kinds::Sizes;
+pub use kinds::sizes_of;
+pub use refusals::is_no_shape;
+pub use refusals::refusal_to_7;
+pub use refusals::shape_refusal;
