@@ -46,16 +46,16 @@ fn plain_texture(
     at: usize,
     fit: Fit,
     number: usize,
-    point: usize,
+    point: PointNumber,
 ) -> Words2
-    requires { ⌜ Measured (now block) h (now floats) at fit × (point < spineCount h * sectionCount h) ⌝ }
-    ensures { λ r. ⌜ r ≡ textureOf (extrusionOf (now (block .entry))) number point ⌝ }
+    requires { ⌜ Measured (now block) h (now floats) at fit × (point .0 < spineCount h * sectionCount h) ⌝ }
+    ensures { λ r. ⌜ r ≡ textureOf (extrusionOf (now (block .entry))) number (point .0) ⌝ }
 {
     let n = spine_count(h);
     let m = section_count(h);
-    let col = point % m;
+    let col = point.0 % m;
     if number < (n - 1) * (m - 1) {
-        return side_texture(floats, at + col, at + (m + point / m));
+        return side_texture(floats, at + col, at + (m + point.0 / m));
     }
     cap_texture(fit, pair_at(block::list_part(block, h, 1), m, col))
 }
@@ -75,7 +75,7 @@ pub fn corner_texture(
     ensures { λ r. ⌜ r ≡ extrusionCorner (extrusionOf (now (block .entry))) number (useOf (point .0)) .texture ⌝ }
 {
     if h.need_uvs {
-        let w = plain_texture(block, h, floats, at, fit, number, point.0);
+        let w = plain_texture(block, h, floats, at, fit, number, point);
         let x = s.transform;
         return block::uv(h.transformed, x, w);
     }

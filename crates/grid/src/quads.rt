@@ -8,28 +8,30 @@ ghost use Rattle.tables.specs.Layout.{most};
 ghost use Rattle.tables.specs.Listed.{Listed};
 ghost use Rattle.grid.specs.Sides.{Planned};
 ghost use Rattle.grid.specs.Listings.{cornerPoint, gridListings};
+use block::CornerNumber;
 use block::Header;
+use block::PointNumber;
 use tables::Plan;
 use tables::narrow;
 use tables::wide;
 
 // The number of the point in column i of row j.
-fn point_at(xd: usize, i: usize, j: usize) -> usize
+fn point_at(xd: usize, i: usize, j: usize) -> PointNumber
     requires { ⌜ (xd ≤ most) × (i ≤ most) × (j ≤ most) ⌝ }
-    ensures { λ r. ⌜ r ≡ i + j * xd ⌝ }
+    ensures { λ r. ⌜ r .0 ≡ i + j * xd ⌝ }
 {
-    i + j * xd
+    PointNumber(i + j * xd)
 }
 
 // The point of corner c, which is corner c % 4 of quad c / 4.
-fn corner_point(xd: usize, c: usize) -> usize
-    requires { ⌜ (2 ≤ xd) × (xd ≤ most) × (c ≤ most) ⌝ }
-    ensures { λ r. ⌜ r ≡ cornerPoint xd c ⌝ }
+fn corner_point(xd: usize, c: CornerNumber) -> PointNumber
+    requires { ⌜ (2 ≤ xd) × (xd ≤ most) × (c .0 ≤ most) ⌝ }
+    ensures { λ r. ⌜ r .0 ≡ cornerPoint xd (c .0) ⌝ }
 {
-    let q = c / 4;
+    let q = c.0 / 4;
     let i = q % (xd - 1);
     let j = q / (xd - 1);
-    let k = c % 4;
+    let k = c.0 % 4;
     if k == 0 {
         return point_at(xd, i, j);
     }
@@ -49,7 +51,8 @@ fn put_corners(work: &mut [u32], a: usize, n: usize, xd: usize)
 {
     let mut c = 0;
     while c < n {
-        work[a + c] = narrow(corner_point(xd, c));
+        let p = corner_point(xd, CornerNumber(c));
+        work[a + c] = narrow(p.0);
         c += 1;
     }
 }

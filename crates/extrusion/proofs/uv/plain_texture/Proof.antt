@@ -12,52 +12,52 @@ section-count-requires : tie.Need-section-count-requires
 section-count-requires c κs = search needs
 
 rem-col : tie.Need-rem-col
-rem-col c = omega (arith, c .section-count .ensures, c .before .before .before .before .pre .0 .given .section)
+rem-col c = omega (arith, c .before .section-count .ensures, c .before .before .before .before .before .pre .0 .given .section)
 
 sub-if1 : tie.Need-sub-if1
-sub-if1 c = omega (arith, c .before .spine-count .ensures, c .before .before .before .before .pre .0 .given .spine)
+sub-if1 c = omega (arith, c .before .before .spine-count .ensures, c .before .before .before .before .before .pre .0 .given .spine)
 
 sub-if1-2 : tie.Need-sub-if1-2
-sub-if1-2 c = omega (arith, c .section-count .ensures, c .before .before .before .before .pre .0 .given .section)
+sub-if1-2 c = omega (arith, c .before .section-count .ensures, c .before .before .before .before .before .pre .0 .given .section)
 
 mul-if1 : tie.Need-mul-if1
-mul-if1 c = omega (arith, sides-fit (c .before .before .before .before .pre .0 .given) _ _ (c .before .spine-count .ensures) (c .section-count .ensures))
+mul-if1 c = omega (arith, sides-fit (c .before .before .before .before .before .pre .0 .given) _ _ (c .before .before .spine-count .ensures) (c .before .section-count .ensures))
 
 add-side-texture : tie.Need-add-side-texture
-add-side-texture c = omega (arith, column-reach (c .before .before .before .before .before .pre .0) (c .before .before .before .before .before .args .number) (c .before .before .before .before .before .args .point) _ _ (c .before .before .spine-count .ensures) (c .before .section-count .ensures) (c .before .before .before .before .before .pre .1))
+add-side-texture c = omega (arith, column-reach (c .before .before .before .before .before .before .pre .0) (c .before .before .before .before .before .before .args .number) (c .before .before .before .before .before .before .args .point .0) _ _ (c .before .before .before .spine-count .ensures) (c .before .before .section-count .ensures) (c .before .before .before .before .before .before .pre .1))
 
 div-side-texture : tie.Need-div-side-texture
-div-side-texture c = omega (arith, c .before .section-count .ensures, c .before .before .before .before .before .pre .0 .given .section)
+div-side-texture c = omega (arith, c .before .before .before .section-count .ensures, c .before .before .before .before .before .before .before .pre .0 .given .section)
 
 add-side-texture-2 : tie.Need-add-side-texture-2
-add-side-texture-2 c = omega (arith, row-reach (c .before .before .before .before .before .pre .0) (c .before .before .before .before .before .args .number) (c .before .before .before .before .before .args .point) _ _ (c .before .before .spine-count .ensures) (c .before .section-count .ensures) (c .before .before .before .before .before .pre .1))
+add-side-texture-2 c = omega (arith, row-reach (c .before .before .before .before .before .before .before .pre .0) (c .before .before .before .before .before .before .before .args .number) (c .before .before .before .before .before .before .before .args .point .0) _ _ (c .before .before .before .before .spine-count .ensures) (c .before .before .before .section-count .ensures) (c .before .before .before .before .before .before .before .pre .1))
 
 add-side-texture-3 : tie.Need-add-side-texture-3
-add-side-texture-3 c = omega (arith, row-reach (c .before .before .before .before .before .pre .0) (c .before .before .before .before .before .args .number) (c .before .before .before .before .before .args .point) _ _ (c .before .before .spine-count .ensures) (c .before .section-count .ensures) (c .before .before .before .before .before .pre .1))
+add-side-texture-3 c = omega (arith, row-reach (c .before .before .before .before .before .before .before .pre .0) (c .before .before .before .before .before .before .before .args .number) (c .before .before .before .before .before .before .before .args .point .0) _ _ (c .before .before .before .before .spine-count .ensures) (c .before .before .before .section-count .ensures) (c .before .before .before .before .before .before .before .pre .1))
 
 side-texture-requires : tie.Need-side-texture-requires
 side-texture-requires c κs = (
-  column-reach (c .before .before .before .before .before .pre .0) (c .before .before .before .before .before .args .number) (c .before .before .before .before .before .args .point) _ _ (c .before .before .spine-count .ensures) (c .before .section-count .ensures) (c .before .before .before .before .before .pre .1),
-  row-reach (c .before .before .before .before .before .pre .0) (c .before .before .before .before .before .args .number) (c .before .before .before .before .before .args .point) _ _ (c .before .before .spine-count .ensures) (c .before .section-count .ensures) (c .before .before .before .before .before .pre .1),
+  column-reach (c .before .before .before .before .before .before .before .pre .0) (c .before .before .before .before .before .before .before .args .number) (c .before .before .before .before .before .before .before .args .point .0) _ _ (c .before .before .before .before .spine-count .ensures) (c .before .before .before .section-count .ensures) (c .before .before .before .before .before .before .before .pre .1),
+  row-reach (c .before .before .before .before .before .before .before .pre .0) (c .before .before .before .before .before .before .before .args .number) (c .before .before .before .before .before .before .before .args .point .0) _ _ (c .before .before .before .before .spine-count .ensures) (c .before .before .before .section-count .ensures) (c .before .before .before .before .before .before .before .pre .1),
 )
 
 returns : tie.Need-returns
-returns c = on-side (c .before .before .before .before .before .before .pre .0) (c .before .before .before .before .before .before .args .number) (c .before .before .before .before .before .before .args .point) _ _ (c .before .before .before .spine-count .ensures) (c .before .before .section-count .ensures) (c .before .before .before .before .before .before .pre .1) _ (c .before .if1 .taken) (c .side-texture .ensures .0) (c .side-texture .ensures .1)
+returns c = on-side (c .before .before .before .before .before .before .before .before .pre .0) (c .before .before .before .before .before .before .before .before .args .number) (c .before .before .before .before .before .before .before .before .args .point .0) _ _ (c .before .before .before .before .before .spine-count .ensures) (c .before .before .before .before .section-count .ensures) (c .before .before .before .before .before .before .before .before .pre .1) _ (c .before .before .if1 .taken) (c .side-texture .ensures .0) (c .side-texture .ensures .1)
 
 list-part-requires : tie.Need-list-part-requires
 list-part-requires c κs = search needs
 
 pair-at-requires : tie.Need-pair-at-requires
 pair-at-requires c κs = (
-  section-room (c .before .before .before .before .before .before .pre .0 .given) _ _ (c .list-part .ensures) (c .before .before .section-count .ensures),
-  column-lt (c .before .before .before .before .before .before .pre .0) (c .before .before .before .before .before .before .args .number) (c .before .before .before .before .before .before .args .point) _ _ (c .before .before .before .spine-count .ensures) (c .before .before .section-count .ensures) (c .before .before .before .before .before .before .pre .1),
+  section-room (c .before .before .before .before .before .before .before .pre .0 .given) _ _ (c .list-part .ensures) (c .before .before .before .section-count .ensures),
+  column-lt (c .before .before .before .before .before .before .before .pre .0) (c .before .before .before .before .before .before .before .args .number) (c .before .before .before .before .before .before .before .args .point .0) _ _ (c .before .before .before .before .spine-count .ensures) (c .before .before .before .section-count .ensures) (c .before .before .before .before .before .before .before .pre .1),
 )
 
 cap-texture-requires : tie.Need-cap-texture-requires
 cap-texture-requires c κs = search needs
 
 returns-2 : tie.Need-returns-2
-returns-2 c = on-cap (c .before .before .before .before .before .before .before .before .pre .0) (c .before .before .before .before .before .before .before .before .args .number) (c .before .before .before .before .before .before .before .before .args .point) _ _ (c .before .before .before .before .before .spine-count .ensures) (c .before .before .before .before .section-count .ensures) (c .before .before .before .before .before .before .before .before .pre .1) _ _ _ (c .before .before .before .if1 .left) (c .before .before .list-part .ensures) (c .before .pair-at .ensures) (c .cap-texture .ensures)
+returns-2 c = on-cap (c .before .before .before .before .before .before .before .before .before .pre .0) (c .before .before .before .before .before .before .before .before .before .args .number) (c .before .before .before .before .before .before .before .before .before .args .point .0) _ _ (c .before .before .before .before .before .before .spine-count .ensures) (c .before .before .before .before .before .section-count .ensures) (c .before .before .before .before .before .before .before .before .before .pre .1) _ _ _ (c .before .before .before .if1 .left) (c .before .before .list-part .ensures) (c .before .pair-at .ensures) (c .cap-texture .ensures)
 
 pub plain-texture-spec : {M : Type 1} → statement M
 plain-texture-spec =
