@@ -3,3 +3,4 @@ pub mod FaceLaws
 mod Within
 mod ByKind
 pub mod Decided
+mod Bits
