@@ -9,7 +9,8 @@ use Rattle.bits.specs.Bits.{entries}
 use Rattle.block.specs.declared.header.Header.{Header}
 use Rattle.block.specs.declared.settings.Settings.{Settings}
 use Rattle.block.specs.Lists.{setWidths, listSize, listBytes}
-use Rattle.block.specs.Runs.{faces, corners, sumOver}
+use Rattle.block.specs.declared.runs.Totals.{Totals}
+use Rattle.block.specs.Runs.{runs, faces, corners, sumOver, totals}
 use Rattle.block.proofs.ListLaws.{widths-set, size-by, list-length, list-entries}
 use Rattle.mesh.specs.Mesh.{Slices}
 use Rattle.mesh.specs.Sizes.{Sizes, coordRuns, listedPoints, faceSetSizes, sizesOf}
@@ -24,11 +25,19 @@ use Rattle.faceset.specs.Passing.{Planned}
 use Rattle.sizes.proofs.FaceLaws.{faces-third, indices-sum}
 use Rattle.facesetshape.specs.Shape.{faceSetPlan}
 
--- the plan, by the numbers as the code has them
-pub plan-by : (bs : List ℕ) (h : Header) {p c f : ℕ} → p ≡ listedPoints h → c ≡ sumOver (corners (listedPoints h)) (coordRuns bs h)
-    → f ≡ sumOver (faces (listedPoints h)) (coordRuns bs h) → planOf p c f ≡ faceSetPlan bs h
-unfolding faceSetPlan
-plan-by bs h ep ec ef = λ i. planOf (ep i) (ec i) (ef i)
+-- the plan, by coordIndex, its totals and the number of points as the code has them
+module _ (bs : List ℕ) (h : Header) {coord : List ℕ} {p : ℕ} {n : Totals} (c : coord ≡ listBytes bs h 1) (e : n ≡ totals (listedPoints h) (runs (entries coord)))
+    (q : p ≡ listedPoints h) where
+  totals-are : n ≡ totals (listedPoints h) (coordRuns bs h)
+  totals-are = e ∙ ap (λ (l : List ℕ). totals (listedPoints h) (runs (entries l))) c
+
+  pub plan-by : planOf p (n .corners) (n .faces) ≡ faceSetPlan bs h
+  unfolding faceSetPlan
+  plan-by = λ i. planOf (q i) (totals-are i .corners) (totals-are i .faces)
+
+  pub plan-low-by : (listedPoints h ≤ most) × (sumOver (corners (listedPoints h)) (coordRuns bs h) ≤ most) × (sumOver (faces (listedPoints h)) (coordRuns bs h) ≤ most)
+      → (p ≤ most) × (n .corners ≤ most) × (n .faces ≤ most)
+  plan-low-by a = (omega (arith, q, a .0), omega (arith, ap (λ (n : Totals). n .corners) totals-are, a .1), omega (arith, ap (λ (n : Totals). n .faces) totals-are, a .2))
 
 module _ {bs : List ℕ} {h : Header} {s : Settings} {o : Slices} {w f : ℕ} (A : Asked 0 bs h s o w f) where
   sizes-are : sizesOf bs h ≡ faceSetSizes bs h

@@ -22,7 +22,7 @@ use Rattle.corners.specs.Corner.{textureAt}
 use Rattle.soups.specs.Prepared.{Prepared}
 use Rattle.soups.specs.Attributes.{attributesOf, faceWidths}
 use Rattle.build.specs.declared.shared.Shared.{Shared}
-use Rattle.texture.specs.Textured.{setTexture}
+use Rattle.texture.specs.Textured.{setTexture, Fitted}
 use Rattle.faceset.specs.Listings.{listingsOf}
 
 -- FORMAT 4, 6.2: P points, and the corners and the number of the kept faces
@@ -41,6 +41,12 @@ pub record Tabled (bs : List ℕ) (h : Header) (s : Settings) (t : Plan) (w w′
   pub faces : Listed listed t (listingsOf (listedPoints h) (entries (listBytes bs h 1)))
   pub points : pointsIn listed t ≡ entries (listBytes bs h 0)
   pub prepared : Prepared (h .normals) (h .ccw) (s .crease) t listed w′ d e
+
+-- FORMAT 7.4: the words w have the points, and room for the textures above the corners' face numbers
+pub record Placed (bs : List ℕ) (h : Header) (t : Plan) (w : List ℕ) : Type 0 where
+  pub spots : t .spots ≡ listedPoints h
+  pub points : pointsIn w t ≡ entries (listBytes bs h 0)
+  pub fitted : Fitted w (fitOf (entries (listBytes bs h 0)) (listedPoints h)) (t .points) (t .spots) (t .corners) (t .places) (t .owners + t .count) (t .count)
 
 -- FORMAT 7.3, 7.4: the words w became w′, which have the texture of each corner where texture is made, above the corners' face numbers
 pub record TexturesAt (bs : List ℕ) (h : Header) (s : Settings) (t : Plan) (w w′ : List ℕ) : Type 0 where

@@ -1,1 +1,5 @@
-// FORMAT 8.1, indexed_face_set: what an accepted face set meets and hands on; laws only.
+// FORMAT 8.1, indexed_face_set: an accepted face set, from its block to the mesh in the lent slices.
+mod filling;
+mod whole;
+
+pub use whole::make_face_set;

@@ -1,0 +1,101 @@
+// FORMAT 8.1: the tables of a face set, as `build` reads them.
+ghost use mathlib.Core.Path.{_≡_};
+ghost use Prim.Native.Nat.{_+_, _*_, _/_, _≤_};
+ghost use lib.ListN.{length, take};
+ghost use Rattle.bits.specs.Bits.{entries};
+ghost use Rattle.block.specs.Lists.{listBytes};
+ghost use Rattle.block.specs.Runs.{faces, corners, sumOver};
+ghost use Rattle.mesh.specs.Sizes.{coordRuns, listedPoints};
+ghost use Rattle.mesh.specs.Texture.{fitOf};
+ghost use Rattle.tables.specs.Layout.{most};
+ghost use Rattle.tables.specs.Soups.{pointsIn};
+ghost use Rattle.faceset.specs.Passing.{Planned};
+ghost use Rattle.facesetshape.specs.Shape.{faceSetPlan, Tabled, Placed, TexturesAt};
+use block::Header;
+use block::Settings;
+use block::face_totals;
+use block::list_part;
+use faceset::list_faces;
+use faceset::put_points;
+use mesh::Fit;
+use soups::face_widths;
+use soups::prepare;
+use tables::Plan;
+use tables::plan_of;
+use tables::wide;
+use texture::fit_of;
+use texture::put_textures;
+
+// The plan for the points, and for the corners and the number of the kept faces.
+pub fn plan_face_set(block: &[u8], h: Header) -> Plan
+    requires { ⌜ (listedPoints h ≤ most) × (sumOver (corners (listedPoints h)) (coordRuns (now block) h) ≤ most)
+        × (sumOver (faces (listedPoints h)) (coordRuns (now block) h) ≤ most) ⌝ }
+    ensures { λ r. ⌜ r ≡ faceSetPlan (now (block .entry)) h ⌝ }
+{
+    let counts = h.counts;
+    let points = counts[0];
+    let coord = list_part(block, h, 1);
+    let totals = face_totals(coord, points);
+    plan_of(wide(points), totals.corners, totals.faces)
+}
+
+// All tables but that of texture.
+pub fn put_tables(
+    block: &[u8],
+    h: Header,
+    s: Settings,
+    t: Plan,
+    work: &mut [u32],
+    floats: &mut [f32],
+)
+    requires { ⌜ Planned (listedPoints h) (listBytes (now block) h 1) (length (now work)) t
+        × (3 * listedPoints h ≤ length (listBytes (now block) h 0) / 4) × (take (3 * listedPoints h) (entries (listBytes (now block) h 0)) ≡ entries (listBytes (now block) h 0))
+        × (3 * t .count ≤ length (now floats)) ⌝ }
+    ensures { λ _. ⌜ Tabled (now (block .entry)) h s t (now (work .entry)) (now (work .exit)) (now (floats .entry)) (now (floats .exit)) ⌝ }
+{
+    let counts = h.counts;
+    let points = counts[0];
+    let list = list_part(block, h, 0);
+    let coord = list_part(block, h, 1);
+    put_points(list, work, t.points, 3 * t.spots);
+    list_faces(coord, points, work, t);
+    let rule = s.crease;
+    prepare(work, t, h.normals, h.ccw, rule, floats);
+}
+
+// FORMAT 7.4: how the points in the tables fit.
+fn fit_in(work: &[u32], t: Plan) -> Fit
+    requires { ⌜ t .points + 3 * t .spots ≤ length (now work) ⌝ }
+    ensures { λ r. ⌜ r ≡ fitOf (pointsIn (now (work .entry)) t) (t .spots) ⌝ }
+{
+    let from = t.points;
+    let to = from + 3 * t.spots;
+    fit_of(&work[from..to], t.spots)
+}
+
+// The table of texture, where texture is made.
+pub fn texture_where(block: &[u8], h: Header, s: Settings, t: Plan, work: &mut [u32])
+    requires { ⌜ Placed (now block) h t (now work) ⌝ }
+    ensures { λ _. ⌜ TexturesAt (now (block .entry)) h s t (now (work .entry)) (now (work .exit)) ⌝ }
+{
+    let widths = face_widths(h);
+    if widths.texture == 0 {
+        return;
+    }
+    let coord = list_part(block, h, 1);
+    let fit = fit_in(work, t);
+    put_textures(
+        block,
+        coord,
+        h,
+        s,
+        fit,
+        work,
+        t.points,
+        t.spots,
+        t.corners,
+        t.places,
+        t.owners + t.count,
+        t.count,
+    );
+}

@@ -1,0 +1,75 @@
+// FORMAT 8.1, indexed_face_set: all of it.
+ghost use mathlib.Core.Path.{_≡_};
+ghost use lib.ListN.{length};
+ghost use Rattle.mesh.specs.FaceSet.{faceSetMesh};
+ghost use Rattle.lent.specs.Lent.{Asked, Shaped, Cleared};
+ghost use Rattle.facesetshape.specs.Shape.{faceSetShared};
+use crate::filling::plan_face_set;
+use crate::filling::put_tables;
+use crate::filling::texture_where;
+use bits::Words4;
+use block::Header;
+use block::Settings;
+use block::list_part;
+use build::Shared;
+use build::build;
+use lent::Counts;
+use soups::attributes_of;
+use soups::face_widths;
+
+fn shared_of(h: Header, missing: Words4) -> Shared
+    ensures { λ r. ⌜ r ≡ faceSetShared missing h ⌝ }
+{
+    let widths = face_widths(h);
+    let attributes = attributes_of(h, missing);
+    Shared {
+        ccw: h.ccw,
+        convex: h.convex,
+        widths,
+        attributes,
+    }
+}
+
+// The mesh of an accepted face set, into the six slices; the working slices are left with zeros.
+pub fn make_face_set(
+    block: &[u8],
+    h: Header,
+    s: Settings,
+    missing: Words4,
+    sources: &mut [u32],
+    positions: &mut [u32],
+    normals: &mut [u32],
+    colours: &mut [u32],
+    textures: &mut [u32],
+    indices: &mut [u32],
+    work: &mut [u32],
+    floats: &mut [f32],
+) -> Counts
+    requires { ⌜ Asked 0 (now block) h s
+        (record { sources = now sources; positions = now positions; normals = now normals; colours = now colours; textures = now textures; indices = now indices })
+        (length (now work)) (length (now floats)) ⌝ }
+    ensures { λ r. ⌜ Shaped h (faceSetMesh missing (now (block .entry)))
+        (record { sources = now (sources .entry); positions = now (positions .entry); normals = now (normals .entry); colours = now (colours .entry); textures = now (textures .entry); indices = now (indices .entry) })
+        (record { sources = now (sources .exit); positions = now (positions .exit); normals = now (normals .exit); colours = now (colours .exit); textures = now (textures .exit); indices = now (indices .exit) })
+        r × Cleared (now (work .entry)) (now (work .exit)) (now (floats .entry)) (now (floats .exit)) ⌝ }
+{
+    let t = plan_face_set(block, h);
+    put_tables(block, h, s, t, work, floats);
+    texture_where(block, h, s, t, work);
+    let shared = shared_of(h, missing);
+    let coord = list_part(block, h, 1);
+    build(
+        block,
+        coord,
+        shared,
+        t,
+        sources,
+        positions,
+        normals,
+        colours,
+        textures,
+        indices,
+        work,
+        floats,
+    )
+}
