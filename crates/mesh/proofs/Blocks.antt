@@ -59,26 +59,26 @@ abbrev furnished : List ℕ
 furnished = 17 ∷ 192 ∷ 128 ∷ 1 ∷ 128 ∷ 8 ∷ 0 ∷ 0 ∷ 0 ∷ 0 ∷ 0 ∷ 64 ∷ 0 ∷ 0 ∷ 0 ∷ 0 ∷ 0 ∷ 0 ∷ 0 ∷ 0 ∷ []
 
 -- a run that shares an edge with the first, or nothing; and the same with an entry that names no point, so that it is skipped
-abbrev beside : List ℕ
+abbrev pub beside : List ℕ
 beside = 1 ∷ 3 ∷ 2 ∷ []
 
-abbrev beside′ : List ℕ
+abbrev pub beside′ : List ℕ
 beside′ = 1 ∷ 9 ∷ 2 ∷ []
 
-abbrev away : List ℕ
+abbrev pub away : List ℕ
 away = 3 ∷ 4 ∷ 5 ∷ []
 
-abbrev away′ : List ℕ
+abbrev pub away′ : List ℕ
 away′ = 3 ∷ 9 ∷ 5 ∷ []
 
 -- crease angle 0; a quarter of π, and its cosine
-abbrev flatBlock : List ℕ → List ℕ
+abbrev pub flatBlock : List ℕ → List ℕ
 flatBlock run = block bare 0 w1 run []
 
-abbrev smoothBlock : List ℕ → List ℕ
+abbrev pub smoothBlock : List ℕ → List ℕ
 smoothBlock run = block bare 0x3f49_0fdb 0x3f35_04f3 run []
 
-abbrev suppliedBlock : List ℕ → List ℕ
+abbrev pub suppliedBlock : List ℕ → List ℕ
 suppliedBlock run = block furnished 0x3f49_0fdb 0x3f35_04f3 run (0 ∷ w1 ∷ 0 ∷ [])
 
 -- ---- what is asked of each pair
@@ -104,7 +104,10 @@ conditions = (
 -- ---- so the first face has the same normals in both blocks of each pair
 
 abbrev SameNormals : List ℕ → List ℕ → Type 0
-SameNormals b c = map (normalAt (slicesOf (faceSetMesh no4 b))) (runPart no4 b 0) ≡ map (normalAt (slicesOf (faceSetMesh no4 c))) (runPart no4 c 0)
+SameNormals b c =
+    let S = slicesOf (faceSetMesh no4 b) in
+    let T = slicesOf (faceSetMesh no4 c) in
+    map (normalAt S) (runPart b (S .indices) 0) ≡ map (normalAt T) (runPart c (T .indices) 0)
 
 first-run : (b c : List ℕ) → OneRun b c 1 → NormalsApart no4 b c 1 0 → SameNormals b c
 first-run b c h n = one-run no4 b c 1 h .others 0 (let l = h .in-b in omega arith) (λ e. let z : ⊥ = omega arith in z) .normals n

@@ -179,7 +179,7 @@ module _ (b c : List ℕ) (r : ℕ) (h : OneRun b c r) where
   unfolding byteOf
   fore-long = omega (arith, after-words (headerOf b) 1)
 
-  heads : headerOf b ≡ headerOf c
+  pub heads : headerOf b ≡ headerOf c
   unfolding s
   heads = header-same b c (byteOf b s) (h .fore) fore-long
 

@@ -10,7 +10,7 @@ pub mod Corners
 pub mod Facts
 pub mod Dense
 mod Runs
-mod Bytes
+pub mod Bytes
 pub mod OneFace
 pub mod FaceSet
 pub mod OneRun

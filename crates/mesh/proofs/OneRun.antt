@@ -8,7 +8,7 @@ use native.Mathlib.Nat.{zero-add}
 use borrow.Author.Tests.{eqb-true, le-ltb}
 use lib.Dec.{eqb, leb, ltb}
 use lib.Ieee.{le}
-use lib.ListN.{length, getD, take, drop}
+use lib.ListN.{length, length-map, getD, take, drop}
 use Rattle.bits.specs.Bits.{entries}
 use Rattle.bits.specs.declared.Words4.{Words4}
 use Rattle.math.specs.Vector.{zero}
@@ -19,13 +19,14 @@ use Rattle.block.specs.Runs.{Run, allBelow, kept, triangles, sumOver}
 use Rattle.polygon.specs.Loops.{All}
 use Rattle.mesh.specs.Lists.{joinN, total}
 use Rattle.mesh.specs.Soup.{Corner, Face}
-use Rattle.mesh.specs.Vertices.{vertices, faceIndices, indicesOf, width}
+use Rattle.mesh.specs.Vertices.{Key, vertices, faceIndices, indicesOf, width}
 use Rattle.mesh.specs.Mesh.{Slices, meshOf, mesh, slicesOf, shownAt, normalAt, partOf}
 use Rattle.mesh.specs.FaceSet.{Rest, restOf, pointCount, coordIn, runsIn, faceOf, facesOf, frameOf, faceSetMesh}
 use Rattle.mesh.specs.OneRun.{runIn, OneRun, runPart, names, creaseAngle, NormalsApart, own, apart, supplied, SameTriangles, Parts, OthersStay}
 use Rattle.mesh.proofs.Lists.{All-map, take-mapN, joinN-same}
 use Rattle.mesh.proofs.Runs.{noRun, one-run-of}
 use Rattle.mesh.proofs.Corners.{part-is, length-faceIndices}
+use Rattle.mesh.proofs.Facts.{indices-within}
 use Rattle.mesh.proofs.OneFace.{gathers, NormalsHold, generatedOwn, generatedApart, suppliedUsable, one-face, one-face-normals}
 use Rattle.mesh.proofs.FaceSet.{length-faces, face-at, width-is, widths-are, named-face, unnamed-face, faces-but}
 use Rattle.mesh.proofs.Bytes.{coords, rest-same}
@@ -48,6 +49,9 @@ names-skipped n es p h l = ap (λ (t : Bool). leb 3 (length es) && t) (names-abo
 -- ---- the part of a run, computed from the runs alone, is the part of its face
 
 module _ (missing : Words4) (bs : List ℕ) where
+  abbrev is : List ℕ
+  is = slicesOf (faceSetMesh missing bs) .indices
+
   faces : List Face
   faces = facesOf missing (restOf bs) (coordIn bs)
 
@@ -55,8 +59,8 @@ module _ (missing : Words4) (bs : List ℕ) where
   unfolding faces runsIn
   face-in j b = face-at missing (restOf bs) (coordIn bs) j b
 
-  part-of-run : (j : ℕ) → j < length (runsIn bs) → runPart missing bs j ≡ partOf faces (faceSetMesh missing bs .indices) j
-  unfolding runPart partOf faces facesOf runsIn
+  part-of-run : (j : ℕ) → j < length (runsIn bs) → runPart bs is j ≡ partOf faces (faceSetMesh missing bs .indices) j
+  unfolding slicesOf runPart partOf faces facesOf runsIn
   part-of-run j b =
       let R = restOf bs in
       let x = coordIn bs in
@@ -67,19 +71,19 @@ module _ (missing : Words4) (bs : List ℕ) where
 
   -- ---- the indices are the runs' parts, in the order of the runs' numbers
 
-  pub parts-whole : joinN (λ (j : ℕ) (r : Run). runPart missing bs j) 0 (runsIn bs) ≡ faceSetMesh missing bs .indices
-  unfolding faceSetMesh mesh meshOf indicesOf faces runsIn
+  pub parts-whole : joinN (λ (j : ℕ) (r : Run). runPart bs is j) 0 (runsIn bs) ≡ is
+  unfolding slicesOf faceSetMesh mesh meshOf indicesOf faces runsIn
   parts-whole =
       let F = frameOf (restOf bs) in
       let vs = vertices F faces in
-      joinN-same (λ (j : ℕ) (r : Run). runPart missing bs j) (faceIndices F faces vs) noRun [] 0 (runsIn bs) faces
+      joinN-same (λ (j : ℕ) (r : Run). runPart bs is j) (faceIndices F faces vs) noRun [] 0 (runsIn bs) faces
       (sym (length-faces missing (restOf bs) (coordIn bs)))
-      (λ j b. ap (runPart missing bs) (zero-add j) ∙ part-of-run j b
+      (λ j b. ap (runPart bs is) (zero-add j) ∙ part-of-run j b
       ∙ part-is F faces vs j (subst (λ (n : ℕ). j < n) (sym (length-faces missing (restOf bs) (coordIn bs))) b)
       ∙ ap (λ (k : ℕ). faceIndices F faces vs k (getD faces j [])) (sym (zero-add j)))
 
   -- three indices for each of its triangles; none for a run that is skipped, as one that names a point beyond the list
-  pub part-length : (j : ℕ) → j < length (runsIn bs) → length (runPart missing bs j) ≡ 3 * triangles (pointCount (restOf bs)) (runIn bs j .items)
+  pub part-length : (j : ℕ) → j < length (runsIn bs) → length (runPart bs is j) ≡ 3 * triangles (pointCount (restOf bs)) (runIn bs j .items)
   unfolding faceSetMesh mesh meshOf faces runsIn
   part-length j b =
       let F = frameOf (restOf bs) in
@@ -88,17 +92,24 @@ module _ (missing : Words4) (bs : List ℕ) where
       ∙ length-faceIndices F faces vs j (getD faces j [])
       ∙ ap width (face-in j b) ∙ width-is missing (restOf bs) (coordIn bs) j (runIn bs j)
 
-  pub part-skipped : (j : ℕ) → kept (pointCount (restOf bs)) (runIn bs j .items) ≡ false → runPart missing bs j ≡ []
+  pub part-skipped : (j : ℕ) → kept (pointCount (restOf bs)) (runIn bs j .items) ≡ false → runPart bs is j ≡ []
   unfolding runPart triangles
   part-skipped j e =
-      ap (λ (b : Bool). take (3 * cond b (length (runIn bs j .items) - 2) 0) (drop (3 * sumOver (triangles (pointCount (restOf bs))) (take j (runsIn bs))) (faceSetMesh missing bs .indices))) e
+      ap (λ (b : Bool). take (3 * cond b (length (runIn bs j .items) - 2) 0) (drop (3 * sumOver (triangles (pointCount (restOf bs))) (take j (runsIn bs))) is)) e
 
-  pub parts : Parts missing bs
+  pub parts : Parts bs is
   parts = record {
     whole = parts-whole;
     long = part-length;
     beyond = λ j p h l. part-skipped j (names-skipped (pointCount (restOf bs)) (runIn bs j .items) p h l);
   }
+
+  -- FORMAT 11: every index names a vertex
+  pub indices-made : All (λ (v : ℕ). v < length (slicesOf (faceSetMesh missing bs) .sources)) is
+  unfolding slicesOf faceSetMesh mesh meshOf faces
+  indices-made =
+      let F = frameOf (restOf bs) in
+      subst (λ (n : ℕ). All (λ (v : ℕ). v < n) (mesh F faces .indices)) (sym (length-map (vertices F faces) (λ (k : Key). k .point))) (indices-within F faces)
 
 -- ---- two blocks
 
@@ -107,6 +118,13 @@ unfolding restOf settingsOf creaseOf
 crease-own bs e = ap (λ (t : Bool). cond t Own (cond (le π (creaseAngle bs)) Every (Bound (floatAt bs 1)))) e
 
 module _ (missing : Words4) (b c : List ℕ) (r : ℕ) (h : OneRun b c r) where
+  -- the words of the two meshes
+  abbrev S : Slices
+  S = slicesOf (faceSetMesh missing b)
+
+  abbrev T : Slices
+  T = slicesOf (faceSetMesh missing c)
+
   -- what the two blocks share, and the faces of b; those of c, with what they share
   R : Rest
   R = restOf b
@@ -128,14 +146,14 @@ module _ (missing : Words4) (b c : List ℕ) (r : ℕ) (h : OneRun b c r) where
   -- from two soups to two blocks, for whatever is read at a vertex
   across : {A : Type 0} (g : Slices → ℕ → A) (j : ℕ) → j < length (runsIn b)
       → map (g (slicesOf (mesh (frameOf R) fs))) (partOf fs (mesh (frameOf R) fs .indices) j) ≡ map (g (slicesOf (mesh (frameOf R) gs))) (partOf gs (mesh (frameOf R) gs .indices) j)
-      → map (g (slicesOf (faceSetMesh missing b))) (runPart missing b j) ≡ map (g (slicesOf (faceSetMesh missing c))) (runPart missing c j)
+      → map (g S) (runPart b (S .indices) j) ≡ map (g T) (runPart c (T .indices) j)
   unfolding faceSetMesh faces fs gs R
   across g j l e =
       let rest : restOf b ≡ restOf c = rest-same b c r h in
-      ap (map (g (slicesOf (faceSetMesh missing b)))) (part-of-run missing b j l)
+      ap (map (g S)) (part-of-run missing b j l)
       ∙ e
       ∙ (λ i. let hs = facesOf missing (rest i) (coordIn c) in let M = mesh (frameOf (rest i)) hs in map (g (slicesOf M)) (partOf hs (M .indices) j))
-      ∙ sym (ap (map (g (slicesOf (faceSetMesh missing c)))) (part-of-run missing c j (subst (λ (n : ℕ). j < n) numbers-same l)))
+      ∙ sym (ap (map (g T)) (part-of-run missing c j (subst (λ (n : ℕ). j < n) numbers-same l)))
 
   -- the three conditions, on the faces
   hold : (j : ℕ) → j < length (runsIn b) → NormalsApart missing b c r j → NormalsHold (frameOf R) (getD fs r []) (getD gs r []) (getD fs j [])
@@ -154,7 +172,7 @@ module _ (missing : Words4) (b c : List ℕ) (r : ℕ) (h : OneRun b c r) where
       (faceOf missing R (coordIn b) j (runIn b j)) (named-face missing R (coordIn b) j (runIn b j))))
   hold j l (supplied n u) = suppliedUsable n u
 
-  same-triangles : (j : ℕ) → j < length (runsIn b) → j ≢ r → SameTriangles missing b c r j
+  same-triangles : (j : ℕ) → j < length (runsIn b) → j ≢ r → SameTriangles missing b c S T r j
   unfolding fs gs R
   same-triangles j l ne =
       let but = faces-but missing R (coordIn b) (coordIn c) r (coords b c r h) in
@@ -164,10 +182,12 @@ module _ (missing : Words4) (b c : List ℕ) (r : ℕ) (h : OneRun b c r) where
       }
 
 -- FORMAT 13
-pub one-run : (missing : Words4) (b c : List ℕ) (r : ℕ) → OneRun b c r → OthersStay missing b c r
+pub one-run : (missing : Words4) (b c : List ℕ) (r : ℕ) → OneRun b c r → OthersStay missing b c (slicesOf (faceSetMesh missing b)) (slicesOf (faceSetMesh missing c)) r
 one-run missing b c r h = record {
   numbers = numbers-same missing b c r h;
   others = same-triangles missing b c r h;
   parts-b = parts missing b;
   parts-c = parts missing c;
+  within-b = indices-made missing b;
+  within-c = indices-made missing c;
 }

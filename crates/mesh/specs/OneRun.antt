@@ -17,8 +17,8 @@ use Rattle.polygon.specs.Loops.{All}
 use Rattle.mesh.specs.Lists.{joinN}
 use Rattle.mesh.specs.Soup.{Corner}
 use Rattle.mesh.specs.Mend.{Usable}
-use Rattle.mesh.specs.Mesh.{slicesOf, shownAt, normalAt}
-use Rattle.mesh.specs.FaceSet.{restOf, pointCount, coordIn, runsIn, facesOf, faceSetMesh}
+use Rattle.mesh.specs.Mesh.{Slices, shownAt, normalAt}
+use Rattle.mesh.specs.FaceSet.{restOf, pointCount, coordIn, runsIn, facesOf}
 
 -- FORMAT 6.1: run r; an empty one beyond the last
 abbrev pub runIn : List ℕ → ℕ → Run
@@ -38,10 +38,10 @@ pub record OneRun (b c : List ℕ) (r : ℕ) : Type 0 where
   pub aft : drop (byteOf b (runIn b r .start + length (runIn b r .items))) b ≡ drop (byteOf b (runIn b r .start + length (runIn b r .items))) c
 
 -- FORMAT 13: the part of the indices that run j made: its place and length are those of the triangles of the runs
-unfoldable pub runPart : Words4 → List ℕ → ℕ → List ℕ
-runPart missing bs j =
+unfoldable pub runPart : List ℕ → List ℕ → ℕ → List ℕ
+runPart bs indices j =
     let count = triangles (pointCount (restOf bs)) in
-    take (3 * count (runIn bs j .items)) (drop (3 * sumOver count (take j (runsIn bs))) (faceSetMesh missing bs .indices))
+    take (3 * count (runIn bs j .items)) (drop (3 * sumOver count (take j (runsIn bs))) indices)
 
 -- FORMAT 13: a run names the points that its entries give, kept or skipped
 unfoldable pub names : List ℕ → ℕ → Bool
@@ -62,21 +62,23 @@ pub data NormalsApart (missing : Words4) (b c : List ℕ) (r j : ℕ) : Type 0 w
   supplied : headerOf b .normals ≡ true → All (λ (q : Corner). Usable (q .given)) (getD (facesOf missing (restOf b) (coordIn b)) j [])
       → NormalsApart missing b c r j
 
--- FORMAT 13: what the two meshes share of run j, corner by corner of its triangles: source point, and the words of position, colour and texture; and of the normal
-pub record SameTriangles (missing : Words4) (b c : List ℕ) (r j : ℕ) : Type 0 where
-  pub corners : map (shownAt (slicesOf (faceSetMesh missing b))) (runPart missing b j) ≡ map (shownAt (slicesOf (faceSetMesh missing c))) (runPart missing c j)
-  pub normals : NormalsApart missing b c r j
-      → map (normalAt (slicesOf (faceSetMesh missing b))) (runPart missing b j) ≡ map (normalAt (slicesOf (faceSetMesh missing c))) (runPart missing c j)
+-- FORMAT 13: what S, made of b, and T, made of c, share of run j, corner by corner of its triangles: source point, and the words of position, colour and texture;
+-- and of the normal
+pub record SameTriangles (missing : Words4) (b c : List ℕ) (S T : Slices) (r j : ℕ) : Type 0 where
+  pub corners : map (shownAt S) (runPart b (S .indices) j) ≡ map (shownAt T) (runPart c (T .indices) j)
+  pub normals : NormalsApart missing b c r j → map (normalAt S) (runPart b (S .indices) j) ≡ map (normalAt T) (runPart c (T .indices) j)
 
 -- FORMAT 13: the indices are the parts of the runs, in the order of their numbers: three for each triangle, and none where a run names a point beyond the list
-pub record Parts (missing : Words4) (bs : List ℕ) : Type 0 where
-  pub whole : joinN (λ (j : ℕ) (r : Run). runPart missing bs j) 0 (runsIn bs) ≡ faceSetMesh missing bs .indices
-  pub long : (j : ℕ) → j < length (runsIn bs) → length (runPart missing bs j) ≡ 3 * triangles (pointCount (restOf bs)) (runIn bs j .items)
-  pub beyond : (j p : ℕ) → names (runIn bs j .items) p ≡ true → pointCount (restOf bs) ≤ p → runPart missing bs j ≡ []
+pub record Parts (bs indices : List ℕ) : Type 0 where
+  pub whole : joinN (λ (j : ℕ) (r : Run). runPart bs indices j) 0 (runsIn bs) ≡ indices
+  pub long : (j : ℕ) → j < length (runsIn bs) → length (runPart bs indices j) ≡ 3 * triangles (pointCount (restOf bs)) (runIn bs j .items)
+  pub beyond : (j p : ℕ) → names (runIn bs j .items) p ≡ true → pointCount (restOf bs) ≤ p → runPart bs indices j ≡ []
 
--- FORMAT 13: the face numbers agree, and every other face has the same triangles
-pub record OthersStay (missing : Words4) (b c : List ℕ) (r : ℕ) : Type 0 where
+-- FORMAT 13: the face numbers agree, and every other face has the same triangles in S, made of b, and in T, made of c; every index names a vertex that was made
+pub record OthersStay (missing : Words4) (b c : List ℕ) (S T : Slices) (r : ℕ) : Type 0 where
   pub numbers : length (runsIn b) ≡ length (runsIn c)
-  pub others : (j : ℕ) → j < length (runsIn b) → j ≢ r → SameTriangles missing b c r j
-  pub parts-b : Parts missing b
-  pub parts-c : Parts missing c
+  pub others : (j : ℕ) → j < length (runsIn b) → j ≢ r → SameTriangles missing b c S T r j
+  pub parts-b : Parts b (S .indices)
+  pub parts-c : Parts c (T .indices)
+  pub within-b : All (λ (v : ℕ). v < length (S .sources)) (S .indices)
+  pub within-c : All (λ (v : ℕ). v < length (T .sources)) (T .indices)

@@ -1,0 +1,8 @@
+-- The laws of one call, the theorem of two calls, and worked cases.
+mod Refusing
+mod ByKind
+pub mod Calls
+pub mod Apart
+pub mod ApartRows
+pub mod Bench
+mod Rows

@@ -1,0 +1,56 @@
+-- FORMAT 3, 4, 5: the eighth row of the table of refusals, the whole table, and what each answer says.
+use Prim.Native.Nat.{ℕ, zero, suc, _+_, _*_}
+use mathlib.Core.Bool.{Bool, _||_}
+use mathlib.Core.List.{List, [], _∷_, _++_}
+use lib.Dec.{ltb}
+use Rattle.bits.specs.declared.Words4.{Words4}
+use Rattle.block.specs.Header.{headerOf}
+use Rattle.block.specs.Refusal.{conditions, firstOf, numberOf}
+use Rattle.mesh.specs.Sizes.{Sizes, sizesOf, shapeConditions}
+use Rattle.mesh.specs.Result.{Result, blockMesh, resultOf}
+use Rattle.geometry.specs.declared.answer.Answer.{Answer}
+use Rattle.geometry.specs.declared.answer.Answer.the-variants.{Refused, Made}
+use Rattle.geometry.specs.declared.answer.Lengths.{Lengths}
+
+-- FORMAT 3: the limit of the rows 4 and 7
+unfoldable pub limit : ℕ
+limit = 8192
+
+-- FORMAT 7.2: a missing colour, (1, 1, 1, 1)
+unfoldable pub white : Words4
+white = record { r = 0x3f80_0000; g = 0x3f80_0000; b = 0x3f80_0000; a = 0x3f80_0000 }
+
+-- FORMAT 3, 8, buffer: a lent slice shorter than section 4 says
+unfoldable pub isShort : Sizes → Lengths → Bool
+isShort z l =
+    ltb (l .positions) (3 * z .corners)
+    || (ltb (l .normals) (3 * z .corners)
+    || (ltb (l .colours) (4 * z .corners)
+    || (ltb (l .textures) (2 * z .corners)
+    || (ltb (l .sources) (z .corners)
+    || (ltb (l .indices) (z .indices)
+    || (ltb (l .words) (8 * (z .corners + z .points) + 8)
+    || ltb (l .floats) (8 * (z .corners + z .points) + 8)))))))
+
+-- FORMAT 3: the number of the first of the eight rows that holds, 0 where none does
+unfoldable pub refusal : List ℕ → Lengths → ℕ
+refusal bs l = let h = headerOf bs in firstOf (conditions limit bs ++ (shapeConditions limit bs h ++ (isShort (sizesOf bs h) l ∷ [])))
+
+-- FORMAT 5: the counts and bits of an accepted block
+unfoldable pub resultFor : List ℕ → Result
+resultFor bs = resultOf (headerOf bs) (blockMesh white bs)
+
+-- FORMAT 3, 5: what an answer says: the number of a refusal, or the counts and bits of a mesh
+pub data Saying : Type 0 where
+  refused : ℕ → Saying
+  made : Result → Saying
+
+-- FORMAT 3, 5: each answer's
+abbrev pub saying : Answer → Saying
+saying (Refused n) = refused (numberOf n)
+saying (Made p) = made (record { vertices = p .vertices; indices = p .indices; solid = p .solid; unlit = p .unlit; hasColours = p .«has_colors» })
+
+-- FORMAT 3, 5: what is to be said: the number, or the result where nothing is refused
+abbrev pub said : ℕ → Result → Saying
+said zero r = made r
+said (suc n) r = refused (suc n)

@@ -1,0 +1,97 @@
+// The mesh of an accepted block, by its kind (FORMAT 8).
+ghost use lib.ListN.{length};
+ghost use Rattle.mesh.specs.Result.{blockMesh};
+ghost use Rattle.lent.specs.Lent.{Asked, Shaped, Cleared};
+use bits::Words4;
+use block::Header;
+use block::Settings;
+use extrusionshape::make_extrusion;
+use facesetshape::make_face_set;
+use gridshape::make_grid;
+use lent::Counts;
+use lineshape::make_line_set;
+
+// FORMAT 2.2: by kind; 3 is the last.
+pub fn make_kind(
+    block: &[u8],
+    h: Header,
+    s: Settings,
+    missing: Words4,
+    sources: &mut [u32],
+    positions: &mut [u32],
+    normals: &mut [u32],
+    colours: &mut [u32],
+    textures: &mut [u32],
+    indices: &mut [u32],
+    work: &mut [u32],
+    floats: &mut [f32],
+) -> Counts
+    requires { ⌜ Asked (h .kind) (now block) h s
+        (record { sources = now sources; positions = now positions; normals = now normals; colours = now colours; textures = now textures; indices = now indices })
+        (length (now work)) (length (now floats)) ⌝ }
+    ensures { λ r. ⌜ Shaped h (blockMesh missing (now (block .entry)))
+        (record { sources = now (sources .entry); positions = now (positions .entry); normals = now (normals .entry); colours = now (colours .entry); textures = now (textures .entry); indices = now (indices .entry) })
+        (record { sources = now (sources .exit); positions = now (positions .exit); normals = now (normals .exit); colours = now (colours .exit); textures = now (textures .exit); indices = now (indices .exit) })
+        r × Cleared (now (work .entry)) (now (work .exit)) (now (floats .entry)) (now (floats .exit)) ⌝ }
+{
+    if h.kind == 0 {
+        return make_face_set(
+            block,
+            h,
+            s,
+            missing,
+            sources,
+            positions,
+            normals,
+            colours,
+            textures,
+            indices,
+            work,
+            floats,
+        );
+    }
+    if h.kind == 1 {
+        return make_line_set(
+            block,
+            h,
+            missing,
+            sources,
+            positions,
+            normals,
+            colours,
+            textures,
+            indices,
+            work,
+            floats,
+        );
+    }
+    if h.kind == 2 {
+        return make_grid(
+            block,
+            h,
+            s,
+            missing,
+            sources,
+            positions,
+            normals,
+            colours,
+            textures,
+            indices,
+            work,
+            floats,
+        );
+    }
+    make_extrusion(
+        block,
+        h,
+        s,
+        sources,
+        positions,
+        normals,
+        colours,
+        textures,
+        indices,
+        work,
+        floats,
+    )
+}

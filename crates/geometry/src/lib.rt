@@ -1,0 +1,10 @@
+// The conversion of a block (FORMAT 3, 4, 5).
+mod answer;
+mod kinds;
+mod refusals;
+mod whole;
+
+pub use answer::Answer;
+pub use answer::Lengths;
+pub use answer::Report;
+pub use whole::convert;

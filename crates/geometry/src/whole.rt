@@ -1,0 +1,115 @@
+// One call: a block and eight lent slices (FORMAT 3, 4, 5).
+ghost use mathlib.Core.Path.{_≡_};
+ghost use Rattle.geometry.specs.Answer.{white};
+ghost use Rattle.geometry.specs.Converted.{numberFor, Converted};
+use crate::answer::Answer;
+use crate::answer::Lengths;
+use crate::answer::Report;
+use crate::kinds::make_kind;
+use crate::refusals::refusal_for;
+use bits::Words4;
+
+// FORMAT 7.2: a missing colour.
+fn white_words() -> Words4
+    ensures { λ r. ⌜ r ≡ white ⌝ }
+{
+    Words4 {
+        r: 0x3f80_0000,
+        g: 0x3f80_0000,
+        b: 0x3f80_0000,
+        a: 0x3f80_0000,
+    }
+}
+
+// A call that nothing refuses.
+fn make(
+    block: &[u8],
+    positions: &mut [u32],
+    normals: &mut [u32],
+    colours: &mut [u32],
+    textures: &mut [u32],
+    sources: &mut [u32],
+    indices: &mut [u32],
+    words: &mut [u32],
+    floats: &mut [f32],
+) -> Report
+    requires { ⌜ numberFor (now block)
+        (record { slices = record { positions = now positions; normals = now normals; colours = now colours; textures = now textures; sources = now sources; indices = now indices }; words = now words; floats = now floats })
+        ≡ 0 ⌝ }
+    ensures { λ r. ⌜ Converted (now (block .entry))
+        (record { slices = record { positions = now (positions .entry); normals = now (normals .entry); colours = now (colours .entry); textures = now (textures .entry); sources = now (sources .entry); indices = now (indices .entry) }; words = now (words .entry); floats = now (floats .entry) })
+        (record { slices = record { positions = now (positions .exit); normals = now (normals .exit); colours = now (colours .exit); textures = now (textures .exit); sources = now (sources .exit); indices = now (indices .exit) }; words = now (words .exit); floats = now (floats .exit) })
+        (Answer.Made r) ⌝ }
+{
+    let h = block::read_header(block);
+    let s = block::read_settings(block);
+    let missing = white_words();
+    let n = make_kind(
+        block,
+        h,
+        s,
+        missing,
+        sources,
+        positions,
+        normals,
+        colours,
+        textures,
+        indices,
+        words,
+        floats,
+    );
+    let f = sizes::flags_of(h);
+    Report {
+        vertices: n.vertices,
+        indices: n.indices,
+        solid: f.solid,
+        unlit: f.unlit,
+        has_colors: f.has_colors,
+    }
+}
+
+// The mesh of a block, into the lent slices; or a refusal, and every lent element as it was.
+pub fn convert(
+    block: &[u8],
+    positions: &mut [u32],
+    normals: &mut [u32],
+    colours: &mut [u32],
+    textures: &mut [u32],
+    sources: &mut [u32],
+    indices: &mut [u32],
+    words: &mut [u32],
+    floats: &mut [f32],
+) -> Answer
+    ensures { λ r. ⌜ Converted (now (block .entry))
+        (record { slices = record { positions = now (positions .entry); normals = now (normals .entry); colours = now (colours .entry); textures = now (textures .entry); sources = now (sources .entry); indices = now (indices .entry) }; words = now (words .entry); floats = now (floats .entry) })
+        (record { slices = record { positions = now (positions .exit); normals = now (normals .exit); colours = now (colours .exit); textures = now (textures .exit); sources = now (sources .exit); indices = now (indices .exit) }; words = now (words .exit); floats = now (floats .exit) })
+        r ⌝ }
+{
+    let no = refusal_for(
+        block,
+        Lengths {
+            positions: positions.len(),
+            normals: normals.len(),
+            colours: colours.len(),
+            textures: textures.len(),
+            sources: sources.len(),
+            indices: indices.len(),
+            words: words.len(),
+            floats: floats.len(),
+        },
+    );
+    if block::is_taken(no) {
+        return Answer::Made(make(
+            block,
+            positions,
+            normals,
+            colours,
+            textures,
+            sources,
+            indices,
+            words,
+            floats,
+        ));
+    }
+    Answer::Refused(no)
+}
