@@ -1,5 +1,5 @@
 -- The laws of one call, the theorem of two calls, and worked cases.
-mod Refusing
+pub mod Refusing
 mod ByKind
 pub mod Calls
 pub mod Apart

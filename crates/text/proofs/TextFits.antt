@@ -14,7 +14,7 @@ use Rattle.text.specs.declared.lines.Parts.{Parts}
 use Rattle.text.specs.Digits.{hexadecimal, decimal}
 use Rattle.text.specs.Fields.{wordField, numberField, fields, attribute}
 use Rattle.text.specs.Lines.{placeText, madeText, vertexLine, elementLine, elementLines}
-use Rattle.text.specs.Answer.{oneIf, countsText, flagsText, headLine, meshText, refusalText, longText, textRoom, anyTextRoom}
+use Rattle.text.specs.Answer.{oneIf, countsText, flagsText, headLine, meshText, refusalText, longText, textRoom}
 use Rattle.text.proofs.ReadBack.{digits-most, digits-short}
 
 -- ---- pieces
@@ -138,17 +138,10 @@ module _ (head : Head) (parts : Parts) (S : Slices) (fewVertices : head .vertice
       join-most (headLine head) (lines ++ rest) (head-most head fewVertices fewIndices)
       (join-most lines rest (le-trans a (mul-le-mul-left (w + 116) fewVertices)) b)
 
-  -- sources and vertex numbers below 256: three digits each
-  pub text-fits : ((v : ℕ) → v < head .vertices → getD (S .sources) v 0 < 256) → ((i : ℕ) → i < head .indices → getD (S .indices) i 0 < 256)
-      → length (meshText head parts S) ≤ textRoom
-  unfolding textRoom
-  text-fits s x =
-      text-most 4 (λ v l. number-most 2 (getD (S .sources) v 0) (omega (arith, s v l))) (λ i l. number-most 2 (getD (S .indices) i 0) (omega (arith, x i l)))
-
   -- whatever the slices hold: ten digits each
-  pub text-fits-any : length (meshText head parts S) ≤ anyTextRoom
-  unfolding anyTextRoom
-  text-fits-any = text-most 11 (λ v l. number-any (getD (S .sources) v 0)) (λ i l. number-any (getD (S .indices) i 0))
+  pub text-fits : length (meshText head parts S) ≤ textRoom
+  unfolding textRoom
+  text-fits = text-most 11 (λ v l. number-any (getD (S .sources) v 0)) (λ i l. number-any (getD (S .indices) i 0))
 
 -- whatever the number
 pub refusal-fits : (n : ℕ) → length (refusalText n) ≤ textRoom

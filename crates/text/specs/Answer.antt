@@ -43,10 +43,6 @@ refusalText number = 110 ∷ 111 ∷ (numberField number ++ (10 ∷ []))
 unfoldable pub longText : List ℕ
 longText = 108 ∷ 111 ∷ 110 ∷ 103 ∷ 10 ∷ []
 
--- FORMAT 14: room for the text of every answer of the program, sources and vertex numbers of three digits: 19 bytes of the first line, 256 vertex lines of 120, 384 lines of 10
+-- FORMAT 14: room for the text of every answer of the program, whatever words the slices hold: 19 bytes of the first line, 256 vertex lines of 127, 384 lines of 24
 unfoldable pub textRoom : ℕ
-textRoom = 34579
-
--- the same with ten digits, for any words in the slices: 127 bytes a vertex line and 24 a line
-unfoldable pub anyTextRoom : ℕ
-anyTextRoom = 41747
+textRoom = 41747

@@ -1,0 +1,86 @@
+use mathlib.Core.Path.{refl}
+use native.Mathlib.Omega.{arith}
+use Rattle.answer.proofs.Said.{answer-few, said-printed}
+use borrow.Author.Needs.{needs}
+use Rattle.answer.proofs.texts.block_text.Statement.{statement}
+use Rattle.answer.proofs.texts.block_text.Tie as tie
+use Rattle.answer.proofs.texts.block_text.Reads as reads
+use Rattle.answer.proofs.texts.block_text.Lts as lts
+use Rattle.answer.proofs.lending.lend_and_convert.Reads as lend-and-convert-reads
+use Rattle.answer.proofs.parts.parts_in.Reads as parts-in-reads
+use Rattle.block.proofs.number_of.Reads as number-of-reads
+use Rattle.text.proofs.put_mesh.Reads as put-mesh-reads
+use Rattle.text.proofs.put_refusal.Reads as put-refusal-reads
+
+lend-and-convert-requires : tie.Need-lend-and-convert-requires
+lend-and-convert-requires c κs = search needs
+
+enum-known-answer : tie.Need-enum-known-answer
+enum-known-answer c = search needs
+
+number-of-requires : tie.Need-number-of-requires
+number-of-requires c κs = search needs
+
+put-refusal-requires : tie.Need-put-refusal-requires
+put-refusal-requires c κs = search needs
+
+enum-known-answer-2 : tie.Need-enum-known-answer-2
+enum-known-answer-2 c = search needs
+
+parts-in-requires : tie.Need-parts-in-requires
+parts-in-requires c κs = search needs
+
+slice-aggregate-put-mesh : tie.Need-slice-aggregate-put-mesh
+slice-aggregate-put-mesh c = search needs
+
+slice-aggregate-put-mesh-2 : tie.Need-slice-aggregate-put-mesh-2
+slice-aggregate-put-mesh-2 c = search needs
+
+slice-aggregate-put-mesh-3 : tie.Need-slice-aggregate-put-mesh-3
+slice-aggregate-put-mesh-3 c = search needs
+
+slice-aggregate-put-mesh-4 : tie.Need-slice-aggregate-put-mesh-4
+slice-aggregate-put-mesh-4 c = search needs
+
+slice-aggregate-put-mesh-5 : tie.Need-slice-aggregate-put-mesh-5
+slice-aggregate-put-mesh-5 c = search needs
+
+slice-aggregate-put-mesh-6 : tie.Need-slice-aggregate-put-mesh-6
+slice-aggregate-put-mesh-6 c = search needs
+
+put-mesh-requires : tie.Need-put-mesh-requires
+put-mesh-requires c κs = let f = answer-few _ _ _ (c .before .before .before .before .before .before .before .before .before .before .before .before .before .before .before .before .before .lend-and-convert .ensures) (c .before .before .before .before .before .before .before .before .before .before .before .before .before .before .before .answer2 .given .1) in (omega (arith, f .0), omega (arith, f .1))
+
+same-length : tie.Need-same-length
+same-length c = search needs
+
+returns : tie.Need-returns
+returns c = said-printed _ _ _ _ _ _ _ (c .before .before .before .before .before .before .before .before .lend-and-convert .ensures) (c .before .before .before .before .before .before .answer .given .1) refl (rw (c .before .before .before .before .number-of .ensures) at (c .before .before .put-refusal .ensures))
+
+same-length-2 : tie.Need-same-length-2
+same-length-2 c = search needs
+
+returns-2 : tie.Need-returns-2
+returns-2 c = said-printed _ _ _ _ _ _ _ (c .before .before .before .before .before .before .before .before .before .before .before .before .before .before .before .before .before .before .before .before .lend-and-convert .ensures) (c .before .before .before .before .before .before .before .before .before .before .before .before .before .before .before .before .before .before .answer2 .given .1) (c .before .before .before .before .before .before .before .before .before .before .before .before .before .before .before .before .parts-in .ensures) (c .before .before .put-mesh .ensures)
+
+pub block-text-spec : {M : Type 1} → statement M
+block-text-spec =
+    tie.close
+    (tie.spec
+    lend-and-convert-requires
+    enum-known-answer
+    number-of-requires
+    put-refusal-requires
+    enum-known-answer-2
+    parts-in-requires
+    slice-aggregate-put-mesh
+    slice-aggregate-put-mesh-2
+    slice-aggregate-put-mesh-3
+    slice-aggregate-put-mesh-4
+    slice-aggregate-put-mesh-5
+    slice-aggregate-put-mesh-6
+    put-mesh-requires
+    same-length
+    returns
+    same-length-2
+    returns-2)

@@ -1,0 +1,60 @@
+-- FORMAT 14: the slices that the program lends, and what a call leaves in them.
+use Prim.Native.Nat.{ℕ}
+use mathlib.Core.Path.{_≡_}
+use mathlib.Core.List.{List}
+use lib.ListN.{replicate}
+use lib.Ieee.{binary32, ofBits}
+use Rattle.mesh.specs.Mesh.{Slices}
+use Rattle.mesh.specs.Result.{made}
+use Rattle.geometry.specs.Answer.{white, resultFor, saying, said}
+use Rattle.geometry.specs.Converted.{Lending, numberFor, after}
+use Rattle.answer.specs.declared.lending.Conversion.{Conversion}
+
+-- FORMAT 14: for C and P of 256 each, and 768 indices
+unfoldable pub fresh : Lending
+fresh =
+    record {
+      slices = record {
+        sources = replicate 256 0;
+        positions = replicate 768 0;
+        normals = replicate 768 0;
+        colours = replicate 1024 0;
+        textures = replicate 512 0;
+        indices = replicate 768 0;
+      };
+      words = replicate 4104 0;
+      floats = replicate 4104 (ofBits binary32 0);
+    }
+
+-- FORMAT 3, 14: the number of the refusal, 0 for none
+abbrev pub number : List ℕ → ℕ
+number bs = numberFor bs fresh
+
+-- FORMAT 5, 14: the six slices of the mesh after the call
+unfoldable pub left : List ℕ → Slices
+left bs =
+    record {
+      sources = after (number bs) (made white bs .sources) (fresh .slices .sources);
+      positions = after (number bs) (made white bs .positions) (fresh .slices .positions);
+      normals = after (number bs) (made white bs .normals) (fresh .slices .normals);
+      colours = after (number bs) (made white bs .colours) (fresh .slices .colours);
+      textures = after (number bs) (made white bs .textures) (fresh .slices .textures);
+      indices = after (number bs) (made white bs .indices) (fresh .slices .indices);
+    }
+
+-- the six slices that came back
+abbrev pub slicesIn : Conversion → Slices
+slicesIn c =
+    record {
+      sources = c .sources;
+      positions = c .positions;
+      normals = c .normals;
+      colours = c .colours;
+      textures = c .textures;
+      indices = c .indices;
+    }
+
+-- FORMAT 14: c is the answer of the call, and what it left
+pub record Left (bs : List ℕ) (c : Conversion) : Type 0 where
+  pub answer : saying (c .answer) ≡ said (number bs) (resultFor bs)
+  pub slices : slicesIn c ≡ left bs

@@ -1,0 +1,12 @@
+// The whole answer of the program to an input, as a text (FORMAT 14).
+mod lending;
+mod parts;
+mod texts;
+
+pub use lending::Conversion;
+pub use lending::lend_and_convert;
+pub use parts::parts_of;
+pub use texts::TEXT_ROOM;
+pub use texts::agrees;
+pub use texts::answer_text;
+pub use texts::block_text;

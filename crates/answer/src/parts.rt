@@ -1,0 +1,48 @@
+// Which attributes are made (FORMAT 5), and so stand on a vertex line.
+ghost use mathlib.Core.Path.{_≡_};
+ghost use Rattle.block.specs.Header.{headerOf};
+ghost use Rattle.mesh.specs.Result.{makesTextures};
+ghost use Rattle.answer.specs.Text.{partsOf};
+use block::Header;
+use block::read_header;
+use sizes::flags_of;
+use text::Parts;
+
+// Where wanted or, in face sets and grids, where texture points are present.
+fn makes_texture(h: Header) -> bool
+    ensures { λ r. ⌜ r ≡ makesTextures h ⌝ }
+{
+    if h.kind == 1 {
+        return false;
+    }
+    if h.need_uvs {
+        return true;
+    }
+    if h.kind == 0 {
+        return h.texture_points;
+    }
+    if h.kind == 2 {
+        return h.texture_points;
+    }
+    false
+}
+
+// A line set has no normals, and its indices are lines.
+pub fn parts_of(h: Header) -> Parts
+    ensures { λ r. ⌜ r ≡ partsOf h ⌝ }
+{
+    let flags = flags_of(h);
+    Parts {
+        normals: !flags.unlit,
+        colours: flags.has_colors,
+        texture: makes_texture(h),
+        lines: flags.unlit,
+    }
+}
+
+// Of a block.
+pub fn parts_in(block: &[u8]) -> Parts
+    ensures { λ r. ⌜ r ≡ partsOf (headerOf (now (block .entry))) ⌝ }
+{
+    parts_of(read_header(block))
+}

@@ -1,0 +1,71 @@
+// The text of the answer to an input, from the start of the buffer (FORMAT 14). The number returned is the length of the text.
+ghost use Rattle.text.specs.Wrote.{Printed};
+ghost use Rattle.answer.specs.Text.{blockText, answerText, Judged};
+use crate::lending::lend_and_convert;
+use crate::parts::parts_in;
+use block::number_of;
+use geometry::Answer;
+use text::Head;
+use text::put_long;
+use text::put_mesh;
+use text::put_refusal;
+
+// Room for the text of every answer.
+pub const TEXT_ROOM: usize = 41747;
+
+// A block's: a refusal or a mesh.
+pub fn block_text(block: &[u8], out: &mut [u8]) -> usize
+    ensures { λ r. ⌜ Printed (now (out .entry)) (blockText (now (block .entry))) (now (out .exit)) r ⌝ }
+{
+    let left = lend_and_convert(block);
+    let answer = left.answer;
+    match answer {
+        Answer::Refused(refusal) => put_refusal(number_of(refusal), out),
+        Answer::Made(report) => {
+            let head = Head {
+                vertices: report.vertices,
+                indices: report.indices,
+                solid: report.solid,
+                unlit: report.unlit,
+                has_colors: report.has_colors,
+            };
+            let parts = parts_in(block);
+            let positions = left.positions;
+            let normals = left.normals;
+            let colours = left.colours;
+            let textures = left.textures;
+            let sources = left.sources;
+            let indices = left.indices;
+            put_mesh(
+                head,
+                parts,
+                &positions,
+                &normals,
+                &colours,
+                &textures,
+                &sources,
+                &indices,
+                out,
+            )
+        }
+    }
+}
+
+// More than 8,192 bytes are told before anything is looked at.
+pub fn answer_text(input: &[u8], out: &mut [u8]) -> usize
+    ensures { λ r. ⌜ Printed (now (out .entry)) (answerText (now (input .entry))) (now (out .exit)) r ⌝ }
+{
+    if input.len() > 8192 {
+        return put_long(out);
+    }
+    block_text(input, out)
+}
+
+// Whether the answer to an input is the expected text.
+pub fn agrees(input: &[u8], expected: &[u8]) -> bool
+    ensures { λ r. ⌜ Judged (now (input .entry)) (now (expected .entry)) r ⌝ }
+{
+    let mut out = [0u8; TEXT_ROOM];
+    let k = answer_text(input, &mut out);
+    check::same(&out[..k], expected)
+}
