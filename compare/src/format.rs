@@ -1,0 +1,218 @@
+//! The block as docs/FORMAT.md has it: header, lists, refusals and sizes. Written from that page alone.
+
+pub const LIMIT: usize = 8192;
+pub const FACES: u32 = 0;
+pub const LINES: u32 = 1;
+pub const GRID: u32 = 2;
+pub const EXTRUSION: u32 = 3;
+
+/// Places of the thirteen flags of the header (FORMAT 2.2).
+pub mod flag {
+    pub const CCW: usize = 0;
+    pub const CONVEX: usize = 1;
+    pub const SOLID: usize = 2;
+    pub const COLOUR_PER_VERTEX: usize = 3;
+    pub const NORMAL_PER_VERTEX: usize = 4;
+    pub const TEXTURE_WANTED: usize = 5;
+    pub const TRANSFORM: usize = 6;
+    pub const COLOURS: usize = 7;
+    pub const ALPHA: usize = 8;
+    pub const NORMALS: usize = 9;
+    pub const TEXTURE: usize = 10;
+    pub const BEGIN_CAP: usize = 11;
+    pub const END_CAP: usize = 12;
+}
+
+/// A block that passed refusals 1 to 5.
+pub struct Block<'a> {
+    bytes: &'a [u8],
+    pub kind: u32,
+    pub flags: [bool; 13],
+    pub counts: [usize; 8],
+}
+
+/// Points, corners and indices (FORMAT 1).
+#[derive(Clone, Copy, Debug, PartialEq, Eq)]
+pub struct Sizes {
+    pub points: usize,
+    pub corners: usize,
+    pub indices: usize,
+}
+
+fn bits(bytes: &[u8], at: usize, n: usize) -> u32 {
+    (at..at + n).fold(0, |sum, k| sum << 1 | (bytes[k / 8] >> (7 - k % 8) & 1) as u32)
+}
+
+/// Words of an entry of each list (FORMAT 2.4).
+pub fn widths(kind: u32, alpha: bool) -> [usize; 8] {
+    let colour = if alpha { 4 } else { 3 };
+    match kind {
+        GRID => [0, 0, colour, 1, 3, 0, 2, 0],
+        EXTRUSION => [3, 2, 2, 5, 0, 0, 0, 0],
+        _ => [3, 1, colour, 1, 3, 1, 2, 1],
+    }
+}
+
+impl<'a> Block<'a> {
+    /// Refusals 1 to 5.
+    pub fn read(bytes: &'a [u8]) -> Result<Self, u32> {
+        if bytes.len() < 20 {
+            return Err(1);
+        }
+        if bits(bytes, 0, 4) != 1 {
+            return Err(2);
+        }
+        let kind = bits(bytes, 4, 3);
+        if kind > 3 || bits(bytes, 132, 28) != 0 {
+            return Err(3);
+        }
+        let flags = std::array::from_fn(|k| bits(bytes, 7 + k, 1) == 1);
+        let counts: [usize; 8] = std::array::from_fn(|k| bits(bytes, 20 + 14 * k, 14) as usize);
+        if counts.iter().any(|&n| n > LIMIT) {
+            return Err(4);
+        }
+        let block = Self { bytes, kind, flags, counts };
+        if bytes.len() != 4 * block.start(8) {
+            return Err(5);
+        }
+        Ok(block)
+    }
+
+    /// The words before list k.
+    fn start(&self, k: usize) -> usize {
+        let widths = widths(self.kind, self.flags[flag::ALPHA]);
+        17 + (0..k).map(|i| widths[i] * self.counts[i]).sum::<usize>()
+    }
+
+    fn word_at(&self, place: usize) -> u32 {
+        u32::from_be_bytes(self.bytes[4 * place..4 * place + 4].try_into().unwrap())
+    }
+
+    /// One of the twelve words (FORMAT 2.3), as it stands there.
+    pub fn word(&self, k: usize) -> u32 {
+        self.word_at(5 + k)
+    }
+
+    /// The words of list k.
+    pub fn list(&self, k: usize) -> Vec<u32> {
+        (self.start(k)..self.start(k + 1)).map(|p| self.word_at(p)).collect()
+    }
+
+    pub fn floats(&self, k: usize) -> Vec<f32> {
+        self.list(k).into_iter().map(f32::from_bits).collect()
+    }
+
+    pub fn entries(&self, k: usize) -> Vec<i32> {
+        self.list(k).into_iter().map(|w| w as i32).collect()
+    }
+
+    pub fn flag(&self, which: usize) -> bool {
+        self.flags[which]
+    }
+
+    /// Whether the mesh has texture (FORMAT 5).
+    pub fn makes_texture(&self) -> bool {
+        match self.kind {
+            LINES => false,
+            EXTRUSION => self.flag(flag::TEXTURE_WANTED),
+            _ => self.flag(flag::TEXTURE_WANTED) || self.flag(flag::TEXTURE),
+        }
+    }
+
+    /// Whether the mesh has colours (FORMAT 5).
+    pub fn makes_colours(&self) -> bool {
+        self.kind != EXTRUSION && self.flag(flag::COLOURS)
+    }
+
+    /// Whether the block supplies the normals (FORMAT 8.1).
+    pub fn supplies_normals(&self) -> bool {
+        (self.kind == FACES || self.kind == GRID) && self.flag(flag::NORMALS)
+    }
+
+    /// Refusals 6 and 7 (FORMAT 3, 4).
+    pub fn sizes(&self) -> Result<Sizes, u32> {
+        let sizes = match self.kind {
+            FACES => self.face_sizes(),
+            LINES => self.line_sizes(),
+            GRID => self.grid_sizes()?,
+            _ => self.extrusion_sizes()?,
+        };
+        if sizes.points > LIMIT || sizes.corners > LIMIT {
+            return Err(7);
+        }
+        Ok(sizes)
+    }
+
+    fn face_sizes(&self) -> Sizes {
+        let (mut corners, mut indices) = (0, 0);
+        for run in runs(&self.entries(1)) {
+            if run.len() >= 3 && run.iter().all(|&v| (v as usize) < self.counts[0]) {
+                corners += run.len();
+                indices += 3 * (run.len() - 2);
+            }
+        }
+        Sizes { points: self.counts[0], corners, indices }
+    }
+
+    fn line_sizes(&self) -> Sizes {
+        let named = |v: i32| v >= 0 && (v as usize) < self.counts[0];
+        let entries = self.entries(1);
+        Sizes {
+            points: self.counts[0],
+            corners: entries.iter().filter(|&&v| named(v)).count(),
+            indices: 2 * entries.windows(2).filter(|w| named(w[0]) && named(w[1])).count(),
+        }
+    }
+
+    fn grid_sizes(&self) -> Result<Sizes, u32> {
+        let (x, z) = (self.counts[0], self.counts[1]);
+        if x < 2 || z < 2 || self.counts[3] < x * z {
+            return Err(6);
+        }
+        let quads = (x - 1) * (z - 1);
+        Ok(Sizes { points: x * z, corners: 4 * quads, indices: 6 * quads })
+    }
+
+    fn extrusion_sizes(&self) -> Result<Sizes, u32> {
+        let (n, m) = (self.counts[0], self.counts[1]);
+        if n < 2 || m < 2 {
+            return Err(6);
+        }
+        let section = self.floats(1);
+        let closes = m > 2 && section[..2] == section[2 * m - 2..];
+        let cap = if closes { m - 1 } else { m };
+        let caps = [flag::BEGIN_CAP, flag::END_CAP].iter().filter(|&&k| self.flag(k)).count();
+        let caps = if cap >= 3 { caps } else { 0 };
+        let quads = (n - 1) * (m - 1);
+        Ok(Sizes {
+            points: n * m,
+            corners: 4 * quads + caps * cap,
+            indices: 6 * quads + caps * 3 * cap.saturating_sub(2),
+        })
+    }
+}
+
+/// Runs of an index list (FORMAT 6.1).
+pub fn runs(entries: &[i32]) -> Vec<&[i32]> {
+    let mut all: Vec<&[i32]> = entries.split(|&v| v < 0).collect();
+    if all.last().is_some_and(|run| run.is_empty()) {
+        all.pop();
+    }
+    all
+}
+
+/// The lengths asked for (FORMAT 4): positions, normals, colours, texture, sources, indices, both working slices.
+pub fn lengths(s: Sizes) -> [usize; 8] {
+    let working = 8 * (s.corners + s.points) + 8;
+    [3 * s.corners, 3 * s.corners, 4 * s.corners, 2 * s.corners, s.corners, s.indices, working, working]
+}
+
+/// The refusal of a block and lent lengths, or the block and its sizes.
+pub fn accept<'a>(bytes: &'a [u8], lent: &[usize; 8]) -> Result<(Block<'a>, Sizes), u32> {
+    let block = Block::read(bytes)?;
+    let sizes = block.sizes()?;
+    if lent.iter().zip(lengths(sizes)).any(|(&have, ask)| have < ask) {
+        return Err(8);
+    }
+    Ok((block, sizes))
+}

@@ -1,0 +1,50 @@
+//! Compares the project's converter with the reference, bit for bit. README.md beside says how to run it.
+
+mod angles;
+mod bench;
+mod cases;
+mod compare;
+mod expected;
+mod faces;
+mod fixed;
+mod follow;
+mod format;
+mod judge;
+mod maker;
+mod ours;
+mod outlines;
+mod record;
+mod rng;
+mod shape;
+mod solids;
+mod text;
+
+use std::process::ExitCode;
+
+const USAGE: &str = "compare COUNT SEED [FIRST] | record COUNT SEED FILE | bench";
+
+fn number(word: Option<&String>, otherwise: u64) -> u64 {
+    word.and_then(|w| w.parse().ok()).unwrap_or(otherwise)
+}
+
+fn main() -> ExitCode {
+    let words: Vec<String> = std::env::args().skip(1).collect();
+    let (folder, words) = words.split_first().expect("the folder for what differs");
+    let mode = words.first().map_or("compare", String::as_str);
+    if mode != "record" && !ours::present() {
+        println!("compare: SITEMESH_LIB names no archive, so there is nothing to compare");
+        return ExitCode::SUCCESS;
+    }
+    let agreed = match (mode, words.get(3)) {
+        ("compare", first) => {
+            compare::compare(number(words.get(1), 10_000), number(words.get(2), 1), number(first, 0), folder)
+        }
+        ("record", Some(file)) => record::record(number(words.get(1), 600), number(words.get(2), 1), file),
+        ("bench", _) => bench::bench(),
+        _ => {
+            println!("{USAGE}");
+            false
+        }
+    };
+    if agreed { ExitCode::SUCCESS } else { ExitCode::FAILURE }
+}

@@ -1,0 +1,2 @@
+-- The two ways a call ends.
+mod Ends

@@ -1,0 +1,54 @@
+use Rattle.host.specs.Hosted.{wordsOf}
+use borrow.Author.Needs.{needs}
+use Rattle.host.proofs.put_report.Statement.{statement}
+use Rattle.host.proofs.put_report.Tie as tie
+use Rattle.host.proofs.put_report.Reads as reads
+use Rattle.host.proofs.put_report.Lts as lts
+use Rattle.host.proofs.one_if.Reads as one-if-reads
+use Rattle.host.proofs.put.Reads as put-reads
+
+put-requires : tie.Need-put-requires
+put-requires c κs = search needs
+
+put-requires-2 : tie.Need-put-requires-2
+put-requires-2 c κs = search needs
+
+one-if-requires : tie.Need-one-if-requires
+one-if-requires c κs = search needs
+
+put-requires-3 : tie.Need-put-requires-3
+put-requires-3 c κs = search needs
+
+one-if-requires-2 : tie.Need-one-if-requires-2
+one-if-requires-2 c κs = search needs
+
+put-requires-4 : tie.Need-put-requires-4
+put-requires-4 c κs = search needs
+
+one-if-requires-3 : tie.Need-one-if-requires-3
+one-if-requires-3 c κs = search needs
+
+put-requires-5 : tie.Need-put-requires-5
+put-requires-5 c κs = search needs
+
+same-length : tie.Need-same-length
+same-length c = search needs
+
+returns : tie.Need-returns
+unfolding wordsOf
+returns c = rw (c .before .before .put5 .ensures, c .before .before .before .before .before .before .before .put4 .ensures, c .before .before .before .before .before .before .before .before .before .before .before .before .put3 .ensures, c .before .before .before .before .before .before .before .before .before .before .before .before .before .before .before .before .before .put2 .ensures, c .before .before .before .before .before .before .before .before .before .before .before .before .before .before .before .before .before .before .before .before .before .put .ensures, c .before .before .before .one-if3 .ensures, c .before .before .before .before .before .before .before .before .one-if2 .ensures, c .before .before .before .before .before .before .before .before .before .before .before .before .before .one-if .ensures)
+
+pub put-report-spec : {M : Type 1} → statement M
+put-report-spec =
+    tie.close
+    (tie.spec
+    put-requires
+    put-requires-2
+    one-if-requires
+    put-requires-3
+    one-if-requires-2
+    put-requires-4
+    one-if-requires-3
+    put-requires-5
+    same-length
+    returns)

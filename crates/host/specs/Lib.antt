@@ -1,0 +1,2 @@
+-- What a host's call promises.
+pub mod Hosted

@@ -1,0 +1,75 @@
+// The conversion for hosts in other languages (FORMAT 15).
+ghost use mathlib.Core.Path.{_≡_};
+ghost use lib.ListN.{set};
+ghost use lib.Seq.{sets};
+ghost use Rattle.mesh.specs.Sizes.{one};
+ghost use Rattle.host.specs.Hosted.{Hosted, wordsOf};
+use block::number_of;
+use geometry::Answer;
+use geometry::Report;
+
+fn one_if(b: bool) -> usize
+    ensures { λ r. ⌜ r ≡ one b ⌝ }
+{
+    if b {
+        return 1;
+    }
+    0
+}
+
+// A word of the result slice, if the slice has its place.
+fn put(result: &mut [usize], k: usize, v: usize)
+    ensures { λ _. ⌜ now (result .exit) ≡ set (now (result .entry)) k v ⌝ }
+{
+    if k < result.len() {
+        result[k] = v;
+    }
+}
+
+fn put_report(result: &mut [usize], p: Report)
+    ensures { λ _. ⌜ now (result .exit) ≡ sets (now (result .entry)) 0 (wordsOf p) ⌝ }
+{
+    put(result, 0, p.vertices);
+    put(result, 1, p.indices);
+    put(result, 2, one_if(p.solid));
+    put(result, 3, one_if(p.unlit));
+    put(result, 4, one_if(p.has_colors));
+}
+
+// The mesh of a block, into the lent slices, and 0; or the number of the refusal, and every lent element as it was.
+#[no_mangle]
+pub extern "C" fn sitemesh_convert(
+    block: &[u8],
+    positions: &mut [u32],
+    normals: &mut [u32],
+    colours: &mut [u32],
+    textures: &mut [u32],
+    sources: &mut [u32],
+    indices: &mut [u32],
+    words: &mut [u32],
+    floats: &mut [f32],
+    result: &mut [usize],
+) -> u32
+    ensures { λ r. ⌜ Hosted (now (block .entry))
+        (record { slices = record { positions = now (positions .entry); normals = now (normals .entry); colours = now (colours .entry); textures = now (textures .entry); sources = now (sources .entry); indices = now (indices .entry) }; words = now (words .entry); floats = now (floats .entry) })
+        (record { slices = record { positions = now (positions .exit); normals = now (normals .exit); colours = now (colours .exit); textures = now (textures .exit); sources = now (sources .exit); indices = now (indices .exit) }; words = now (words .exit); floats = now (floats .exit) })
+        (now (result .entry)) (now (result .exit)) r ⌝ }
+{
+    match geometry::convert(
+        block,
+        positions,
+        normals,
+        colours,
+        textures,
+        sources,
+        indices,
+        words,
+        floats,
+    ) {
+        Answer::Refused(no) => number_of(no),
+        Answer::Made(p) => {
+            put_report(result, p);
+            0
+        }
+    }
+}
