@@ -32,8 +32,8 @@ fn main() -> ExitCode {
     let (folder, words) = words.split_first().expect("the folder for what differs");
     let mode = words.first().map_or("compare", String::as_str);
     if mode != "record" && !ours::present() {
-        println!("compare: SITEMESH_LIB names no archive, so there is nothing to compare");
-        return ExitCode::SUCCESS;
+        println!("compare: SITEMESH_LIB names no archive, so nothing is compared");
+        return ExitCode::from(3);
     }
     let agreed = match (mode, words.get(3)) {
         ("compare", first) => {

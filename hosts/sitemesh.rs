@@ -1,0 +1,64 @@
+//! The converter for Rust (docs/FORMAT.md 15): link target/staticlib/libhost.a.
+
+/// The slices that a call is lent; docs/FORMAT.md 4 has the lengths asked for.
+pub struct Lent<'a> {
+    pub positions: &'a mut [f32],
+    pub normals: &'a mut [f32],
+    pub colours: &'a mut [f32],
+    pub textures: &'a mut [f32],
+    pub sources: &'a mut [u32],
+    pub indices: &'a mut [u32],
+    pub words: &'a mut [u32],
+    pub floats: &'a mut [f32],
+}
+
+/// What was made, from the start of each slice.
+#[derive(Debug, PartialEq)]
+pub struct Mesh {
+    pub vertices: usize,
+    pub indices: usize,
+    pub solid: bool,
+    pub unlit: bool,
+    pub has_colors: bool,
+}
+
+// A slice is handed over as a pointer and a length, two arguments each.
+extern "C" {
+    fn sitemesh_convert(
+        block: *const u8, block_length: usize,
+        positions: *mut f32, positions_length: usize,
+        normals: *mut f32, normals_length: usize,
+        colours: *mut f32, colours_length: usize,
+        textures: *mut f32, textures_length: usize,
+        sources: *mut u32, sources_length: usize,
+        indices: *mut u32, indices_length: usize,
+        words: *mut u32, words_length: usize,
+        floats: *mut f32, floats_length: usize,
+        result: *mut usize, result_length: usize,
+    ) -> u32;
+}
+
+/// Converts a block into the lent slices, or gives the number of the refusal and leaves every lent element as it was.
+pub fn convert(block: &[u8], lent: Lent) -> Result<Mesh, u32> {
+    let mut result = [0usize; 5];
+    // The slices are of distinct borrows, so none overlaps another.
+    let number = unsafe {
+        sitemesh_convert(
+            block.as_ptr(), block.len(),
+            lent.positions.as_mut_ptr(), lent.positions.len(),
+            lent.normals.as_mut_ptr(), lent.normals.len(),
+            lent.colours.as_mut_ptr(), lent.colours.len(),
+            lent.textures.as_mut_ptr(), lent.textures.len(),
+            lent.sources.as_mut_ptr(), lent.sources.len(),
+            lent.indices.as_mut_ptr(), lent.indices.len(),
+            lent.words.as_mut_ptr(), lent.words.len(),
+            lent.floats.as_mut_ptr(), lent.floats.len(),
+            result.as_mut_ptr(), result.len(),
+        )
+    };
+    if number != 0 {
+        return Err(number);
+    }
+    let [vertices, indices, solid, unlit, has_colors] = result;
+    Ok(Mesh { vertices, indices, solid: solid != 0, unlit: unlit != 0, has_colors: has_colors != 0 })
+}

@@ -1,0 +1,420 @@
+#!/usr/bin/env python3
+"""Turns what sitemesh prints (docs/FORMAT.md 14) into Wavefront OBJ or into a picture:
+
+    python3 tools/mesh.py obj < ground.mesh > ground.obj
+    python3 tools/mesh.py svg ground.mesh hospital.mesh duct.mesh > site.svg
+
+NOT PROVED: this tool is plain Python for people. Nothing of the converter depends on it.
+
+Without files it reads standard input; several files make one object file or one picture. The picture is seen along
+parallel lines, from --turn degrees round the Y axis and --tilt degrees above the ground. A refusal ('no N') or 'long'
+in place of a mesh gives a message and exit status 1.
+"""
+import argparse
+import math
+import os
+import struct
+import sys
+
+REFUSALS = ['stub', 'edition', 'kind', 'list limit', 'length', 'no shape', 'corners', 'buffer']
+PARTS = {'n': 3, 'c': 4, 'u': 2}
+
+
+class Fault(Exception):
+    pass
+
+
+# ---- reading
+
+class Mesh:
+    """A mesh: vertices as lists of floats, triangles or lines as lists of vertex numbers."""
+
+    def __init__(self, name):
+        self.name = name
+        self.solid = self.unlit = False
+        self.points, self.parts, self.shapes = [], {'n': [], 'c': [], 'u': []}, []
+
+
+def floats(words, count):
+    """So many words of eight hexadecimal digits, as floats."""
+    if len(words) != count or any(len(word) != 8 for word in words):
+        raise ValueError
+    values = [struct.unpack('>f', bytes.fromhex(word))[0] for word in words]
+    if not all(map(math.isfinite, values)):
+        raise Fault('a number is not finite and cannot be drawn')
+    return values
+
+
+def read_vertex(mesh, words):
+    int(words[1])
+    mesh.points.append(floats(words[2:5], 3))
+    rest = words[5:]
+    while rest:
+        width = PARTS[rest[0]]
+        mesh.parts[rest[0]].append(floats(rest[1:1 + width], width))
+        rest = rest[1 + width:]
+
+
+def read_shape(mesh, words):
+    """A triangle or a line."""
+    numbers = [int(word) for word in words[1:]]
+    if len(numbers) != (2 if mesh.unlit else 3) or not all(0 <= n < len(mesh.points) for n in numbers):
+        raise ValueError
+    mesh.shapes.append(numbers)
+
+
+def read_head(mesh, words):
+    if words[0] == 'no' and len(words) == 2 and words[1] in '12345678':
+        raise Fault(f'no mesh: the block was refused, number {words[1]}, {REFUSALS[int(words[1]) - 1]}')
+    if words == ['long']:
+        raise Fault('no mesh: the block was longer than sitemesh reads')
+    if words[0] != 'mesh' or len(words) != 6:
+        raise Fault('this is not what sitemesh prints')
+    mesh.solid, mesh.unlit = words[3] == '1', words[4] == '1'
+    return int(words[1]), int(words[2])
+
+
+def check_counts(mesh, vertices, indices):
+    lengths = [len(part) for part in mesh.parts.values()]
+    whole = all(length in (0, vertices) for length in lengths)
+    if len(mesh.points) != vertices or sum(map(len, mesh.shapes)) != indices or not whole:
+        raise Fault('the mesh does not have the vertices and indices that its first line says')
+
+
+def read(name, text):
+    mesh = Mesh(name)
+    lines = [line.split() for line in text.splitlines()] or [[]]
+    try:
+        vertices, indices = read_head(mesh, lines[0] or [''])
+    except ValueError:
+        raise Fault('line 1: counts are wanted') from None
+    for at, words in enumerate(lines[1:], 2):
+        try:
+            {'v': read_vertex, 'l' if mesh.unlit else 't': read_shape}[words[0]](mesh, words)
+        except (ValueError, KeyError, IndexError):
+            raise Fault(f'line {at}: not a line of a mesh') from None
+        except Fault as fault:
+            raise Fault(f'line {at}: {fault}') from None
+    check_counts(mesh, vertices, indices)
+    return mesh
+
+
+# ---- Wavefront OBJ
+
+def numbers(values):
+    return ' '.join(f'{value:.9g}' for value in values)
+
+
+def obj_vertices(mesh):
+    colours = mesh.parts['c'] or [[]] * len(mesh.points)
+    for point, colour in zip(mesh.points, colours):
+        yield f'v {numbers(point + colour[:3])}'
+    for s, t in mesh.parts['u']:
+        yield f'vt {numbers([s, 1 - t])}'  # OBJ counts t from below, the mesh from above
+    for normal in mesh.parts['n']:
+        yield f'vn {numbers(normal)}'
+
+
+def obj_corner(mesh, vertex, first):
+    """Number of point, texture point and normal; `first` has how many of each stand before."""
+    point = str(first['v'] + vertex + 1)
+    texture = str(first['u'] + vertex + 1) if mesh.parts['u'] else ''
+    normal = str(first['n'] + vertex + 1) if mesh.parts['n'] else ''
+    if mesh.unlit or not (texture or normal):
+        return point
+    return f'{point}/{texture}/{normal}' if normal else f'{point}/{texture}'
+
+
+def obj(meshes):
+    first = {'v': 0, 'u': 0, 'n': 0}
+    for mesh in meshes:
+        yield f'o {mesh.name}'
+        yield from obj_vertices(mesh)
+        for shape in mesh.shapes:
+            yield ('l ' if mesh.unlit else 'f ') + ' '.join(obj_corner(mesh, v, first) for v in shape)
+        first['v'] += len(mesh.points)
+        first['u'] += len(mesh.parts['u'])
+        first['n'] += len(mesh.parts['n'])
+
+
+# ---- the picture: pieces in view coordinates, x to the right, y up, z towards the eye
+
+WIDTH, MARGIN = 960, 24
+LIGHT = (-0.50, 0.62, 0.60)
+PAPER = '#f3f5f7'
+PLAIN = [(0.83, 0.62, 0.36), (0.62, 0.68, 0.74), (0.56, 0.70, 0.58), (0.72, 0.60, 0.72)]
+INK = (0.20, 0.24, 0.30)
+TRIED = 24  # how many planes are tried at a cut
+
+
+def dot(a, b):
+    return a[0] * b[0] + a[1] * b[1] + a[2] * b[2]
+
+
+def cross(a, b):
+    return (a[1] * b[2] - a[2] * b[1], a[2] * b[0] - a[0] * b[2], a[0] * b[1] - a[1] * b[0])
+
+
+def less(a, b):
+    return (a[0] - b[0], a[1] - b[1], a[2] - b[2])
+
+
+def mean(vectors):
+    return [sum(column) / len(vectors) for column in zip(*vectors)]
+
+
+def unit(a):
+    length = math.sqrt(dot(a, a))
+    return (a[0] / length, a[1] / length, a[2] / length) if length > 0 else None
+
+
+def axes(turn, tilt):
+    """The eye's right, up and forward, as vectors of the scene."""
+    s, c = math.sin(math.radians(turn)), math.cos(math.radians(turn))
+    t, u = math.sin(math.radians(tilt)), math.cos(math.radians(tilt))
+    return (c, 0, -s), (-s * t, u, -c * t), (s * u, t, c * u)
+
+
+def seen(vector, view):
+    return tuple(dot(vector, axis) for axis in view)
+
+
+class Piece:
+    """A triangle, a line, or what a cut left of one. An edge is drawn unless a cut made it."""
+
+    def __init__(self, points, edges, colour, plane=None):
+        self.points, self.edges, self.colour, self.plane = points, edges, colour, plane
+
+    def part(self, points, edges):
+        return Piece(points, edges, self.colour, self.plane)
+
+
+def lit(colour, normal):
+    """The colour under the light. A normal that looks away is turned round."""
+    normal = unit(normal) or (0, 0, 1)
+    side = 1 if normal[2] >= 0 else -1
+    tone = 0.70 + 0.34 * max(0, side * dot(normal, unit(LIGHT)))
+    return [min(1, tone * part) for part in colour]
+
+
+def triangle(mesh, shape, points, plain, view):
+    """The piece of a triangle; none for one edge-on or seen from the back of a solid."""
+    corners = [points[v] for v in shape]
+    normal = unit(cross(less(corners[1], corners[0]), less(corners[2], corners[0])))
+    if normal is None or abs(normal[2]) < 1e-6 or (mesh.solid and normal[2] < 0):
+        return None
+    shade = seen(mean([mesh.parts['n'][v] for v in shape]), view) if mesh.parts['n'] else normal
+    colour = mean([mesh.parts['c'][v][:3] for v in shape]) if mesh.parts['c'] else plain
+    if normal[2] < 0:
+        normal = tuple(-x for x in normal)
+    return Piece(corners, [True] * 3, lit(colour, shade), (normal, dot(normal, corners[0])))
+
+
+def line(mesh, shape, points):
+    colour = mean([mesh.parts['c'][v][:3] for v in shape]) if mesh.parts['c'] else INK
+    return Piece([points[v] for v in shape], [True], colour)
+
+
+def pieces(meshes, view):
+    found, plain = [], 0
+    for mesh in meshes:
+        points = [seen(p, view) for p in mesh.points]
+        for shape in mesh.shapes:
+            if mesh.unlit:
+                found.append(line(mesh, shape, points))
+            else:
+                found.append(triangle(mesh, shape, points, PLAIN[plain % len(PLAIN)], view))
+        plain += not (mesh.unlit or mesh.parts['c'])
+    return [piece for piece in found if piece]
+
+
+# ---- the painter's order: a plane parts the pieces, and what it cuts is cut in two
+
+def heights(piece, plane, near):
+    """The heights of the points over the plane, 0 for those that are near it."""
+    normal, offset = plane
+    found = [dot(normal, p) - offset for p in piece.points]
+    return [0 if abs(h) < near else h for h in found]
+
+
+def is_cut(found):
+    return min(found) < 0 < max(found)
+
+
+def between(a, b, ha, hb):
+    t = ha / (ha - hb)
+    return tuple(x + t * (y - x) for x, y in zip(a, b))
+
+
+def cut_line(piece, found):
+    a, b = piece.points
+    middle = between(a, b, *found)
+    low, high = piece.part([a, middle], [True]), piece.part([middle, b], [True])
+    return (low, high) if found[0] < 0 else (high, low)
+
+
+def cut(piece, found):
+    """The part below the plane and the part above it."""
+    if len(piece.points) == 2:
+        return cut_line(piece, found)
+    sides = ([], [])
+    for k, (a, ha, edge) in enumerate(zip(piece.points, found, piece.edges)):
+        b, hb = piece.points[(k + 1) % len(found)], found[(k + 1) % len(found)]
+        for side, sign in enumerate((-1, 1)):
+            if ha * sign >= 0:
+                # From a point on the plane the outline of this side may run along the cut.
+                sides[side].append((a, edge and (ha * sign > 0 or hb * sign >= 0)))
+        if ha * hb < 0:
+            middle = between(a, b, ha, hb)
+            for side, sign in enumerate((-1, 1)):
+                sides[side].append((middle, edge and hb * sign > 0))
+    return tuple(piece.part([p for p, _ in side], [e for _, e in side]) for side in sides)
+
+
+def best_plane(group, near):
+    """Of some planes the one that cuts the fewest pieces and parts the group well."""
+    planes = [piece.plane for piece in group if piece.plane]
+    step = max(1, len(planes) // TRIED)
+
+    def cost(plane):
+        found = [heights(piece, plane, near) for piece in group]
+        below = sum(max(f) <= 0 for f in found)
+        above = sum(min(f) >= 0 for f in found)
+        return 8 * sum(map(is_cut, found)) + abs(below - above)
+    return min(planes[::step], key=cost)
+
+
+def parted(group, plane, near):
+    """The pieces below the plane, on it and above it."""
+    below, on, above = [], [], []
+    for piece in group:
+        found = heights(piece, plane, near)
+        if is_cut(found):
+            low, high = cut(piece, found)
+            below.append(low)
+            above.append(high)
+        elif min(found) < 0:
+            below.append(piece)
+        elif max(found) > 0 or not piece.plane:
+            above.append(piece)
+        else:
+            on.append(piece)
+    return below, on, above
+
+
+def depth(piece):
+    return mean(piece.points)[2]
+
+
+def painted(group, near):
+    """The pieces from the farthest to the nearest."""
+    order, waiting = [], [(group, False)]
+    while waiting:
+        group, ready = waiting.pop()
+        if ready:
+            order.extend(group)
+        elif any(piece.plane for piece in group):
+            below, on, above = parted(group, best_plane(group, near), near)
+            waiting += [(above, False), (on, True), (below, False)]
+        else:
+            order.extend(sorted(group, key=depth))
+    return order
+
+
+# ---- writing the picture
+
+class Frame:
+    """Where the pieces stand on the paper."""
+
+    def __init__(self, group):
+        points = [p for piece in group for p in piece.points] or [(0, 0, 0)]
+        self.left, self.top = min(p[0] for p in points), max(p[1] for p in points)
+        width = max(p[0] for p in points) - self.left
+        height = self.top - min(p[1] for p in points)
+        self.scale = (WIDTH - 2 * MARGIN) / max(width, height, 1e-9)
+        self.width = width * self.scale + 2 * MARGIN
+        self.height = height * self.scale + 2 * MARGIN
+
+    def place(self, point):
+        x, y = (point[0] - self.left) * self.scale + MARGIN, (self.top - point[1]) * self.scale + MARGIN
+        return f'{x:.1f} {y:.1f}'
+
+
+def paint(colour):
+    return '#' + ''.join(f'{round(255 * min(1, max(0, part))):02x}' for part in colour)
+
+
+def edge_path(places, edges):
+    """The drawn edges of a piece as one path."""
+    path, pen = '', None
+    for k, edge in enumerate(edges):
+        if edge:
+            path += ('' if pen == k else 'M' + places[k]) + 'L' + places[(k + 1) % len(places)]
+            pen = k + 1
+    return path
+
+
+def svg_piece(piece, frame):
+    places = [frame.place(p) for p in piece.points]
+    if len(places) == 2:
+        yield f'<path class="l" color="{paint(piece.colour)}" d="M{places[0]}L{places[1]}"/>'
+        return
+    yield f'<path color="{paint(piece.colour)}" d="M{"L".join(places)}z"/>'
+    edges = edge_path(places, piece.edges)
+    if edges:
+        yield f'<path class="e" color="{paint([0.9 * part for part in piece.colour])}" d="{edges}"/>'
+
+
+def svg(meshes, turn, tilt):
+    group = pieces(meshes, axes(turn, tilt))
+    frame = Frame(group)
+    near = 1e-3 / frame.scale
+    size = f'{frame.width:.0f} {frame.height:.0f}'
+    yield f'<svg xmlns="http://www.w3.org/2000/svg" viewBox="0 0 {size}" width="{frame.width:.0f}">'
+    yield '<style>path{fill:currentColor;stroke:currentColor;stroke-width:.6;stroke-linejoin:round}'
+    yield '.e,.l{fill:none;stroke-linecap:round}.e{stroke-width:.8}.l{stroke-width:2.4}</style>'
+    yield f'<rect width="100%" height="100%" rx="12" fill="{PAPER}"/>'
+    for piece in painted(group, near):
+        yield from svg_piece(piece, frame)
+    yield '</svg>'
+
+
+# ---- the command line
+
+def inputs(files):
+    if not files:
+        yield 'mesh', sys.stdin.read()
+    for file in files:
+        with open(file, encoding='ascii') as opened:
+            yield os.path.splitext(os.path.basename(file))[0], opened.read()
+
+
+def read_all(files):
+    meshes = []
+    for name, text in inputs(files):
+        try:
+            meshes.append(read(name, text))
+        except Fault as fault:
+            raise Fault(f'{name}: {fault}') from None
+    return meshes
+
+
+def main():
+    parser = argparse.ArgumentParser(description='A mesh of sitemesh as OBJ or as a picture. Not proved.')
+    parser.add_argument('form', choices=['obj', 'svg'])
+    parser.add_argument('files', nargs='*', metavar='MESH')
+    parser.add_argument('--turn', type=float, default=30, help='degrees round the Y axis (30)')
+    parser.add_argument('--tilt', type=float, default=30, help='degrees above the ground (30)')
+    choice = parser.parse_intermixed_args()
+    try:
+        meshes = read_all(choice.files)
+    except (Fault, OSError, UnicodeDecodeError) as fault:
+        print(f'mesh.py: {fault}', file=sys.stderr)
+        return 1
+    lines = obj(meshes) if choice.form == 'obj' else svg(meshes, choice.turn, choice.tilt)
+    print('\n'.join(lines))
+    return 0
+
+
+if __name__ == '__main__':
+    sys.exit(main())

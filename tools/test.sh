@@ -1,0 +1,112 @@
+#!/usr/bin/env bash
+# Tests of block.py and mesh.py on the examples and on tools/cases. The last line is the tally, 'N passed, M failed';
+# the exit status is 0 only where nothing failed.
+set -u
+cd "$(dirname "$0")/.." || exit 1
+program=${SITEMESH:-target/bin/sitemesh}
+site=(ground hospital duct mast ambulance paths)
+meshes=("${site[@]/#/examples/}")
+meshes=("${meshes[@]/%/.mesh}")
+work=$(mktemp -d)
+trap 'rm -rf "$work"' EXIT
+export PYTHONDONTWRITEBYTECODE=1
+passed=0
+failed=0
+
+tally() { # what was looked at, and the status of the look
+    if [ "$2" -eq 0 ]; then
+        passed=$((passed + 1))
+    else
+        failed=$((failed + 1))
+        printf 'failed: %s\n' "$1"
+    fi
+}
+
+# The block of a text is the stored one.
+stored_block() {
+    python3 tools/block.py "$1.txt" "$work/made.block" && cmp "$work/made.block" "$1.block"
+}
+
+# The text is refused, the message has the line and the words, and nothing is written.
+faulty() { # text, line, words
+    printf "$1" > "$work/faulty.txt"
+    rm -f "$work/faulty.block"
+    python3 tools/block.py "$work/faulty.txt" "$work/faulty.block" 2> "$work/said"
+    [ $? -eq 1 ] && grep -q "faulty.txt: line $2: .*$3" "$work/said" && [ ! -e "$work/faulty.block" ]
+    tally "refused text, line $2: $3" $?
+}
+
+# Something that is no mesh gives the words on standard error, status 1 and nothing else.
+no_mesh() { # text, words
+    for form in obj svg; do
+        printf "$1" | python3 tools/mesh.py "$form" > "$work/out" 2> "$work/said"
+        [ $? -eq 1 ] && grep -q "^mesh.py: mesh: .*$2" "$work/said" && [ ! -s "$work/out" ]
+        tally "$form: $2" $?
+    done
+}
+
+# Counts of an OBJ file: what its lines begin with, against the meshes' own lines.
+same_counts() { # letter of the mesh, mark of the OBJ file
+    [ "$(cat "${meshes[@]}" | grep -c "^$1 ")" -eq "$(grep -c "^$2 " "$work/site.obj")" ]
+}
+
+for text in examples/*.txt tools/cases/*.txt; do
+    stored_block "${text%.txt}"
+    tally "block of $text" $?
+done
+
+for name in "${site[@]}"; do
+    [ "$(wc -c < "examples/$name.block")" -le 8192 ] && grep -q '^mesh ' "examples/$name.mesh"
+    tally "examples/$name fits what sitemesh lends" $?
+done
+
+if [ -x "$program" ]; then
+    for mesh in examples/*.mesh tools/cases/*.mesh; do
+        "$program" < "${mesh%.mesh}.block" | cmp - "$mesh"
+        tally "sitemesh prints $mesh" $?
+    done
+else
+    printf 'without %s: meshes are not made again\n' "$program"
+fi
+
+python3 tools/mesh.py obj tools/cases/{full,lines,grid}.mesh | cmp - tools/cases/three.obj
+tally 'OBJ of three meshes' $?
+python3 tools/mesh.py obj "${meshes[@]}" > "$work/site.obj"
+same_counts v v && same_counts t f && same_counts l l && [ "$(grep -c '^o ' "$work/site.obj")" -eq 6 ]
+tally 'OBJ of the site: counts' $?
+
+python3 tools/mesh.py svg "${meshes[@]}" > "$work/site.svg"
+cmp "$work/site.svg" examples/site.svg
+tally 'picture of the site' $?
+well_formed='import sys, xml.etree.ElementTree as tree; tree.parse(sys.argv[1])'
+[ "$(wc -c < examples/site.svg)" -lt 100000 ] && python3 -c "$well_formed" examples/site.svg
+tally 'the picture is well formed and small' $?
+python3 tools/painter.py "${meshes[@]}"
+tally "painter's order: what is painted last over a point is the nearest there" $?
+
+faulty 'shape IndexedFaceSet\npoint 0 0 0\n  1 0\n' 3 'has 3 numbers'
+faulty 'shape IndexedFaceSet\nconvex no\n' 2 'TRUE or FALSE'
+faulty '# first\nccw TRUE\n' 2 "the first field is 'shape'"
+faulty 'shape Box\n' 1 'shape is one of'
+faulty '\n# nothing\n' 2 'no shape is named'
+faulty 'shape Extrusion\ncolor 1 0 0\n' 2 'Extrusion has no field color'
+faulty 'shape IndexedLineSet\ncoordIndex 0 1.5\n' 2 'not a whole number'
+faulty 'shape IndexedLineSet\ncoordIndex 0\n 2147483648\n' 3 'not between'
+faulty 'shape IndexedLineSet\ncolorPerVertex TRUE\n0 1\n' 3 'belongs to no list'
+faulty 'shape ElevationGrid\nxDimension 8193\n' 2 'not between'
+faulty 'shape ElevationGrid\nheight 0 nan\n' 2 'not a number'
+faulty 'shape ElevationGrid\nheight 0 1e39\n' 2 'too large'
+faulty 'shape ElevationGrid\ncreaseAngle 1\ncreaseAngle 2\n' 3 'given twice'
+faulty 'shape ElevationGrid\ncolor 1 1 1\ncolorRGBA 1 1 1 1\n' 3 'one of the two'
+faulty "shape ElevationGrid\nheight\n$(yes 0 | head -n 8192 | tr '\n' ' ')\n 0\n" 4 'more than 8192'
+
+no_mesh 'no 6\n' 'refused, number 6, no shape'
+no_mesh 'long\n' 'longer than sitemesh reads'
+no_mesh 'hello\n' 'not what sitemesh prints'
+no_mesh 'mesh 1 0 1 0 0\nv 0 00000000 00000000\n' 'line 2'
+no_mesh 'mesh 1 3 1 0 0\nv 0 00000000 00000000 00000000\nt 0 0 1\n' 'line 3'
+no_mesh 'mesh 1 0 1 0 0\nv 0 00000000 7fc00000 00000000\n' 'not finite'
+no_mesh 'mesh 2 0 1 0 0\nv 0 00000000 00000000 00000000\n' 'first line says'
+
+printf '%d passed, %d failed\n' "$passed" "$failed"
+[ "$failed" -eq 0 ]
