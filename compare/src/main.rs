@@ -1,6 +1,7 @@
 //! Compares the project's converter with the reference, bit for bit. README.md beside says how to run it.
 
 mod angles;
+#[path = "../../bench/bench.rs"]
 mod bench;
 mod cases;
 mod compare;

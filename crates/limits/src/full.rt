@@ -1,4 +1,5 @@
 // A call with slices for 8,192 points and 8,192 corners (FORMAT 4).
+ghost use Rattle.limits.specs.Shown.{Shows};
 use block::number_of;
 use geometry::Answer;
 
@@ -11,7 +12,9 @@ pub struct Seen {
     pub c: u32,
 }
 
-pub fn convert_full(block: &[u8]) -> Seen {
+pub fn convert_full(block: &[u8]) -> Seen
+    ensures { λ r. ⌜ Shows (now (block .entry)) r ⌝ }
+{
     let mut positions = [0u32; 24576];
     let mut normals = [0u32; 24576];
     let mut colours = [0u32; 32768];
@@ -34,9 +37,9 @@ pub fn convert_full(block: &[u8]) -> Seen {
         Answer::Refused(no) => Seen {
             number: number_of(no),
             indices: 0,
-            a: 0,
-            b: 0,
-            c: 0,
+            a: indices[0],
+            b: indices[1],
+            c: indices[2],
         },
         Answer::Made(p) => Seen {
             number: 0,

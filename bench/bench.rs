@@ -55,6 +55,19 @@ fn triangles(maker: &mut Maker) -> Shape {
     shape
 }
 
+/// 45 by 30 faces of four corners over heights: 2,700 triangles.
+fn quads(maker: &mut Maker) -> Shape {
+    let heights = maker.values(46 * 31, Taste::Real);
+    let points: Vec<f32> = (0..46 * 31).flat_map(|k| [(k % 46) as f32, heights[k], (k / 46) as f32]).collect();
+    let firsts = (0..30).flat_map(|j| (0..45).map(move |i| i + 46 * j));
+    let index: Vec<i32> = firsts.flat_map(|k| [k, k + 46, k + 47, k + 1, -1]).collect();
+    let mut shape = Shape::new(FACES);
+    shape.crease(CREASE);
+    shape.set_floats(0, &points);
+    shape.set_entries(1, &index);
+    shape
+}
+
 fn duct() -> Shape {
     let mut shape = Shape::new(EXTRUSION);
     shape.crease(CREASE);
@@ -123,7 +136,8 @@ pub fn bench() -> bool {
     let stars = vec![outlines::star(127); 64];
     let shapes = [
         ("grid 46 by 46", grid(&mut maker)),
-        ("2,048 triangles", triangles(&mut maker)),
+        ("2,048 faces of 3 corners", triangles(&mut maker)),
+        ("2,700 triangles of 1,350 faces", quads(&mut maker)),
         ("64 concave faces of 127 corners", plates(&stars)),
         ("extrusion 45 by 45", duct()),
         ("8,192 line entries", lines(&mut maker)),

@@ -1,0 +1,2 @@
+-- What a call shows, by its answer.
+mod Showing

@@ -1,0 +1,2 @@
+-- What a case shows.
+pub mod Shown
