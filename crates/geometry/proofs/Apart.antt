@@ -1,9 +1,10 @@
 -- FORMAT 13: of two calls on blocks that are equal but inside one run, whatever their slices held before, the elements that each made show the same triangles in
 -- every other run.
 use mathlib.Core.Path.{_≡_, refl, sym, ap, _∙_, subst}
-use mathlib.Core.Bool.{Bool, true, false, cond, true≢false}
+use mathlib.Core.Bool.{Bool, true, false, cond}
 use mathlib.Core.List.{List, [], map, map-map}
 use Prim.Native.Nat.{ℕ, zero, suc, _*_}
+use native.Mathlib.Omega.{arith}
 use lib.ListN.{length, getD, take, drop, length-map}
 use lib.Seq.{take-at, take-nil, drop-nil}
 use Rattle.block.specs.declared.header.Header.{Header}
@@ -22,23 +23,16 @@ use Rattle.mesh.proofs.Bytes.{heads}
 use Rattle.mesh.proofs.OneRun.{one-run}
 use Rattle.geometry.specs.declared.answer.Answer.the-variants.{Made}
 use Rattle.geometry.specs.declared.answer.Report.{Report}
-use Rattle.geometry.specs.Answer.{white, resultFor, Saying, refused, made as madeSaying, saying, said}
+use Rattle.geometry.specs.Answer.{white, resultFor, saying, said}
 use Rattle.geometry.specs.Converted.{numberFor, after}
 use Rattle.geometry.specs.Apart.{AcceptedCall, elements, elementsOf}
+use Rattle.geometry.proofs.Calls.{numberIn, resultIn}
 
 -- ---- what is answered by a mesh is not refused, and its counts are those of the mesh
 
-abbrev isMade : Saying → Bool
-isMade (refused n) = false
-isMade (madeSaying r) = true
-
-abbrev resultIn : Result → Saying → Result
-resultIn d (refused n) = d
-resultIn d (madeSaying r) = r
-
 not-refused : (p : Report) (n : ℕ) (r : Result) → saying (Made p) ≡ said n r → n ≡ 0
 not-refused p zero r e = refl
-not-refused p (suc n) r e = absurd (true≢false (ap isMade e))
+not-refused p (suc n) r e = absurd (let z : 0 ≡ suc (suc n) = ap numberIn e in omega arith)
 
 result-said : (p : Report) (n : ℕ) (r : Result) → n ≡ 0 → saying (Made p) ≡ said n r → resultIn r (saying (Made p)) ≡ r
 result-said p n r z e = ap (resultIn r) (e ∙ ap (λ (k : ℕ). said k r) z)

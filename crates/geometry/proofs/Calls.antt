@@ -85,12 +85,12 @@ module _ (bs : List ℕ) (l m : Lending) (n : Counts) (f : Flags) (z : refusal b
 
 -- ---- two converters that keep the contract do not differ
 
--- one more than the number of a refusal, 0 for a mesh
-abbrev numberIn : Saying → ℕ
+-- what an answer says, taken apart: one more than the number of a refusal, 0 for a mesh; and the result
+abbrev pub numberIn : Saying → ℕ
 numberIn (spec.refused n) = suc n
 numberIn (spec.made r) = 0
 
-abbrev resultIn : Result → Saying → Result
+abbrev pub resultIn : Result → Saying → Result
 resultIn other (spec.refused n) = other
 resultIn other (spec.made r) = r
 
