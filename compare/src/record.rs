@@ -1,7 +1,7 @@
-//! The mode `record`: stored answers of the reference, as the text of FORMAT 14, for a program that replays them.
+//! The mode `record`: stored answers of the reference, as the text of FORMAT 14, for the program `replay`.
 //!
-//! A case is a length of four bytes, most significant first, and so many bytes of block, and the same for the text.
-//! FILE holds cases for the slices that `sitemesh` lends, FILE.full some that need slices for the whole format.
+//! A case is a number, how many corners slices are lent for (that many points too: FORMAT 4), then the length of
+//! the block and its bytes, then the length of the text and its bytes. Numbers are four bytes, most significant first.
 
 use std::collections::BTreeMap;
 use std::f32::consts::PI;
@@ -10,13 +10,19 @@ use crate::angles::Angles;
 use crate::cases;
 use crate::expected::{Expected, expected};
 use crate::fixed;
-use crate::format::{Block, EXTRUSION, FACES, GRID, LINES, flag};
+use crate::format::{Block, EXTRUSION, FACES, GRID, LIMIT, LINES, Sizes, accept, flag, runs};
 use crate::maker::{Maker, Taste};
 use crate::outlines;
 use crate::rng::Rng;
 use crate::shape::Shape;
 use crate::text;
 use reference::scene::Mesh;
+
+/// The room that `replay` has for a block and for a text.
+const BLOCK_ROOM: usize = 40_960;
+const TEXT_ROOM: usize = 131_072;
+/// The longest block and text of a generated case, so that the file stays small.
+const SMALL: usize = 12_288;
 
 /// The example of FORMAT 14: a 2 by 2 grid with heights 0.
 const EXAMPLE: &str = "mesh 4 6 1 0 0
@@ -31,7 +37,8 @@ t 0 2 3
 struct Store {
     bytes: Vec<u8>,
     cases: u64,
-    longest: usize,
+    /// Of the blocks and of the texts.
+    longest: [usize; 2],
     /// What the cases show, and how often.
     shown: BTreeMap<String, u64>,
     /// Meshes taken, by kind, and how many of them are empty.
@@ -41,27 +48,50 @@ struct Store {
 
 impl Store {
     fn new() -> Self {
-        Self { bytes: Vec::new(), cases: 0, longest: 0, shown: BTreeMap::new(), taken: [0; 4], empty: 0 }
+        Self { bytes: Vec::new(), cases: 0, longest: [0; 2], shown: BTreeMap::new(), taken: [0; 4], empty: 0 }
     }
 
-    fn put(&mut self, block: &[u8], text: &str) {
-        for part in [block, text.as_bytes()] {
-            self.bytes.extend((part.len() as u32).to_be_bytes());
+    fn number(&mut self, n: usize) {
+        self.bytes.extend((n as u32).to_be_bytes());
+    }
+
+    fn put(&mut self, corners: usize, block: &[u8], text: &str) {
+        self.number(corners);
+        for (k, part) in [block, text.as_bytes()].into_iter().enumerate() {
+            self.number(part.len());
             self.bytes.extend(part);
+            self.longest[k] = self.longest[k].max(part.len());
         }
         self.cases += 1;
-        self.longest = self.longest.max(text.len());
     }
 
     fn count(&mut self, what: &str) {
         *self.shown.entry(what.into()).or_default() += 1;
     }
+
+    fn shows(&self, what: &str) -> u64 {
+        self.shown.get(what).copied().unwrap_or(0)
+    }
 }
 
-/// Whether a NaN stands among the words: its bits are not the reference's to say.
+/// The lengths of slices for so many corners and as many points (FORMAT 4).
+fn lent(corners: usize) -> [usize; 8] {
+    let k = corners;
+    [3 * k, 3 * k, 4 * k, 2 * k, k, 3 * k, 16 * k + 8, 16 * k + 8]
+}
+
+/// The fewest corners whose slices are long enough.
+fn fewest(sizes: Sizes) -> usize {
+    sizes.corners.max((sizes.corners + sizes.points).div_ceil(2))
+}
+
+fn is_nan(word: &u32) -> bool {
+    word & 0x7fff_ffff > 0x7f80_0000
+}
+
 fn has_nan(mesh: &Mesh) -> bool {
     let lists = [Some(&mesh.positions), mesh.normals.as_ref(), mesh.colours.as_ref(), mesh.texture.as_ref()];
-    lists.into_iter().flatten().flatten().any(|w| w & 0x7fff_ffff > 0x7f80_0000)
+    lists.into_iter().flatten().flatten().any(is_nan)
 }
 
 /// Whether the least of two zeros is asked for, which Rust leaves open.
@@ -75,7 +105,7 @@ fn open_zeros(block: &Block) -> bool {
 }
 
 /// What a mesh shows of the format.
-fn features(block: &Block) -> Vec<&'static str> {
+fn features(block: &Block, mesh: &Mesh) -> Vec<&'static str> {
     let on = |k| block.flag(k);
     let mut list = vec![["face set", "line set", "grid", "extrusion"][block.kind as usize]];
     let mut put = |yes: bool, name| {
@@ -109,63 +139,99 @@ fn features(block: &Block) -> Vec<&'static str> {
     let caps = block.kind == EXTRUSION;
     put(caps && on(flag::BEGIN_CAP) && on(flag::END_CAP), "both caps");
     put(caps && on(flag::BEGIN_CAP) != on(flag::END_CAP), "one cap");
+    let largest = largest_face(block);
+    put(largest > 4096, "face above 4096 corners");
+    put(largest == 4096 && !on(flag::CONVEX), "face of 4096 corners, not convex");
+    put(has_nan(mesh), "NaN of a list");
     list
 }
 
-/// The text for a block, or none where the reference cannot give it.
-fn answer(bytes: &[u8], lent: &[usize; 8], angles: &Angles) -> Option<String> {
-    match expected(bytes, lent, angles) {
-        Expected::Refused(n) => Some(text::refusal(n)),
+/// The corners of the largest kept face of a face set.
+fn largest_face(block: &Block) -> usize {
+    if block.kind != FACES {
+        return 0;
+    }
+    let kept = |run: &&[i32]| run.iter().all(|&v| (v as usize) < block.counts[0]);
+    runs(&block.entries(1)).into_iter().filter(kept).map(<[i32]>::len).max().unwrap_or(0)
+}
+
+/// How the lent slices stand to what is asked for.
+fn lending(block: &Block, corners: usize) -> &'static str {
+    match block.sizes() {
+        Ok(sizes) if fewest(sizes) == corners => "slices just long enough",
+        _ if corners == LIMIT => "full slices",
+        _ => "part of the slices",
+    }
+}
+
+/// The reference's answer; none where the definition settles what the Rust leaves open. A NaN that is left was
+/// copied from a list, bits and all.
+fn answer(bytes: &[u8], corners: usize, angles: &Angles) -> Option<Result<Mesh, u32>> {
+    match expected(bytes, &lent(corners), angles) {
+        Expected::Refused(n) => Some(Err(n)),
         Expected::Made(mesh, false) => {
             let block = Block::read(bytes).ok()?;
-            (!has_nan(&mesh) && !open_zeros(&block)).then(|| text::mesh(&mesh))
+            let computed = block.kind == EXTRUSION && mesh.positions.iter().any(is_nan);
+            (!computed && !open_zeros(&block)).then_some(Ok(mesh))
         }
         _ => None,
     }
 }
 
 /// Puts a block with its answer, if the reference can give one.
-fn put(store: &mut Store, bytes: &[u8], angles: &Angles) -> bool {
-    if bytes.len() > text::LONGEST {
-        return false;
-    }
-    let Some(text) = answer(bytes, &text::LENT, angles) else {
+fn put(store: &mut Store, bytes: &[u8], corners: usize, angles: &Angles) -> bool {
+    let Some(answer) = answer(bytes, corners, angles) else {
         return false;
     };
-    if text.starts_with("no") {
-        store.count(text.trim());
-    } else if let Ok(block) = Block::read(bytes) {
-        for name in features(&block) {
-            store.count(name);
-        }
+    let text = match &answer {
+        Ok(mesh) => text::mesh(mesh),
+        Err(number) => text::refusal(*number),
+    };
+    if bytes.len() > BLOCK_ROOM || text.len() > TEXT_ROOM {
+        return false;
     }
-    store.put(bytes, &text);
+    match (&answer, Block::read(bytes)) {
+        (Ok(mesh), Ok(block)) => {
+            store.count(lending(&block, corners));
+            for name in features(&block, mesh) {
+                store.count(name);
+            }
+        }
+        _ => store.count(text.trim()),
+    }
+    store.put(corners, bytes, &text);
     true
 }
 
-/// Shapes at the edges of the lent slices: 256 corners and one more, 512 corners and points together.
+/// Puts a block with full slices, with slices just long enough, and with slices for one corner less.
+fn put_thrice(store: &mut Store, bytes: &[u8], angles: &Angles) {
+    let (_, sizes) = accept(bytes, &lent(LIMIT)).expect("a block that is not refused");
+    for corners in [LIMIT, fewest(sizes), fewest(sizes) - 1] {
+        assert!(put(store, bytes, corners, angles), "a block that the reference follows");
+    }
+}
+
+/// Shapes of 256 corners, some more, some less.
 fn edges(maker: &mut Maker) -> Vec<Shape> {
     let mut list = Vec::new();
-    for (x, z) in [(9, 9), (2, 65), (65, 2), (2, 66), (10, 9), (16, 17)] {
+    for (x, z) in [(9, 9), (2, 66)] {
         let mut grid = maker.grid_of(x, z);
         let heights = maker.values(x * z, Taste::Coarse);
         grid.set_floats(3, &heights);
         list.push(grid);
     }
-    for (n, m) in [(8, 9), (9, 9), (2, 40), (12, 6), (6, 400), (47, 46), (46, 47), (91, 91), (300, 30), (2, 900)] {
+    for (n, m) in [(8, 9), (12, 6), (2, 40)] {
         let mut duct = maker.extrusion_of(n, m);
         let section = outlines::star(m);
         duct.set_floats(1, section.as_flattened());
         list.push(duct);
     }
-    for corners in [255, 256, 257] {
-        for points in [16, 255, 256, 257] {
-            let mut face = maker.great_face(corners, points, corners == 255);
-            face.set_floats(0, &outlines::placed(&mut maker.rng, &outlines::star(points)));
-            list.push(face.clone());
-            face.kind = LINES;
-            list.push(face);
-        }
+    for (corners, points) in [(255, 255), (256, 16), (257, 16), (256, 257)] {
+        let mut face = maker.great_face(corners, points, corners == 255);
+        face.set_floats(0, &outlines::placed(&mut maker.rng, &outlines::star(points)));
+        list.push(face.clone());
+        face.kind = LINES;
+        list.push(face);
     }
     list
 }
@@ -177,41 +243,62 @@ fn example() -> Shape {
     grid
 }
 
+/// A face once around a star, and then at its first point again and again: many corners with few vertices, and
+/// ears all the same.
+fn long_face(maker: &mut Maker, corners: usize, points: usize) -> Shape {
+    let mut face = Shape::new(FACES);
+    face.flags[flag::CONVEX] = false;
+    face.set_floats(0, &outlines::placed(&mut maker.rng, &outlines::star(points)));
+    let index: Vec<i32> = (0..corners).map(|k| if k < points { k as i32 } else { 0 }).collect();
+    face.set_entries(1, &index);
+    face
+}
+
 /// Large faces: clipped by ears, one corner too many for it, as many as there may be.
-fn full(maker: &mut Maker, file: &str) -> std::io::Result<()> {
-    let mut store = Store::new();
-    for (corners, points) in [(4096, 4096), (4097, 4097), (8192, 1024)] {
-        let mut face = maker.great_face(corners, points, false);
-        face.set_floats(0, &outlines::placed(&mut maker.rng, &outlines::star(points)));
-        let block = face.block();
-        let text = answer(&block, &[usize::MAX; 8], &maker.angles).expect("a mesh without NaN");
-        store.put(&block, &text);
+fn large(maker: &mut Maker) -> Vec<Shape> {
+    let mut list = Vec::new();
+    for corners in [4096, 4097] {
+        for ccw in [true, false] {
+            let mut face = long_face(maker, corners, 100);
+            face.flags[flag::CCW] = ccw;
+            list.push(face.clone());
+            face.lists[1].reverse();
+            list.push(face);
+        }
     }
-    println!("{} cases for full slices, {} bytes", store.cases, store.bytes.len());
-    std::fs::write(format!("{file}.full"), &store.bytes)
+    let mut face = long_face(maker, 4096, 100);
+    face.flags[flag::CONVEX] = true;
+    list.push(face);
+    list.push(long_face(maker, 1500, 1500));
+    let mut face = maker.great_face(LIMIT, 64, false);
+    face.flags[flag::TEXTURE_WANTED] = true;
+    list.push(face);
+    list
 }
 
 /// How many cases of one refusal are taken, of `count` in all.
-fn enough(count: u64) -> u64 {
+fn few(count: u64) -> u64 {
     (count / 40).max(4)
 }
 
 /// Whether a block adds something: few refusals, few empty meshes, all kinds.
-fn wanted(store: &mut Store, bytes: &[u8], angles: &Angles, count: u64) -> bool {
-    match expected(bytes, &text::LENT, angles) {
-        Expected::Refused(n) => store.shown.get(&format!("no {n}")).is_none_or(|&k| k < enough(count)),
-        Expected::Made(mesh, _) => {
+fn wanted(store: &mut Store, bytes: &[u8], corners: usize, angles: &Angles, count: u64) -> bool {
+    match answer(bytes, corners, angles) {
+        _ if bytes.len() > SMALL => false,
+        Some(Err(n)) => store.shows(&format!("no {n}")) < few(count),
+        Some(Ok(mesh)) => {
             let kind = Block::read(bytes).map_or(0, |b| b.kind as usize);
             let share = [count * 9 / 20, count / 8, count / 5, count / 4][kind];
             let empty = mesh.indices.is_empty();
-            if store.taken[kind] >= share || (empty && store.empty >= enough(count)) {
+            let long = text::mesh(&mesh).len() > SMALL;
+            if long || store.taken[kind] >= share || (empty && store.empty >= few(count)) {
                 return false;
             }
             store.taken[kind] += 1;
             store.empty += empty as u64;
             true
         }
-        Expected::Outlined(_) => false,
+        None => false,
     }
 }
 
@@ -220,10 +307,21 @@ fn refused(maker: &mut Maker, store: &mut Store, count: u64) {
     let mut list = fixed::blocks(maker);
     while !list.is_empty() {
         let (_, block) = list.swap_remove(maker.rng.below(list.len()));
-        let refused = matches!(expected(&block, &text::LENT, &maker.angles), Expected::Refused(_));
-        if refused && wanted(store, &block, &maker.angles, count) {
-            put(store, &block, &maker.angles);
+        let refused = accept(&block, &lent(LIMIT)).is_err();
+        if refused && wanted(store, &block, LIMIT, &maker.angles, count) {
+            put(store, &block, LIMIT, &maker.angles);
         }
+    }
+}
+
+/// For how many corners slices are lent: mostly all, at times 256, just enough, or one too few.
+fn corners_for(maker: &mut Maker, block: &[u8]) -> usize {
+    let least = accept(block, &lent(LIMIT)).map_or(LIMIT, |(_, sizes)| fewest(sizes));
+    match maker.rng.below(8) {
+        0 => least,
+        1 => least.saturating_sub(1),
+        2 => 256,
+        _ => LIMIT,
     }
 }
 
@@ -232,31 +330,35 @@ pub fn record(count: u64, seed: u64, file: &str) -> bool {
     let mut maker = Maker { rng: Rng::new(seed, u64::MAX), angles: Default::default() };
     let mut store = Store::new();
     let first = example().block();
-    assert_eq!(answer(&first, &text::LENT, &maker.angles).as_deref(), Some(EXAMPLE), "the example of FORMAT 14");
-    put(&mut store, &first, &maker.angles);
+    let told = answer(&first, LIMIT, &maker.angles).and_then(Result::ok).map(|mesh| text::mesh(&mesh));
+    assert_eq!(told.as_deref(), Some(EXAMPLE), "the example of FORMAT 14");
+    put_thrice(&mut store, &first, &maker.angles);
     for sample in fixed::samples(&mut maker) {
-        put(&mut store, &sample.block(), &maker.angles);
+        put_thrice(&mut store, &sample.block(), &maker.angles);
     }
     for shape in edges(&mut maker) {
-        put(&mut store, &shape.block(), &maker.angles);
+        put(&mut store, &shape.block(), 256, &maker.angles);
+    }
+    for shape in large(&mut maker) {
+        assert!(put(&mut store, &shape.block(), LIMIT, &maker.angles), "a large face with a short text");
     }
     refused(&mut maker, &mut store, count);
     let mut case = 0;
     while store.cases < count && case < 1000 * count {
         maker.rng = Rng::new(seed, case);
         let block = cases::block(&mut maker);
-        if wanted(&mut store, &block, &maker.angles, count) {
-            put(&mut store, &block, &maker.angles);
+        let corners = corners_for(&mut maker, &block);
+        if wanted(&mut store, &block, corners, &maker.angles, count) {
+            put(&mut store, &block, corners, &maker.angles);
         }
         case += 1;
     }
-    // One byte more than the program reads.
-    store.put(&vec![0x10; text::LONGEST + 1], "long\n");
     for (what, n) in &store.shown {
         println!("{n:>7} {what}");
     }
-    println!("{} cases, {} bytes, longest text {}", store.cases, store.bytes.len(), store.longest);
-    let written = std::fs::write(file, &store.bytes).and_then(|_| full(&mut maker, file));
+    let [block, text] = store.longest;
+    println!("{} cases, {} bytes, longest block {block}, longest text {text}", store.cases, store.bytes.len());
+    let written = std::fs::write(file, &store.bytes);
     if let Err(why) = &written {
         println!("{file}: {why}");
     }

@@ -1,12 +1,8 @@
-//! The text that the program `sitemesh` prints (FORMAT 14).
+//! The text of an answer (FORMAT 14).
 
 use std::fmt::Write;
 
 use reference::scene::Mesh;
-
-/// The most bytes that `sitemesh` reads, and the lengths that it lends.
-pub const LONGEST: usize = 8192;
-pub const LENT: [usize; 8] = [768, 768, 1024, 512, 256, 768, 4104, 4104];
 
 fn words(out: &mut String, mark: &str, list: &[u32]) {
     out.push_str(mark);

@@ -1,10 +1,9 @@
 -- FORMAT 14: what a call leaves and says, and the text of it.
 use Prim.Native.Nat.{ℕ, _≤_, _<_}
 use mathlib.Core.Path.{_≡_, sym, ap, _∙_, subst}
-use mathlib.Core.Bool.{Bool, true}
 use mathlib.Core.List.{List}
 use borrow.Author.Tests.{lt-ltb, le-ltb}
-use lib.ListN.{length, take}
+use lib.ListN.{length}
 use Rattle.block.specs.Header.{headerOf}
 use Rattle.geometry.specs.declared.answer.Answer.{Answer}
 use Rattle.geometry.specs.Answer.{saying}
@@ -14,9 +13,8 @@ use Rattle.text.specs.Answer.{longText}
 use Rattle.text.specs.Wrote.{Printed}
 use Rattle.answer.specs.declared.lending.Conversion.{Conversion}
 use Rattle.answer.specs.Lending.{fresh, left, slicesIn, Left}
-use Rattle.answer.specs.Text.{partsOf, textOf, blockText, answerText, Judged}
+use Rattle.answer.specs.Text.{partsOf, textOf, blockText, answerText}
 use Rattle.answer.proofs.Counts.{Few, said-few}
-use Rattle.answer.proofs.Fitting.{whole-text}
 
 pub left-of : (bs : List ℕ) (m : Lending) (r : Answer) → Converted bs fresh m r
     → Left bs (record { answer = r; positions = m .slices .positions; normals = m .slices .normals; colours = m .slices .colours; textures = m .slices .textures; sources = m .slices .sources; indices = m .slices .indices })
@@ -45,10 +43,3 @@ long-printed bs l m k h p = rw (lt-ltb 8192 (length bs) h) p
 pub block-printed : (bs l m : List ℕ) (k : ℕ) → length bs ≤ 8192 → Printed l (blockText bs) m k → Printed l (answerText bs) m k
 unfolding answerText
 block-printed bs l m k h p = rw (le-ltb 8192 (length bs) h) p
-
--- whether the text that was made is the expected one
-pub judged : (bs e l m : List ℕ) (k : ℕ) (r : Bool) → Printed l (answerText bs) m k → 41747 ≤ length l → (r ≡ true → take k m ≡ e) → (take k m ≡ e → r ≡ true)
-    → Judged bs e r
-judged bs e l m k r p room f g =
-    let t = whole-text bs l m k p room .text in
-    record { yes = λ q. sym t ∙ f q; no = λ q. g (t ∙ q) }

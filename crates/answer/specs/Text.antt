@@ -1,7 +1,5 @@
 -- FORMAT 14: the program's answer to an input, as bytes.
 use Prim.Native.Nat.{ℕ}
-use mathlib.Core.Path.{_≡_}
-use mathlib.Core.Bool.{Bool, true}
 use mathlib.Core.List.{List}
 use lib.Dec.{eqb, ltb}
 use lib.ListN.{length}
@@ -36,8 +34,3 @@ blockText bs = textOf (said (number bs) (resultFor bs)) (partsOf (headerOf bs)) 
 -- FORMAT 14: the text of an input; one of more than 8,192 bytes is no block
 unfoldable pub answerText : List ℕ → List ℕ
 answerText bs = pick (ltb 8192 (length bs)) longText (blockText bs)
-
--- r tells whether the answer to bs is the text e
-pub record Judged (bs e : List ℕ) (r : Bool) : Type 0 where
-  pub yes : r ≡ true → answerText bs ≡ e
-  pub no : answerText bs ≡ e → r ≡ true

@@ -7,6 +7,5 @@ pub use lending::Conversion;
 pub use lending::lend_and_convert;
 pub use parts::parts_of;
 pub use texts::TEXT_ROOM;
-pub use texts::agrees;
 pub use texts::answer_text;
 pub use texts::block_text;

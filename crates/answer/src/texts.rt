@@ -1,6 +1,6 @@
 // The text of the answer to an input, from the start of the buffer (FORMAT 14). The number returned is the length of the text.
 ghost use Rattle.text.specs.Wrote.{Printed};
-ghost use Rattle.answer.specs.Text.{blockText, answerText, Judged};
+ghost use Rattle.answer.specs.Text.{blockText, answerText};
 use crate::lending::lend_and_convert;
 use crate::parts::parts_in;
 use block::number_of;
@@ -59,13 +59,4 @@ pub fn answer_text(input: &[u8], out: &mut [u8]) -> usize
         return put_long(out);
     }
     block_text(input, out)
-}
-
-// Whether the answer to an input is the expected text.
-pub fn agrees(input: &[u8], expected: &[u8]) -> bool
-    ensures { λ r. ⌜ Judged (now (input .entry)) (now (expected .entry)) r ⌝ }
-{
-    let mut out = [0u8; TEXT_ROOM];
-    let k = answer_text(input, &mut out);
-    check::same(&out[..k], expected)
 }
