@@ -8,6 +8,7 @@ pub mod Chain
 pub mod RootUnits
 -- Laws behind them and behind the functions.
 mod Whole
+mod Heron
 mod RootDigits
 mod Place
 mod Sorts

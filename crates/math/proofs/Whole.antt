@@ -1,5 +1,5 @@
 -- The whole part of a square root: `isqrt` is the number whose square is not above n and whose successor's is, and there is one such number.
-use mathlib.Core.Path.{_≡_, ap, subst}
+use mathlib.Core.Path.{_≡_, ap}
 use mathlib.Core.Logic.{_⊎_, inl, inr}
 use mathlib.Core.Bool.{Bool, true, false, not, cond}
 use Prim.Native.Nat.{ℕ, zero, suc, _+_, _*_, _/_, _^_, _≤_, _<_, zero-le}
@@ -68,12 +68,6 @@ root-le n r s l h = omega (arith, square-less r (s + 1) (lt-of-le-of-lt l h))
 pub root-unique : (n r s : ℕ) → IsRoot n r → IsRoot n s → r ≡ s
 root-unique n r s i j = le-antisymm (root-le n r s (i .low) (j .high)) (root-le n s r (j .low) (i .high))
 
--- a number of 25 digits has a square of 50
-pub square-small : (a : ℕ) → a ≤ 2 ^ 25 → a * a ≤ 2 ^ 50
-square-small a h = mul-le-mul h h
-
--- what a search that halves its range ends with
-pub found : (n low high : ℕ) → n < 2 ^ 50 → high ≤ low + 1 → low < high → low * low ≤ n → n < high * high → low ≡ isqrt 25 n
-found n low high s e f l h =
-    let j : high ≡ low + 1 = omega arith in
-    root-unique n low (isqrt 25 n) (record { low = l; high = subst (λ (x : ℕ). n < x * x) j h }) (isqrt-root 25 n s)
+-- the number whose square is not above n and whose successor's is
+pub whole-root : (n r : ℕ) → n < 2 ^ 50 → r * r ≤ n → n < (r + 1) * (r + 1) → r ≡ isqrt 25 n
+whole-root n r s l h = root-unique n r (isqrt 25 n) (record { low = l; high = h }) (isqrt-root 25 n s)

@@ -14,8 +14,7 @@ use lib.Seq.{sets, getD-set-same, getD-set-other}
 use lib.Ieee.{le}
 use Rattle.polygon.specs.Loops.{pick, any, tab, first}
 use Rattle.polygon.specs.Ears.{Pt, +0, cross2, blocks, isEar, before, here, after, remove, place, order}
-use Rattle.polygon.specs.declared.memo.Dot.{Dot}
-use Rattle.polygon.specs.Memo.{dotOf, inWay, hits, hit, Tells, Once, earOf, Known, Sound, entry, Full}
+use Rattle.polygon.specs.Memo.{hits, hit, Tells, Once, earOf, Known, Sound, entry, Full}
 use Rattle.polygon.proofs.Laws.{first-go, and-right, and-no}
 
 -- ---- Bool
@@ -475,10 +474,3 @@ full-go v i s s′ f h e j q = rw e (⊎-elim last less (eq-or-lt-of-le u))
 
     less : j < i → getD (set s i v) j 0 ≡ v
     less w = getD-set-other s i j v 0 (λ (z : j ≡ i). omega arith) ∙ f j w
-
--- ---- a triangle that is read once
-
-pub hit-read : (P : ℕ → Pt) (left : List ℕ) (a b c k : ℕ) (da db dc : Dot) → da ≡ dotOf P a → db ≡ dotOf P b → dc ≡ dotOf P c
-    → (r : Bool) → r ≡ hits left (λ j. inWay (dotOf P j) da db dc) k → hits left (blocks P a b c) k ≡ r
-unfolding inWay blocks
-hit-read P left a b c k da db dc ea eb ec r e = sym (e ∙ λ i. hits left (λ j. inWay (dotOf P j) (ea i) (eb i) (ec i)) k)

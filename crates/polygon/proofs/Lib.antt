@@ -8,6 +8,7 @@ pub mod EdgeSums
 pub mod Projection
 pub mod Whole
 pub mod Keep
+pub mod Blocks
 pub mod Tables
 pub mod Turns
 pub mod Triangles

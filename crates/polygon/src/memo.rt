@@ -1,12 +1,13 @@
 // FORMAT 12.3, ear_clip: whether a corner is an ear. What an earlier search found is kept, so that a corner is looked at anew only where its neighbours changed.
 ghost use mathlib.Core.Path.{_≡_};
-ghost use mathlib.Core.Bool.{false};
+ghost use mathlib.Core.Bool.{false, _&&_};
 ghost use mathlib.Core.List.{[], _∷_};
-ghost use Prim.Native.Nat.{_+_, _-_, _*_, _%_, _^_, _≤_, _<_};
+ghost use Prim.Native.Nat.{ℕ, _+_, _-_, _*_, _%_, _^_, _≤_, _<_};
+ghost use lib.Dec.{eqb};
 ghost use lib.ListN.{length, getD, take, set};
 ghost use lib.Seq.{sets};
 ghost use lib.Ieee.{nan, le};
-ghost use Rattle.polygon.specs.Loops.{first};
+ghost use Rattle.polygon.specs.Loops.{pick, first};
 ghost use Rattle.polygon.specs.Ears.{+0, cross2, pointInTri, blocks, isEar, firstEar};
 ghost use Rattle.polygon.specs.Memo.{xy, dotOf, spotOf, inWay, hits, Clear, Tells, earOf, Known, Sound, entry, flags, kept, Searched};
 use crate::points::get;
@@ -38,6 +39,9 @@ pub fn dot_at(p: &[f32], j: u32) -> Dot
         y: coord(p, k + 1),
     }
 }
+
+// How many corners the search for one in the way passes at once.
+const BLOCK: usize = 16;
 
 // ---- the tests
 
@@ -92,6 +96,110 @@ fn is_hit(p: &[f32], left: &[u32], k: usize, a: Dot, b: Dot, c: Dot) -> bool
     is_in_way(dot_at(p, k as u32), a, b, c)
 }
 
+// The first of the corners from `from` up to `to` that is left and lies in the triangle a b c.
+fn scan(p: &[f32], left: &[u32], from: usize, to: usize, a: Dot, b: Dot, c: Dot) -> usize
+    requires { ⌜ to ≤ 2 ^ 31 ⌝ }
+    ensures { λ r. ⌜ r ≡ first (hits (now (left .entry)) (λ j. inWay (dotOf (xy (now (p .entry))) j) a b c)) (to - from) from ⌝ }
+{
+    let mut k = from;
+    while k < to {
+        if is_hit(p, left, k, a, b, c) {
+            return k;
+        }
+        k += 1;
+    }
+    k
+}
+
+// The corner k, whose coordinates are there.
+fn dot_in(p: &[f32], k: usize) -> Dot
+    requires { ⌜ (k < 2 ^ 31) × (k * 2 + 1 < length (now p)) ⌝ }
+    ensures { λ r. ⌜ r ≡ dotOf (xy (now (p .entry))) k ⌝ }
+{
+    Dot {
+        j: k as u32,
+        x: p[k * 2],
+        y: p[k * 2 + 1],
+    }
+}
+
+// Whether d, which is left where f is 1, is not to the right of the sides b c and c a.
+fn is_near(f: u32, d: Dot, a: Dot, b: Dot, c: Dot) -> bool
+    ensures { λ r. ⌜ r ≡ (eqb f 1 && (le +0 (cross2 (spotOf b) (spotOf c) (spotOf d)) && le +0 (cross2 (spotOf c) (spotOf a) (spotOf d)))) ⌝ }
+{
+    if f != 1 {
+        return false;
+    }
+    if !(cross(b, c, d) >= 0.0) {
+        return false;
+    }
+    cross(c, a, d) >= 0.0
+}
+
+fn one_if(b: bool) -> u32
+    ensures { λ r. ⌜ r ≡ pick b 1 0 ⌝ }
+{
+    if b {
+        return 1;
+    }
+    0
+}
+
+// How many of the corners from `from` up to `to` are near: the machine counts several at once. Where there is none, none of them lies in the triangle a b c.
+fn count_near(p: &[f32], left: &[u32], from: usize, to: usize, a: Dot, b: Dot, c: Dot) -> u32
+    requires { ⌜ (to ≤ 2 ^ 31) × (to ≤ length (now left)) × (to * 2 ≤ length (now p)) ⌝ }
+    ensures { λ r. ⌜ (r ≡ 0 → (j : ℕ) → from ≤ j → j < to → hits (now (left .entry)) (λ i. inWay (dotOf (xy (now (p .entry))) i) a b c) j ≡ false) ⌝ }
+{
+    let mut s: u32 = 0;
+    let mut k = from;
+    while k < to {
+        s += one_if(is_near(left[k], dot_in(p, k), a, b, c));
+        k += 1;
+    }
+    s
+}
+
+// As `scan`, of a block of corners: it is passed as a whole where none of them is near. The last block may be short, and counting it would gain nothing.
+fn scan_block(p: &[f32], left: &[u32], from: usize, to: usize, a: Dot, b: Dot, c: Dot) -> usize
+    requires { ⌜ (from ≤ to) × (to ≤ 2 ^ 31) × (to ≤ length (now left)) × (to * 2 ≤ length (now p)) ⌝ }
+    ensures { λ r. ⌜ r ≡ first (hits (now (left .entry)) (λ j. inWay (dotOf (xy (now (p .entry))) j) a b c)) (to - from) from ⌝ }
+{
+    if to - from == BLOCK {
+        if count_near(p, left, from, to, a, b, c) == 0 {
+            return to;
+        }
+    }
+    scan(p, left, from, to, a, b, c)
+}
+
+// The end of the block from k on, of n corners.
+fn block_end(k: usize, n: usize) -> usize
+    requires { ⌜ k < n ⌝ }
+    ensures { λ r. ⌜ (k < r) × (r ≤ n) ⌝ }
+{
+    if n - k < BLOCK {
+        return n;
+    }
+    k + BLOCK
+}
+
+// As `scan`, of all corners from `from` on, block by block.
+fn scan_blocks(p: &[f32], left: &[u32], from: usize, a: Dot, b: Dot, c: Dot) -> usize
+    requires { ⌜ (length (now left) ≤ 2 ^ 31) × (length (now left) * 2 ≤ length (now p)) ⌝ }
+    ensures { λ r. ⌜ r ≡ first (hits (now (left .entry)) (λ j. inWay (dotOf (xy (now (p .entry))) j) a b c)) (length (now (left .entry)) - from) from ⌝ }
+{
+    let mut k = from;
+    while k < left.len() {
+        let e = block_end(k, left.len());
+        let h = scan_block(p, left, k, e, a, b, c);
+        if h < e {
+            return h;
+        }
+        k = e;
+    }
+    k
+}
+
 // The first corner from `from` on that is left and lies in the triangle a b c, which is read once.
 fn next_hit(p: &[f32], left: &[u32], from: usize, a: u32, b: u32, c: u32) -> usize
     requires { ⌜ length (now left) ≤ 2 ^ 31 ⌝ }
@@ -100,14 +208,10 @@ fn next_hit(p: &[f32], left: &[u32], from: usize, a: u32, b: u32, c: u32) -> usi
     let da = dot_at(p, a);
     let db = dot_at(p, b);
     let dc = dot_at(p, c);
-    let mut k = from;
-    while k < left.len() {
-        if is_hit(p, left, k, da, db, dc) {
-            return k;
-        }
-        k += 1;
+    if p.len() / 2 < left.len() {
+        return scan(p, left, from, left.len(), da, db, dc);
     }
-    k
+    scan_blocks(p, left, from, da, db, dc)
 }
 
 fn look(w: &[u32], n: usize, a: u32, b: u32, c: u32) -> u32
