@@ -1,12 +1,12 @@
 /* Converts the block of a file with the slices that sitemesh lends, prints the answer as sitemesh does, and looks at the
- * guards before and behind every slice. With a second argument the named slice is lent one element short, and every
+ * guards before and behind every slice. With a second argument the named one of the eight slices is lent one element short, and every
  * element must be as it was. */
 #include "sitemesh.h"
 #include <stdio.h>
 #include <stdlib.h>
 #include <string.h>
 
-enum { GUARD = 64, SLICES = 9, FILLER = 0x5a5a5a5a };
+enum { GUARD = 64, RESULT = 8, SLICES = 9, FILLER = 0x5a5a5a5a };
 
 static const char *const names[SLICES] = {"positions", "normals", "colours", "textures", "sources",
                                           "indices", "words", "floats", "result"};
@@ -66,7 +66,7 @@ int main(int argc, char **argv) {
     size_t lent[SLICES];
     for (int k = 0; k < SLICES; k++) {
         s[k] = lend(lengths[k]);
-        lent[k] = lengths[k] - (argc > 2 && strcmp(argv[2], names[k]) == 0);
+        lent[k] = lengths[k] - (argc > 2 && k < RESULT && strcmp(argv[2], names[k]) == 0);
     }
     size_t result[SITEMESH_RESULT];
     uint32_t number = sitemesh_convert(block, n, (float *)s[0], lent[0], (float *)s[1], lent[1], (float *)s[2], lent[2],

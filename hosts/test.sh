@@ -5,47 +5,36 @@ set -u
 cd "$(dirname "$0")/.." || exit 1
 archive=target/staticlib/libhost.a
 out=target/hosts
-passed=0
-failed=0
-
-look() { # what was looked at, and the status of the look
-    if [ "$2" -eq 0 ]; then
-        passed=$((passed + 1))
-    else
-        failed=$((failed + 1))
-        printf 'failed: %s\n' "$1"
-    fi
-}
+source tests/tally.sh
 
 mkdir -p "$out"
 cc -O2 -Wall -Wextra -Werror hosts/call.c "$archive" -o "$out/call_c"
-look 'hosts/call.c compiles' $?
+tally 'hosts/call.c compiles' $?
 rust=0
 if [ -n "$(command -v rustc)" ]; then
     rust=1
     rustc --edition 2021 -O hosts/call.rs -C "link-arg=$archive" -o "$out/call_rs"
-    look 'hosts/call.rs compiles' $?
+    tally 'hosts/call.rs compiles' $?
 else
     printf 'hosts: rustc is not here, so the Rust wrapper is not tried\n'
 fi
 
 for block in examples/*.block tools/cases/*.block; do
     "$out/call_c" "$block" | cmp - "${block%.block}.mesh"
-    look "$block from C" $?
+    tally "$block from C" $?
     if [ "$rust" -eq 1 ]; then
         "$out/call_rs" "$block" | cmp - <(head -n 1 "${block%.block}.mesh")
-        look "$block from Rust" $?
+        tally "$block from Rust" $?
     fi
 done
 
 # The ground has as many corners as are lent for, so its own slices may not be one short; the working slices have room.
 for slice in positions normals colours textures sources; do
     [ "$("$out/call_c" examples/ground.block "$slice")" = 'no 8' ]
-    look "$slice one short" $?
+    tally "$slice one short" $?
 done
 head -c 19 examples/ground.block > "$out/stub"
 [ "$("$out/call_c" "$out/stub")" = 'no 1' ]
-look 'a stub from C' $?
+tally 'a stub from C' $?
 
-printf '%d passed, %d failed\n' "$passed" "$failed"
-[ "$failed" -eq 0 ]
+tell_tally

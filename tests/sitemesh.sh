@@ -5,19 +5,14 @@ cd "$(dirname "$0")/.." || exit 1
 program=target/bin/sitemesh
 scratch=$(mktemp -d)
 trap 'rm -rf "$scratch"' EXIT
-passed=0
-failed=0
+source tests/tally.sh
 
 # name, expected standard output, and 'told' where standard error must not be empty, else 'silent'
 look() {
     local heard=silent
     [ -s "$scratch/err" ] && heard=told
-    if [ "$(cat "$scratch/out")" = "$2" ] && [ "$heard" = "$3" ]; then
-        passed=$((passed + 1))
-    else
-        failed=$((failed + 1))
-        printf 'failed: %s\n' "$1"
-    fi
+    [ "$(cat "$scratch/out")" = "$2" ] && [ "$heard" = "$3" ]
+    tally "$1" $?
 }
 
 : | "$program" > "$scratch/out" 2> "$scratch/err"
@@ -40,5 +35,4 @@ fi
 "$program" < crates/sitemesh/stdin >&- 2> "$scratch/err"
 look 'no output' '' told
 
-printf '%d passed, %d failed\n' "$passed" "$failed"
-[ "$failed" -eq 0 ]
+tell_tally

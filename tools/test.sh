@@ -10,17 +10,7 @@ meshes=("${meshes[@]/%/.mesh}")
 work=$(mktemp -d)
 trap 'rm -rf "$work"' EXIT
 export PYTHONDONTWRITEBYTECODE=1
-passed=0
-failed=0
-
-tally() { # what was looked at, and the status of the look
-    if [ "$2" -eq 0 ]; then
-        passed=$((passed + 1))
-    else
-        failed=$((failed + 1))
-        printf 'failed: %s\n' "$1"
-    fi
-}
+source tests/tally.sh
 
 # The block of a text is the stored one.
 stored_block() {
@@ -108,5 +98,4 @@ no_mesh 'mesh 1 3 1 0 0\nv 0 00000000 00000000 00000000\nt 0 0 1\n' 'line 3'
 no_mesh 'mesh 1 0 1 0 0\nv 0 00000000 7fc00000 00000000\n' 'not finite'
 no_mesh 'mesh 2 0 1 0 0\nv 0 00000000 00000000 00000000\n' 'first line says'
 
-printf '%d passed, %d failed\n' "$passed" "$failed"
-[ "$failed" -eq 0 ]
+tell_tally

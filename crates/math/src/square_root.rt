@@ -4,7 +4,7 @@ ghost use Prim.Native.Nat.{_+_, _*_, _^_, _≤_, _<_};
 ghost use Rattle.math.specs.SquareRoot.{isqrt, joined, rootBits};
 ghost use Rattle.math.specs.Nearest.{Rooted};
 
-// A number near the root: for n from 2^48 on, a parabola in the first 16 of n's 50 binary digits, at most half a hundredth off.
+// A number near the root: for n from 2^48 on, a parabola in the first 16 of n's 50 binary digits, less than a hundredth off.
 fn first_guess(n: u64) -> u64
     requires { ⌜ n < 2 ^ 50 ⌝ }
     ensures { λ r. ⌜ (2 ^ 23 ≤ r) × (r < 2 ^ 28) ⌝ }
@@ -21,7 +21,7 @@ fn nearer(n: u64, r: u64) -> u64
     (r + n / r) / 2
 }
 
-// The whole part of the square root. After two steps the guess is it, or, for one n in hundreds, the next number.
+// The whole part of the square root. After two steps the guess is it or, for one n of the callers in hundreds, the next number.
 fn int_root(n: u64) -> u64
     requires { ⌜ n < 2 ^ 50 ⌝ }
     ensures { λ r. ⌜ r ≡ isqrt 25 n ⌝ }
