@@ -15,8 +15,8 @@ read-any [] i d e h = absurd (not-suc-le-zero h)
 read-any (x ∷ xs) zero d e h = refl
 read-any (x ∷ xs) (suc i) d e h = read-any xs i d e (le-of-suc-le-suc h)
 
-float-word : (l : List Float) (i x : ℕ) → x ≡ toBits binary32 (getD l i nan) → i < length l → x ≡ toBits binary32 (getD l i vector.zero)
-float-word l i x e h = e ∙ ap (toBits binary32) (read-any l i nan vector.zero h)
+float-word : (l : List Float) (i x : ℕ) → x ≡ toBits binary32 (getD l i nan) → i < length l → x ≡ toBits binary32 (getD l i vector.zeroF)
+float-word l i x e h = e ∙ ap (toBits binary32) (read-any l i nan vector.zeroF h)
 
 pub generated-words : (l : List Float) (c : ℕ) (w : Words3) → 3 * c + 3 ≤ length l → w .x ≡ toBits binary32 (getD l (3 * c) nan)
     → w .y ≡ toBits binary32 (getD l (3 * c + 1) nan) → w .z ≡ toBits binary32 (getD l (3 * c + 2) nan) → w ≡ generatedAt l c

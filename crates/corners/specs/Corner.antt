@@ -7,7 +7,7 @@ use lib.Ieee.{Float, binary32, toBits}
 use Rattle.bits.specs.declared.Words2.{Words2}
 use Rattle.bits.specs.declared.Words3.{Words3}
 use Rattle.bits.specs.declared.Words4.{Words4}
-use Rattle.math.specs.Vector.{zero}
+use Rattle.math.specs.Vector.{zeroF}
 use Rattle.block.specs.Stream.{get3At, get4At}
 use Rattle.mesh.specs.Words.{words2, words3, words4, no3}
 use Rattle.mesh.specs.Vertices.{Key}
@@ -40,9 +40,9 @@ textureAt w t c = record { s = getD w (t .textures + 2 * c) 0; t = getD w (t .te
 unfoldable pub generatedAt : List Float → ℕ → Words3
 generatedAt floats c =
     record {
-      x = toBits binary32 (getD floats (3 * c) zero);
-      y = toBits binary32 (getD floats (3 * c + 1) zero);
-      z = toBits binary32 (getD floats (3 * c + 2) zero);
+      x = toBits binary32 (getD floats (3 * c) zeroF);
+      y = toBits binary32 (getD floats (3 * c + 1) zeroF);
+      z = toBits binary32 (getD floats (3 * c + 2) zeroF);
     }
 
 -- FORMAT 10.2, PolyMesh::build (corner_normals): the supplied words at the corner's place or face, or the generated ones

@@ -8,7 +8,7 @@ use borrow.Author.Tests.{lt-ltb, le-ltb}
 use lib.ListN.{length}
 use lib.Ieee.{Float, binary32, sub, lt, eq, ofBits}
 use lib.Ieee.Scale.{finite}
-use Rattle.math.specs.Vector.{zero as zeroF}
+use Rattle.math.specs.Vector.{zeroF}
 use Rattle.math.specs.Order.{minOf, maxOf}
 use Rattle.block.specs.declared.header.Header.{Header}
 use Rattle.block.specs.declared.texture.Pair.{Pair}

@@ -10,7 +10,7 @@ use lib.IntN.{pos}
 use lib.Ieee.{Float, binary32, add, sub, div, lt, ofInt}
 use Rattle.polygon.proofs.Tabs.{length-tab}
 use Rattle.math.specs.declared.vector.V3.{V3}
-use Rattle.math.specs.Vector.{zero as zeroF, vlen}
+use Rattle.math.specs.Vector.{zeroF, vlen}
 use Rattle.block.specs.declared.header.Header.{Header}
 use Rattle.block.specs.declared.texture.Pair.{Pair}
 use Rattle.block.specs.Lists.{listBytes}

@@ -13,7 +13,7 @@ use Rattle.math.specs.declared.vector.V3.{V3}
 use Rattle.math.specs.declared.vector.Unit.{Unit}
 use Rattle.math.specs.declared.vector.Unit.the-variants.{Of, Nothing}
 use Rattle.math.specs.declared.quaternion.Quat.{Quat}
-use Rattle.math.specs.Vector.{zero as zeroF, one as oneF, xAxis, yAxis, vadd, vsub, vscale, vdot, vcross, unitOf}
+use Rattle.math.specs.Vector.{zeroF, oneF, xAxis, yAxis, vadd, vsub, vscale, vdot, vcross, unitOf}
 use Rattle.math.specs.Quaternion.{rotated, between}
 use Rattle.mesh.specs.Normals.{orElse}
 use Rattle.mesh.specs.Frames.{zAxis, axes, at, or, firstOf, lastOf, same3, closed, isEnd, step, alongEnd, yOwn, bend, zEnd, zOwn, turned, pickZ, upright, bent, straight, axesBy}

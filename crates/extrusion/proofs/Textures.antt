@@ -12,7 +12,7 @@ use lib.Ieee.{Float, nan, binary32, toBits}
 use lib.ListN.{length, getD, set, take, drop, length-append, length-take, length-drop, length-set, List·getD-append}
 use lib.Seq.{getD-take, getD-drop, getD-append-add}
 use Rattle.bits.specs.declared.Words2.{Words2}
-use Rattle.math.specs.Vector.{zero as zeroF}
+use Rattle.math.specs.Vector.{zeroF}
 use Rattle.block.specs.declared.header.Header.{Header}
 use Rattle.block.specs.declared.settings.Settings.{Settings}
 use Rattle.block.specs.declared.texture.Pair.{Pair}

@@ -8,7 +8,7 @@ use lib.ListN.{length, getD, List·getD-eq-default}
 use lib.Ieee.{Float, binary32, ofBits}
 use Rattle.bits.specs.Bits.{wordAt}
 use Rattle.math.specs.declared.quaternion.Quat.{Quat}
-use Rattle.math.specs.Vector.{one as oneF, v3}
+use Rattle.math.specs.Vector.{oneF, v3}
 use Rattle.math.specs.Quaternion.{identity, axisTurn}
 use Rattle.block.specs.declared.texture.Pair.{Pair}
 use Rattle.block.specs.Value.{valueWord, words2, words3}

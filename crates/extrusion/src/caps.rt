@@ -1,7 +1,7 @@
 // FORMAT 8.4, extrusion (cap_len, lo, span): the corners of a cap, and how the cross-section fits its texture.
 ghost use mathlib.Core.Path.{_≡_};
 ghost use Prim.Native.Nat.{ℕ, _*_, _≤_};
-ghost use Rattle.math.specs.Vector.{zero};
+ghost use Rattle.math.specs.Vector.{zeroF};
 ghost use lib.ListN.{length};
 ghost use Rattle.mesh.specs.Extrusion as spec;
 ghost use Rattle.mesh.specs.Extrusion.{twos, sectionOf, extrusionOf, capLength, capFit};
@@ -44,7 +44,7 @@ pub fn cap_length(block: &[u8], h: Header) -> usize
 
 // Before the first point.
 fn nowhere() -> Span
-    ensures { λ r. ⌜ r ≡ spanOf (λ (_ : ℕ). zero) 0 ⌝ }
+    ensures { λ r. ⌜ r ≡ spanOf (λ (_ : ℕ). zeroF) 0 ⌝ }
 {
     Span {
         low: f32::from_bits(0x7f80_0000),

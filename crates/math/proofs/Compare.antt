@@ -9,7 +9,7 @@ use lib.Dec.{T, eqb, ltb, eqb·suc-zero}
 use lib.IntN.{pos}
 use lib.Ieee.{Float, nan, inf, fin, binary32, up, down, lt, eq, ne, neg, div, fits, ofBits, isNan}
 use lib.Ieee.Back.{whole-unique}
-use Rattle.math.specs.Vector.{zero as zeroF, one}
+use Rattle.math.specs.Vector.{zeroF, oneF}
 use Rattle.math.specs.Order.{isZero, negative, magnitude, choice, minOf, maxOf}
 use Rattle.math.proofs.Sorts.{some, nothing, not-below, not-level}
 
@@ -71,7 +71,7 @@ same-magnitude (fin true (suc m) e) h k = absurd (not-level m e (down e) h)
 -- ---- the minimum and the maximum
 
 -- the sign of a zero is that of its reciprocal
-zero-sign : (x : Float) → isZero x ≡ true → (lt (div binary32 one x) zeroF ≡ negative x) × (lt zeroF (div binary32 one x) ≡ not (negative x))
+zero-sign : (x : Float) → isZero x ≡ true → (lt (div binary32 oneF x) zeroF ≡ negative x) × (lt zeroF (div binary32 oneF x) ≡ not (negative x))
 unfolding lt div ofBits isZero negative
 zero-sign nan h = absurd (true≢false (sym h))
 zero-sign (inf s) h = absurd (true≢false (sym h))
@@ -88,10 +88,10 @@ wanted-at-zero past v w a b h = ap (λ (t : Bool). cond (isNan a) b (cond (isNan
     both true k = k refl
     both false k = refl
 
-pub min-choice : (a b : Float) → choice (lt b a) (lt (div binary32 one b) zeroF) a b ≡ minOf a b
+pub min-choice : (a b : Float) → choice (lt b a) (lt (div binary32 oneF b) zeroF) a b ≡ minOf a b
 unfolding minOf
-min-choice a b = wanted-at-zero (lt b a) (lt (div binary32 one b) zeroF) (negative b) a b (λ z. zero-sign b z .0)
+min-choice a b = wanted-at-zero (lt b a) (lt (div binary32 oneF b) zeroF) (negative b) a b (λ z. zero-sign b z .0)
 
-pub max-choice : (a b : Float) → choice (lt a b) (lt zeroF (div binary32 one b)) a b ≡ maxOf a b
+pub max-choice : (a b : Float) → choice (lt a b) (lt zeroF (div binary32 oneF b)) a b ≡ maxOf a b
 unfolding maxOf
-max-choice a b = wanted-at-zero (lt a b) (lt zeroF (div binary32 one b)) (not (negative b)) a b (λ z. zero-sign b z .1)
+max-choice a b = wanted-at-zero (lt a b) (lt zeroF (div binary32 oneF b)) (not (negative b)) a b (λ z. zero-sign b z .1)

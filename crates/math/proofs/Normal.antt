@@ -9,7 +9,7 @@ use lib.Ieee.Fits.{and-i, add-fits, sub-fits, mul-fits}
 use Rattle.math.specs.declared.vector.V3.{V3}
 use Rattle.math.specs.declared.vector.Unit.the-variants.{Of, Nothing}
 use Rattle.math.specs.SquareRoot.{rootOf}
-use Rattle.math.specs.Vector.{v3, one, yAxis, fits3, vadd, vsub, vscale, vdot, minor, vcross, vlen, usable, unitBy, unitOf}
+use Rattle.math.specs.Vector.{v3, oneF, yAxis, fits3, vadd, vsub, vscale, vdot, minor, vcross, vlen, usable, unitBy, unitOf}
 use Rattle.math.proofs.Usable.{usable-again}
 
 -- ---- what is made fits
@@ -48,14 +48,14 @@ picks false x t = absurd t
 
 -- a times the reciprocal of its length
 abbrev unitVector : V3 → V3
-unitVector a = vscale a (div binary32 one (rootOf (vdot a a)))
+unitVector a = vscale a (div binary32 oneF (rootOf (vdot a a)))
 
 -- FORMAT 9.3: the unit vector of a vector fits f32, and has a unit vector itself
 pub unit-again : (a u : V3) → T (fits3 a) → unitOf a ≡ Of u → T (fits3 u) × ((w : V3) × (unitOf u ≡ Of w))
 unit-again a u fit e =
     let h = picked (usable (rootOf (vdot a a))) (unitVector a) u (sym (unit-is a) ∙ e) in
     let again : T (usable (rootOf (vdot u u))) = subst (λ (w : V3). T (usable (rootOf (vdot w w)))) (h .1) (usable-again a fit (h .0)) in (
-      subst (λ (w : V3). T (fits3 w)) (h .1) (scale-fits a (div binary32 one (rootOf (vdot a a)))),
+      subst (λ (w : V3). T (fits3 w)) (h .1) (scale-fits a (div binary32 oneF (rootOf (vdot a a)))),
       (unitVector u, unit-is u ∙ picks (usable (rootOf (vdot u u))) (unitVector u) again),
     )
 

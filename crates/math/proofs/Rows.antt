@@ -4,7 +4,7 @@ use Prim.Native.Nat.{ℕ}
 use lib.Ieee.{Float, nan, binary32, ofBits, toBits}
 use Rattle.math.specs.declared.vector.Unit.the-variants.{Of, Nothing}
 use Rattle.math.specs.SquareRoot.{rootOf}
-use Rattle.math.specs.Vector.{zero, one, v3, xAxis, yAxis, unitOf}
+use Rattle.math.specs.Vector.{zeroF, oneF, v3, xAxis, yAxis, unitOf}
 use Rattle.math.specs.Quaternion.{quat, identity, between}
 use Rattle.math.specs.Order.{isZero, negative, minOf, maxOf}
 
@@ -30,23 +30,23 @@ roots = (refl, refl, refl, refl, refl, refl, refl, refl)
 -- FORMAT 9.3: (3, 4, 0) is normalised to (0.6, 0.8, 0), and (0, 0, 0) is not.
 -- (41, 0, 0) shows the reciprocal: 41 * (1 / 41) is just below 1, where 41 / 41 is 1.
 pub units :
-    (unitOf (v3 (float 0x4040_0000) (float 0x4080_0000) zero) ≡ Of (v3 (float 0x3f19_999a) (float 0x3f4c_cccd) zero))
-    × (unitOf (v3 (float 0x4224_0000) zero zero) ≡ Of (v3 (float 0x3f7f_ffff) zero zero))
-    × (unitOf (v3 zero zero zero) ≡ Nothing)
+    (unitOf (v3 (float 0x4040_0000) (float 0x4080_0000) zeroF) ≡ Of (v3 (float 0x3f19_999a) (float 0x3f4c_cccd) zeroF))
+    × (unitOf (v3 (float 0x4224_0000) zeroF zeroF) ≡ Of (v3 (float 0x3f7f_ffff) zeroF zeroF))
+    × (unitOf (v3 zeroF zeroF zeroF) ≡ Nothing)
 unfolding unitOf rootOf ofBits lib.Ieee.add lib.Ieee.mul lib.Ieee.div lib.Ieee.lt
 units = (refl, refl, refl)
 
 -- FORMAT 9.4: a NaN gives way, and of two zeros the minimum is -0, the maximum 0
 pub extremes :
-    (minOf nan one ≡ one)
-    × (minOf one nan ≡ one)
-    × (minOf zero (float 0x8000_0000) ≡ float 0x8000_0000)
-    × (maxOf zero (float 0x8000_0000) ≡ zero)
-    × (maxOf (float 0x8000_0000) zero ≡ zero)
+    (minOf nan oneF ≡ oneF)
+    × (minOf oneF nan ≡ oneF)
+    × (minOf zeroF (float 0x8000_0000) ≡ float 0x8000_0000)
+    × (maxOf zeroF (float 0x8000_0000) ≡ zeroF)
+    × (maxOf (float 0x8000_0000) zeroF ≡ zeroF)
 unfolding minOf maxOf isZero negative ofBits lib.Ieee.lt lib.Ieee.isNan
 extremes = (refl, refl, refl, refl, refl)
 
 -- FORMAT 9.5: a quarter turn from X to Y, and no turn
-pub turns : (between xAxis yAxis ≡ quat zero zero (float 0x3f35_04f3) (float 0x3f35_04f3)) × (between yAxis yAxis ≡ identity)
+pub turns : (between xAxis yAxis ≡ quat zeroF zeroF (float 0x3f35_04f3) (float 0x3f35_04f3)) × (between yAxis yAxis ≡ identity)
 unfolding between rootOf ofBits lib.Ieee.add lib.Ieee.sub lib.Ieee.mul lib.Ieee.div lib.Ieee.lt lib.Ieee.neg
 turns = (refl, refl)

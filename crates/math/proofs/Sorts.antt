@@ -15,7 +15,7 @@ use lib.Ieee.Positive.{positive}
 use lib.Ieee.Digits.{size-le}
 use lib.Ieee.Fits.{up-pos, down-pos, kept-lt, and-l, and-r}
 use Rattle.math.specs.SquareRoot.{rootOf, rootBits}
-use Rattle.math.specs.Vector.{zero as zeroF}
+use Rattle.math.specs.Vector.{zeroF}
 use Rattle.math.proofs.Units.{down-fits}
 
 -- bits up to those of infinity are no NaN's

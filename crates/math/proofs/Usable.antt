@@ -11,7 +11,7 @@ use lib.Ieee.Fits.{and-l, and-r, add-fits}
 use lib.Ieee.Scale.{finite}
 use Rattle.math.specs.declared.vector.V3.{V3}
 use Rattle.math.specs.SquareRoot.{rootOf}
-use Rattle.math.specs.Vector.{vdot, vscale, one, tiny, fits3, usable}
+use Rattle.math.specs.Vector.{vdot, vscale, oneF, tiny, fits3, usable}
 use Rattle.math.proofs.Grid.{Rounded}
 use Rattle.math.proofs.Units.{Is, in-units, square-units, add-units, mul-units, inv-units, rounded-under, add-finite, mul-finite}
 use Rattle.math.proofs.Chain.{sum-lo, inv-up, component-up, component-lo, largest, more-left, more-right}
@@ -70,15 +70,15 @@ measure v fit fine =
 -- ---- the components of the unit vector
 
 -- 1 / y, with 1 as the code writes it
-one-over : (y : Float) (r : ℕ) → Is binary32 y false r → 0 < r → Rounded binary32 false (2 ^ 149 * 2 ^ 149) r (div binary32 one y)
+one-over : (y : Float) (r : ℕ) → Is binary32 y false r → 0 < r → Rounded binary32 false (2 ^ 149 * 2 ^ 149) r (div binary32 oneF y)
 unfolding ofBits
 one-over y r h R = inv-units binary32 y r h R
 
 pub usable-again : (v : V3) → T (fits3 v) → T (usable (rootOf (vdot v v)))
-    → let u = vscale v (div binary32 one (rootOf (vdot v v))) in T (usable (rootOf (vdot u u)))
+    → let u = vscale v (div binary32 oneF (rootOf (vdot v v))) in T (usable (rootOf (vdot u u)))
 usable-again v fit ok =
     let y = rootOf (vdot v v) in
-    let k = div binary32 one y in
+    let k = div binary32 oneF y in
     let M : Measured v = measure v fit (and-l (finite y) (lt tiny y) ok) in
     let D = M .d .p in
     let r = M .l .r in

@@ -7,7 +7,7 @@ use lib.Dec.{T}
 use lib.Ieee.{Float, nan, inf, fin, binary32, lt, ne, neg, div, ofBits, toBits, isNan}
 use lib.Ieee.Bits.{nanBits-is, nanBits-above}
 use lib.Ieee.Scale.{finite}
-use Rattle.math.specs.Vector.{zero as zeroF}
+use Rattle.math.specs.Vector.{zeroF}
 use Rattle.math.proofs.Sorts.{infF}
 use Rattle.math.proofs.Compare.{nan-test}
 

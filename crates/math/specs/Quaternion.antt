@@ -7,7 +7,7 @@ use Rattle.math.specs.declared.vector.Unit.{Unit}
 use Rattle.math.specs.declared.vector.Unit.the-variants.{Of, Nothing}
 use Rattle.math.specs.declared.quaternion.Quat.{Quat}
 use Rattle.math.specs.SquareRoot.{rootOf}
-use Rattle.math.specs.Vector.{zero, one, two, v3, xAxis, yAxis, vadd, vscale, vdot, vcross, unitOf}
+use Rattle.math.specs.Vector.{zeroF, oneF, twoF, v3, xAxis, yAxis, vadd, vscale, vdot, vcross, unitOf}
 use Rattle.math.specs.Order.{magnitude}
 
 -- f32 constants, by their bits: 1e-7 and 0.9
@@ -21,7 +21,7 @@ abbrev pub quat : Float → Float → Float → Float → Quat
 quat x y z w = record { x = x; y = y; z = z; w = w }
 
 abbrev pub identity : Quat
-identity = quat zero zero zero one
+identity = quat zeroF zeroF zeroF oneF
 
 abbrev pub vectorPart : Quat → V3
 vectorPart q = v3 (q .x) (q .y) (q .z)
@@ -32,7 +32,7 @@ turned u w v t = vadd (vadd v (vscale t w)) (vcross u t)
 
 -- FORMAT 9.5, quat_rotate
 abbrev pub rotated : Quat → V3 → V3
-rotated q v = turned (vectorPart q) (q .w) v (vscale (vcross (vectorPart q) v) two)
+rotated q v = turned (vectorPart q) (q .w) v (vscale (vcross (vectorPart q) v) twoF)
 
 abbrev pub turnBy : Unit → Float → Float → Quat
 turnBy (Of u) s c = cond (finite s && finite c) (quat (mul binary32 (u .x) s) (mul binary32 (u .y) s) (mul binary32 (u .z) s) c) identity
@@ -44,8 +44,8 @@ unfolding unitOf
 axisTurn a s c = turnBy (unitOf a) s c
 
 abbrev pub halfAbout : Unit → Quat
-halfAbout (Of u) = quat (u .x) (u .y) (u .z) zero
-halfAbout Nothing = quat zero zero one zero
+halfAbout (Of u) = quat (u .x) (u .y) (u .z) zeroF
+halfAbout Nothing = quat zeroF zeroF oneF zeroF
 
 -- the X axis, or the Y axis where x is not well below 1
 abbrev pub otherAxis : Float → V3
@@ -67,8 +67,8 @@ shortestArc c w = divided c w (rootOf (add binary32 (vdot c c) (mul binary32 w w
 -- quat_between of two unit vectors, by their dot product d
 abbrev pub turnAt : Float → V3 → V3 → Quat
 turnAt d f t =
-    cond (lt (sub binary32 one slack) d) identity
-    (cond (lt d (add binary32 (neg one) slack)) (halfTurn f) (shortestArc (vcross f t) (add binary32 one d)))
+    cond (lt (sub binary32 oneF slack) d) identity
+    (cond (lt d (add binary32 (neg oneF) slack)) (halfTurn f) (shortestArc (vcross f t) (add binary32 oneF d)))
 
 unfoldable pub turnTo : V3 → V3 → Quat
 unfolding halfTurn shortestArc

@@ -8,14 +8,14 @@ use Rattle.math.specs.declared.vector.Unit.the-variants.{Of, Nothing}
 use Rattle.math.specs.SquareRoot.{rootOf}
 
 -- f32 constants, by their bits: 0, 1, 2 and 1e-20
-abbrev pub zero : Float
-zero = ofBits binary32 0
+abbrev pub zeroF : Float
+zeroF = ofBits binary32 0
 
-abbrev pub one : Float
-one = ofBits binary32 0x3f80_0000
+abbrev pub oneF : Float
+oneF = ofBits binary32 0x3f80_0000
 
-abbrev pub two : Float
-two = ofBits binary32 0x4000_0000
+abbrev pub twoF : Float
+twoF = ofBits binary32 0x4000_0000
 
 abbrev pub tiny : Float
 tiny = ofBits binary32 0x1e3c_e508
@@ -24,10 +24,10 @@ abbrev pub v3 : Float → Float → Float → V3
 v3 x y z = record { x = x; y = y; z = z }
 
 abbrev pub xAxis : V3
-xAxis = v3 one zero zero
+xAxis = v3 oneF zeroF zeroF
 
 abbrev pub yAxis : V3
-yAxis = v3 zero one zero
+yAxis = v3 zeroF oneF zeroF
 
 -- the components are values that f32 has
 abbrev pub fits3 : V3 → Bool
@@ -67,7 +67,7 @@ usable l = finite l && lt tiny l
 
 -- a times the reciprocal of the length l
 abbrev pub unitBy : Float → V3 → Unit
-unitBy l a = cond (usable l) (Of (vscale a (div binary32 one l))) Nothing
+unitBy l a = cond (usable l) (Of (vscale a (div binary32 oneF l))) Nothing
 
 -- FORMAT 9.3, normalize
 unfoldable pub unitOf : V3 → Unit

@@ -14,7 +14,7 @@ use Rattle.bits.specs.declared.Words3.{Words3}
 use Rattle.math.specs.declared.vector.V3.{V3}
 use Rattle.math.specs.declared.vector.Unit.{Unit}
 use Rattle.math.specs.declared.vector.Unit.the-variants.{Of, Nothing}
-use Rattle.math.specs.Vector.{yAxis, vlen, unitOf, one as oneF}
+use Rattle.math.specs.Vector.{yAxis, vlen, unitOf, oneF}
 use Rattle.math.specs.Order.{magnitude}
 use Rattle.polygon.specs.Loops.{tab}
 use Rattle.polygon.proofs.Tabs.{length-tab, map-tab}

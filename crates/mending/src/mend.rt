@@ -5,7 +5,7 @@ ghost use Prim.Native.Nat.{_+_, _*_, _^_, _≤_, _<_};
 ghost use lib.ListN.{length, getD, drop};
 ghost use lib.Seq.{sets};
 ghost use lib.Ieee.{binary32, sub, lt};
-ghost use Rattle.math.specs.Vector.{one, yAxis, vlen, unitOf};
+ghost use Rattle.math.specs.Vector.{oneF, yAxis, vlen, unitOf};
 ghost use Rattle.math.specs.Order.{magnitude};
 ghost use Rattle.mesh.specs.Words.{words3, floats, bits, pointWords};
 ghost use Rattle.mesh.specs.Mend.{visible, vertexSpot, triNormal, mendBy};
@@ -213,7 +213,7 @@ fn found_at(positions: &[u32], indices: &[u32], count: usize, k: u32) -> V3
 }
 
 fn is_off(n: V3) -> bool
-    ensures { λ r. ⌜ r ≡ lt visible (magnitude (sub binary32 (vlen n) one)) ⌝ }
+    ensures { λ r. ⌜ r ≡ lt visible (magnitude (sub binary32 (vlen n) oneF)) ⌝ }
 {
     1e-5 < math::abs(math::len(n) - 1.0)
 }

@@ -9,7 +9,7 @@ use lib.ListN.{length, getD, take, drop, length-take, length-drop}
 use lib.Seq.{take-take, drop-drop, take-all, getD-take}
 use Rattle.bits.specs.Bits.{field, entries}
 use Rattle.bits.proofs.Entries.{entries-length, entries-part}
-use Rattle.math.specs.Vector.{zero as zeroF, one as oneF}
+use Rattle.math.specs.Vector.{zeroF, oneF}
 use Rattle.block.specs.declared.header.Header.{Header}
 use Rattle.block.specs.Header.{countsOf, headerOf}
 use Rattle.block.specs.Lists.{widths, listAt, listSize, placeOf, listBytes}

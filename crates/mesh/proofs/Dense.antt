@@ -12,7 +12,7 @@ use lib.ListN.{length, getD, length-append}
 use Rattle.math.specs.declared.vector.V3.{V3}
 use Rattle.math.specs.declared.vector.Unit.{Unit}
 use Rattle.math.specs.declared.vector.Unit.the-variants.{Of, Nothing}
-use Rattle.math.specs.Vector.{v3, zero as zeroF, yAxis, vadd, unitOf}
+use Rattle.math.specs.Vector.{v3, zeroF, yAxis, vadd, unitOf}
 use Rattle.block.specs.declared.crease.CreaseRule.{CreaseRule}
 use Rattle.block.specs.declared.crease.CreaseRule.the-variants.{Own, Every, Bound}
 use Rattle.polygon.specs.Loops.{All}

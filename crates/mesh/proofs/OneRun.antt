@@ -11,7 +11,7 @@ use lib.Ieee.{le}
 use lib.ListN.{length, length-map, getD, take, drop}
 use Rattle.bits.specs.Bits.{entries}
 use Rattle.bits.specs.declared.Words4.{Words4}
-use Rattle.math.specs.Vector.{zero}
+use Rattle.math.specs.Vector.{zeroF}
 use Rattle.block.specs.Crease.{π, creaseOf}
 use Rattle.block.specs.Settings.{floatAt, settingsOf}
 use Rattle.block.specs.declared.crease.CreaseRule.the-variants.{Own, Every, Bound}
@@ -113,7 +113,7 @@ module _ (missing : Words4) (bs : List ℕ) where
 
 -- ---- two blocks
 
-crease-own : (bs : List ℕ) → le (creaseAngle bs) zero ≡ true → restOf bs .settings .crease ≡ Own
+crease-own : (bs : List ℕ) → le (creaseAngle bs) zeroF ≡ true → restOf bs .settings .crease ≡ Own
 unfolding restOf settingsOf creaseOf
 crease-own bs e = ap (λ (t : Bool). cond t Own (cond (le π (creaseAngle bs)) Every (Bound (floatAt bs 1)))) e
 

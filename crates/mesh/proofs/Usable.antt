@@ -13,7 +13,7 @@ use Rattle.bits.specs.declared.Words3.{Words3}
 use Rattle.math.specs.declared.vector.V3.{V3}
 use Rattle.math.specs.declared.vector.Unit.{Unit}
 use Rattle.math.specs.declared.vector.Unit.the-variants.{Of, Nothing}
-use Rattle.math.specs.Vector.{v3, zero, one, yAxis, fits3, vadd, vscale, vlen, usable, unitOf}
+use Rattle.math.specs.Vector.{v3, zeroF, oneF, yAxis, fits3, vadd, vscale, vlen, usable, unitOf}
 use Rattle.math.proofs.Normal.{unit-again, unit-up, sum-fits, scale-fits}
 use Rattle.polygon.specs.Facing.{edgeSum, newellFrom, newell}
 use Rattle.polygon.specs.Plane.{handed}
@@ -45,12 +45,12 @@ newellFrom-fits first n (a ∷ b ∷ r) h = newellFrom-fits first (edgeSum n a b
 newell-fits : (ps : List V3) → T (fits3 (newell ps))
 unfolding newell
 newell-fits [] = words-fit 0 0 0
-newell-fits (a ∷ r) = newellFrom-fits a (v3 zero zero zero) (a ∷ r) (words-fit 0 0 0)
+newell-fits (a ∷ r) = newellFrom-fits a (v3 zeroF zeroF zeroF) (a ∷ r) (words-fit 0 0 0)
 
 handed-fits : (b : Bool) (n : V3) → T (fits3 n) → T (fits3 (handed b n))
 unfolding handed
 handed-fits true n h = h
-handed-fits false n h = scale-fits n (neg one)
+handed-fits false n h = scale-fits n (neg oneF)
 
 pub facing-fits : (F : Frame) (f : Face) → T (fits3 (facing F f))
 unfolding facing
@@ -87,7 +87,7 @@ nearSum-fits b own n Nothing hs h = h
 creaseSum-fits : (r : CreaseRule) (own : ℕ) (n : V3) (hs : List Hit) → T (fits3 n) → T (fits3 (creaseSum r own n hs))
 unfolding creaseSum
 creaseSum-fits Own own n hs h = h
-creaseSum-fits Every own n hs h = sumAll-fits (v3 zero zero zero) hs (words-fit 0 0 0)
+creaseSum-fits Every own n hs h = sumAll-fits (v3 zeroF zeroF zeroF) hs (words-fit 0 0 0)
 creaseSum-fits (Bound b) own n hs h = nearSum-fits b own n (unitOf n) hs h
 
 -- ---- fits, and is usable: what a vector has that was scaled to length 1, and (0, 1, 0)
@@ -100,7 +100,7 @@ unit-long : (a w : V3) → unitOf a ≡ Of w → T (usable (vlen a))
 unfolding unitOf
 unit-long a w e = go (usable (vlen a)) e
   where
-    go : (b : Bool) → cond b (Of (vscale a (div binary32 one (vlen a)))) Nothing ≡ Of w → T b
+    go : (b : Bool) → cond b (Of (vscale a (div binary32 oneF (vlen a)))) Nothing ≡ Of w → T b
     go true e = tt
     go false e = absurd (let z : _≡_ {A = ℕ} 0 1 = cc in omega arith)
 
@@ -143,6 +143,6 @@ pub mend-usable : (n : Words3) (other : V3) → Usable n → mendBy (unitOf (flo
 unfolding mendBy unitOf
 mend-usable n other u = go (usable (vlen (floats n))) u
   where
-    go : (b : Bool) → T b → mendBy (cond b (Of (vscale (floats n) (div binary32 one (vlen (floats n))))) Nothing) n other ≡ renorm n
+    go : (b : Bool) → T b → mendBy (cond b (Of (vscale (floats n) (div binary32 oneF (vlen (floats n))))) Nothing) n other ≡ renorm n
     go true t = refl
     go false t = absurd t

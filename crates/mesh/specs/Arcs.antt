@@ -7,7 +7,7 @@ use lib.Ieee.{Float, binary32, add, sub, mul, div, lt}
 use lib.Ieee.Scale.{finite}
 use Rattle.math.specs.declared.vector.V3.{V3}
 use Rattle.math.specs.SquareRoot.{rootOf}
-use Rattle.math.specs.Vector.{zero as zeroF, vsub, vlen}
+use Rattle.math.specs.Vector.{zeroF, vsub, vlen}
 use Rattle.block.specs.declared.texture.Pair.{Pair}
 use Rattle.polygon.specs.Loops.{tab}
 use Rattle.mesh.specs.Grid.{whole}

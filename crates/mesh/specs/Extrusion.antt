@@ -8,7 +8,7 @@ use lib.Ieee.{Float, binary32, ofBits, toBits, sub, mul, eq}
 use Rattle.bits.specs.declared.Words2.{Words2}
 use Rattle.math.specs.declared.vector.V3.{V3}
 use Rattle.math.specs.declared.quaternion.Quat.{Quat}
-use Rattle.math.specs.Vector.{zero as zeroF, one as oneF, v3, vadd, vscale}
+use Rattle.math.specs.Vector.{zeroF, oneF, v3, vadd, vscale}
 use Rattle.math.specs.Quaternion.{identity, rotated, axisTurn}
 use Rattle.math.specs.Order.{maxOf}
 use Rattle.block.specs.declared.header.Header.{Header}

@@ -10,7 +10,7 @@ use Rattle.math.specs.declared.vector.V3.{V3}
 use Rattle.math.specs.declared.vector.Unit.{Unit}
 use Rattle.math.specs.declared.vector.Unit.the-variants.{Of, Nothing}
 use Rattle.math.specs.declared.quaternion.Quat.{Quat}
-use Rattle.math.specs.Vector.{zero as zeroF, one as oneF, v3, xAxis, yAxis, vsub, vscale, vdot, vcross, unitOf}
+use Rattle.math.specs.Vector.{zeroF, oneF, v3, xAxis, yAxis, vsub, vscale, vdot, vcross, unitOf}
 use Rattle.math.specs.Quaternion.{rotated, between}
 use Rattle.mesh.specs.Normals.{orElse}
 

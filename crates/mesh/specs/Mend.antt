@@ -9,7 +9,7 @@ use Rattle.bits.specs.declared.Words3.{Words3}
 use Rattle.math.specs.declared.vector.V3.{V3}
 use Rattle.math.specs.declared.vector.Unit.{Unit}
 use Rattle.math.specs.declared.vector.Unit.the-variants.{Of, Nothing}
-use Rattle.math.specs.Vector.{one, yAxis, vsub, vcross, vlen, usable, unitOf}
+use Rattle.math.specs.Vector.{oneF, yAxis, vsub, vcross, vlen, usable, unitOf}
 use Rattle.math.specs.Order.{magnitude}
 use Rattle.polygon.specs.Points.{spot}
 use Rattle.mesh.specs.Words.{floats, bits}
@@ -34,7 +34,7 @@ orWords Nothing other = other
 unfoldable pub renorm : Words3 → Words3
 renorm n =
     let scaled = orWords (unitOf (floats n)) n in
-    cond (lt visible (magnitude (sub binary32 (vlen (floats n)) one))) scaled n
+    cond (lt visible (magnitude (sub binary32 (vlen (floats n)) oneF))) scaled n
 
 -- FORMAT 10.3: where vertex v lies
 unfoldable pub vertexSpot : Frame → List Key → ℕ → V3

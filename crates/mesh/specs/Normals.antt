@@ -8,7 +8,7 @@ use Rattle.bits.specs.declared.Words3.{Words3}
 use Rattle.math.specs.declared.vector.V3.{V3}
 use Rattle.math.specs.declared.vector.Unit.{Unit}
 use Rattle.math.specs.declared.vector.Unit.the-variants.{Of, Nothing}
-use Rattle.math.specs.Vector.{v3, zero, yAxis, vadd, vdot, unitOf}
+use Rattle.math.specs.Vector.{v3, zeroF, yAxis, vadd, vdot, unitOf}
 use Rattle.polygon.specs.Points.{spots}
 use Rattle.polygon.specs.Facing.{newell}
 use Rattle.polygon.specs.Plane.{handed}
@@ -74,7 +74,7 @@ nearSum b own n (Of u) hs = sumNear b own u n hs
 -- FORMAT 10.2, generate_normals: the sum at a corner of the face numbered `own`, whose facing normal is n; ISO/IEC 14772-1, 4.6.3.5
 unfoldable pub creaseSum : CreaseRule → ℕ → V3 → List Hit → V3
 creaseSum Own own n hs = n
-creaseSum Every own n hs = sumAll (v3 zero zero zero) hs
+creaseSum Every own n hs = sumAll (v3 zeroF zeroF zeroF) hs
 creaseSum (Bound b) own n hs = nearSum b own n (unitOf n) hs
 
 -- FORMAT 9.3, unwrap_or

@@ -8,7 +8,7 @@ use lib.Dec.{eqb}
 use lib.Ieee.{Float, le}
 use lib.ListN.{length, getD, take, drop}
 use Rattle.bits.specs.declared.Words4.{Words4}
-use Rattle.math.specs.Vector.{zero}
+use Rattle.math.specs.Vector.{zeroF}
 use Rattle.block.specs.Header.{headerOf}
 use Rattle.block.specs.Lists.{placeOf}
 use Rattle.block.specs.Settings.{floatAt, finiteOr}
@@ -50,12 +50,12 @@ names (e ∷ es) p = eqb e p || names es p
 
 -- FORMAT 2.3: the crease angle, as read
 abbrev pub creaseAngle : List ℕ → Float
-creaseAngle bs = finiteOr (floatAt bs 0) zero
+creaseAngle bs = finiteOr (floatAt bs 0) zeroF
 
 -- FORMAT 13: the normals of run j are out of reach of run r: no normal list, and a crease angle of 0 or less; or no normal list, and run j uses no point that run r
 -- names in either block; or each corner of run j is supplied a normal whose length in f32 is finite and above 1e-20
 pub data NormalsApart (missing : Words4) (b c : List ℕ) (r j : ℕ) : Type 0 where
-  own : headerOf b .normals ≡ false → le (creaseAngle b) zero ≡ true → NormalsApart missing b c r j
+  own : headerOf b .normals ≡ false → le (creaseAngle b) zeroF ≡ true → NormalsApart missing b c r j
   apart : headerOf b .normals ≡ false
       → ((p : ℕ) → names (runIn b j .items) p ≡ true → (names (runIn b r .items) p ≡ false) × (names (runIn c r .items) p ≡ false))
       → NormalsApart missing b c r j

@@ -8,7 +8,7 @@ use lib.Ieee.{Float, lt}
 use Rattle.math.specs.declared.vector.V3.{V3}
 use Rattle.math.specs.declared.vector.Unit.{Unit}
 use Rattle.math.specs.declared.vector.Unit.the-variants.{Of, Nothing}
-use Rattle.math.specs.Vector.{v3, zero, yAxis, vadd, vdot, unitOf}
+use Rattle.math.specs.Vector.{v3, zeroF, yAxis, vadd, vdot, unitOf}
 use Rattle.block.specs.declared.crease.CreaseRule.{CreaseRule}
 use Rattle.block.specs.declared.crease.CreaseRule.the-variants.{Own, Every, Bound}
 use Rattle.mesh.specs.Normals.{Hit, isNear, sumAll, sumNear, nearSum, creaseSum, orElse}
@@ -40,7 +40,7 @@ module _ (own : ℕ) (n : V3) (hs : List Hit) (rule : CreaseRule) (r : V3) where
   unfolding creaseSum
   sum-own e q = rw e q
 
-  pub sum-every : rule ≡ Every → r ≡ sumAll (v3 zero zero zero) hs → r ≡ creaseSum rule own n hs
+  pub sum-every : rule ≡ Every → r ≡ sumAll (v3 zeroF zeroF zeroF) hs → r ≡ creaseSum rule own n hs
   unfolding creaseSum
   sum-every e q = rw e q
 

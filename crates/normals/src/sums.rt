@@ -2,7 +2,7 @@
 ghost use mathlib.Core.Path.{_≡_};
 ghost use Prim.Native.Nat.{_+_, _≤_, _<_};
 ghost use lib.ListN.{length};
-ghost use Rattle.math.specs.Vector.{v3, zero};
+ghost use Rattle.math.specs.Vector.{v3, zeroF};
 ghost use Rattle.mesh.specs.Normals.{sumAll, nearBy, sumNear, creaseSum, orElse};
 ghost use Rattle.normals.specs.Rows.{at3, unitAt, normalIn, hitsAt, Ready};
 ghost use Rattle.normals.specs.Written.{normalAt};
@@ -20,7 +20,7 @@ use tables::owner_of;
 // Every face at p, once for each use, from (0, 0, 0).
 fn sum_all(work: &[u32], t: Plan, p: PointNumber) -> V3
     requires { ⌜ Ready (now work) t × (p .0 < t .spots) ⌝ }
-    ensures { λ r. ⌜ r ≡ sumAll (v3 zero zero zero) (hitsAt (now (work .entry)) t (p .0)) ⌝ }
+    ensures { λ r. ⌜ r ≡ sumAll (v3 zeroF zeroF zeroF) (hitsAt (now (work .entry)) t (p .0)) ⌝ }
 {
     let mut s = V3 {
         x: 0.0,

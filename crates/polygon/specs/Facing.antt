@@ -2,7 +2,7 @@
 use mathlib.Core.List.{List, [], _∷_}
 use lib.Ieee.{binary32, add, sub, mul}
 use Rattle.math.specs.declared.vector.V3.{V3}
-use Rattle.math.specs.Vector.{v3, zero}
+use Rattle.math.specs.Vector.{v3, zeroF}
 
 -- FORMAT 10.1, newell: n and the products of the edge from a to b
 abbrev pub edgeSum : V3 → V3 → V3 → V3
@@ -19,7 +19,7 @@ newellFrom first n (a ∷ b ∷ r) = newellFrom first (edgeSum n a b) (b ∷ r)
 
 -- +0 in each entry
 abbrev pub nought : V3
-nought = v3 zero zero zero
+nought = v3 zeroF zeroF zeroF
 
 -- FORMAT 10.1, newell
 unfoldable pub newell : List V3 → V3

@@ -4,7 +4,7 @@ use mathlib.Core.List.{List, [], _∷_, map}
 use Prim.Native.Nat.{ℕ, zero, suc, _+_, _%_}
 use lib.Ieee.{Float, binary32, lt, le, neg, ofBits}
 use Rattle.math.specs.declared.vector.V3.{V3}
-use Rattle.math.specs.Vector.{vscale, one}
+use Rattle.math.specs.Vector.{vscale, oneF}
 use Rattle.math.specs.Order.{magnitude}
 use Rattle.polygon.specs.Loops.{pick}
 use Rattle.polygon.specs.Ears.{Pt}
@@ -17,7 +17,7 @@ entry v (suc (suc k)) = v .z
 
 -- FORMAT 10.1 and 12.2, PolyMesh::build (face_n) and triangulate (rh): turned over where ccw is off: Newell's sum to the facing normal, and back
 unfoldable pub handed : Bool → V3 → V3
-handed ccw n = pick ccw n (vscale n (neg one))
+handed ccw n = pick ccw n (vscale n (neg oneF))
 
 -- FORMAT 12.2: x is at least y and z; not where one of them is NaN
 abbrev pub most : Float → Float → Float → Bool

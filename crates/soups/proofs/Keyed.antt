@@ -12,7 +12,7 @@ use lib.Ieee.{Float, binary32, toBits}
 use Rattle.bits.specs.declared.Words2.{Words2}
 use Rattle.bits.specs.declared.Words3.{Words3}
 use Rattle.bits.specs.declared.Words4.{Words4}
-use Rattle.math.specs.Vector.{zero as zeroF}
+use Rattle.math.specs.Vector.{zeroF}
 use Rattle.block.specs.declared.crease.CreaseRule.{CreaseRule}
 use Rattle.block.specs.Stream.{get3At, get4At}
 use Rattle.polygon.specs.Loops.{tab}
