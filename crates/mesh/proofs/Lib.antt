@@ -22,3 +22,4 @@ pub mod LinePass
 pub mod Shapes
 pub mod ShapeRows
 pub mod Within
+pub mod Budget

@@ -3,6 +3,7 @@ pub mod Lists
 pub mod Words
 pub mod Soup
 pub mod Normals
+pub mod Budget
 pub mod Vertices
 pub mod Mend
 pub mod Mesh
