@@ -13,7 +13,7 @@ use Rattle.polygon.proofs.Tabs.{tab-at}
 use Rattle.mesh.specs.Lists.{joinN, total, place, firsts}
 use Rattle.mesh.specs.Soup.{noCorner, Face, Frame}
 use Rattle.mesh.specs.Vertices.{Key, noKey, sameKey, keyOf, keysOf, vertices, indicesOf}
-use Rattle.mesh.specs.Mesh.{meshOf, mesh, Slices, slicesOf}
+use Rattle.mesh.specs.Mesh.{meshOf, mesh, Slices, slicesOf, over}
 use Rattle.mesh.proofs.Lists.{piece}
 use Rattle.mesh.proofs.Corners.{length-keys, getD-keys}
 use Rattle.mesh.proofs.Facts.{indices-within, slices-sized}
@@ -33,7 +33,6 @@ use Rattle.faces.proofs.Joined.{made-joined}
 use Rattle.mending.specs.Mend.{mendedWords}
 use Rattle.mending.proofs.MendedWords.{mended-slice}
 use Rattle.build.specs.declared.shared.Shared.{Shared}
-use Rattle.lent.specs.Lent.{over}
 use Rattle.build.specs.Built.{Told, Wide, part, Ready, Meshed, Built}
 use Rattle.build.proofs.Asked.{storeOf, tables-kept}
 

@@ -4,11 +4,11 @@ use mathlib.Core.Bool.{Bool, true, false, cond}
 use mathlib.Core.List.{List, []}
 use Prim.Native.Nat.{ℕ, suc}
 use Rattle.block.specs.declared.header.Header.{Header}
-use Rattle.mesh.specs.Mesh.{Mesh, Slices, slicesOf}
+use Rattle.mesh.specs.Mesh.{Mesh, Slices, slicesOf, over}
 use Rattle.mesh.specs.Result.{makesNormals, makesColours, makesTextures, madeOf}
 use Rattle.vertices.specs.declared.places.Widths.{Widths}
 use Rattle.lent.specs.declared.Counts.{Counts}
-use Rattle.lent.specs.Lent.{over, Shaped}
+use Rattle.lent.specs.Lent.{Shaped}
 use Rattle.build.specs.Built.{part, Meshed}
 
 part-made : (b : Bool) (n : ℕ) (l : List ℕ) → part (cond b (suc n) 0) l ≡ cond b l []

@@ -9,14 +9,13 @@ use Rattle.polygon.specs.Loops.{tab}
 use Rattle.mesh.specs.Lists.{joinN}
 use Rattle.mesh.specs.Soup.{Face, Frame}
 use Rattle.mesh.specs.Vertices.{keysOf}
-use Rattle.mesh.specs.Mesh.{Mesh, mesh, Slices, slicesOf}
+use Rattle.mesh.specs.Mesh.{Mesh, mesh, Slices, slicesOf, over}
 use Rattle.tables.specs.declared.layout.Plan.{Plan}
 use Rattle.tables.specs.Soups.{startIn, Holds}
 use Rattle.vertices.specs.declared.places.Widths.{Widths}
 use Rattle.corners.specs.Laid.{tablesOf, Laid}
 use Rattle.corners.specs.Corner.{Lent, keyIn}
 use Rattle.lent.specs.declared.Counts.{Counts}
-use Rattle.lent.specs.Lent.{over}
 use Rattle.build.specs.declared.shared.Shared.{Shared}
 
 -- FORMAT 8, 11: the tables hold the soup of F and fs, and give each of its corners its key

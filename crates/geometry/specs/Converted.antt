@@ -4,9 +4,8 @@ use mathlib.Core.Path.{_≡_}
 use mathlib.Core.List.{List}
 use lib.ListN.{length, replicate}
 use lib.Ieee.{Float, binary32, ofBits}
-use Rattle.mesh.specs.Mesh.{Slices}
+use Rattle.mesh.specs.Mesh.{Slices, over}
 use Rattle.mesh.specs.Result.{made}
-use Rattle.lent.specs.Lent.{over}
 use Rattle.geometry.specs.declared.answer.Answer.{Answer}
 use Rattle.geometry.specs.declared.answer.Lengths.{Lengths}
 use Rattle.geometry.specs.Answer.{white, refusal, resultFor, saying, said}

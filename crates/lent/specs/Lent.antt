@@ -1,16 +1,16 @@
 -- FORMAT 3, 4, 5: a block that rows 1 to 7 of the table let pass, slices as long as it asks, and what they hold in the end.
 use mathlib.Core.Path.{_≡_}
 use mathlib.Core.Bool.{false}
-use mathlib.Core.List.{List, _++_}
+use mathlib.Core.List.{List}
 use Prim.Native.Nat.{ℕ, _+_, _*_, _≤_}
-use lib.ListN.{length, drop, replicate}
+use lib.ListN.{length, replicate}
 use lib.Ieee.{Float, binary32, ofBits}
 use Rattle.block.specs.declared.header.Header.{Header}
 use Rattle.block.specs.declared.settings.Settings.{Settings}
 use Rattle.block.specs.Header.{headerOf}
 use Rattle.block.specs.Settings.{settingsOf}
 use Rattle.block.specs.Refusal.{Taken}
-use Rattle.mesh.specs.Mesh.{Mesh, Slices, slicesOf}
+use Rattle.mesh.specs.Mesh.{Mesh, Slices, slicesOf, over}
 use Rattle.mesh.specs.Sizes.{Sizes, sizesOf, isNoShape, isOverCorners}
 use Rattle.mesh.specs.Result.{madeOf}
 use Rattle.tables.specs.Layout.{most}
@@ -42,10 +42,6 @@ pub record Asked (k : ℕ) (bs : List ℕ) (h : Header) (s : Settings) (o : Slic
   pub accepted : Accepted limit bs h s
   pub kind : h .kind ≡ k
   pub enough : Enough (sizesOf bs h) o w f
-
--- FORMAT 5: what is made stands in front, and then what the slice held
-abbrev pub over : List ℕ → List ℕ → List ℕ
-over made held = made ++ drop (length made) held
 
 -- FORMAT 5: the slices o became m, which hold what is made of the mesh M of a block with header h
 pub record Shaped (h : Header) (M : Mesh) (o m : Slices) (r : Counts) : Type 0 where

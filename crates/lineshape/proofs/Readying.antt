@@ -13,7 +13,7 @@ use Rattle.block.specs.declared.header.Header.{Header}
 use Rattle.block.specs.Header.{headerOf}
 use Rattle.block.specs.Settings.{settingsOf}
 use Rattle.block.specs.Lists.{listBytes}
-use Rattle.mesh.specs.Mesh.{Slices, slicesOf}
+use Rattle.mesh.specs.Mesh.{Slices, slicesOf, over}
 use Rattle.mesh.specs.FaceSet.{restOf, coordIn, pointCount}
 use Rattle.mesh.specs.Lines.{linesOf, lineSetMesh}
 use Rattle.mesh.specs.Sizes.{listedPoints}
@@ -27,7 +27,7 @@ use Rattle.corners.specs.Corner.{Lent}
 use Rattle.soups.specs.Attributes.{attributesOf}
 use Rattle.lent.specs.declared.Counts.{Counts}
 use Rattle.lent.proofs.Made.{wide-by, wide-most, wide-few}
-use Rattle.lent.specs.Lent.{Asked, over, Shaped, Cleared}
+use Rattle.lent.specs.Lent.{Asked, Shaped, Cleared}
 use Rattle.lines.specs.Made.{Told, Ready, Lined, Done}
 use Rattle.lines.proofs.Keyed.{Coloured, told-listed}
 use Rattle.lineshape.specs.Shape.{lineTables, lineWidths, Tabled}

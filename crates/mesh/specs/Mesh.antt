@@ -1,7 +1,7 @@
 -- FORMAT 5, 10, 11, 12: the mesh of a soup; what it shows at a corner; and the part of its indices that a face made.
-use mathlib.Core.List.{List, [], map}
+use mathlib.Core.List.{List, [], _++_, map}
 use Prim.Native.Nat.{ℕ, _*_}
-use lib.ListN.{getD, take, drop}
+use lib.ListN.{length, getD, take, drop}
 use Rattle.bits.specs.declared.Words2.{Words2}
 use Rattle.bits.specs.declared.Words3.{Words3}
 use Rattle.bits.specs.declared.Words4.{Words4}
@@ -44,6 +44,10 @@ pub record Slices : Type 0 where
   pub colours : List ℕ
   pub textures : List ℕ
   pub indices : List ℕ
+
+-- FORMAT 5: what is made stands in front, and then what the slice held
+abbrev pub over : List ℕ → List ℕ → List ℕ
+over made held = made ++ drop (length made) held
 
 -- FORMAT 5: three words a vertex for positions and normals, four for colours, two for texture
 unfoldable pub slicesOf : Mesh → Slices
