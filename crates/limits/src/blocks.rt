@@ -79,7 +79,7 @@ fn put_corners(block: &mut [u8], at: usize, n: u16)
 }
 
 // So many entries 0 1 third -1 .. over 4 points.
-pub fn triangles(entries: u16, third: u32) -> Seen
+pub(crate) fn triangles(entries: u16, third: u32) -> Seen
     requires { ⌜ entries ≤ 8193 ⌝ }
 {
     let mut block = [0u8; 65620];
@@ -90,7 +90,7 @@ pub fn triangles(entries: u16, third: u32) -> Seen
 }
 
 // One face of all its points.
-pub fn face(corners: u16) -> Seen
+pub(crate) fn face(corners: u16) -> Seen
     requires { ⌜ corners ≤ 4097 ⌝ }
 {
     let mut block = [0u8; 65620];

@@ -4,7 +4,7 @@ use crate::reading::Case;
 use crate::reading::Stored;
 use crate::reading::read_case;
 
-pub enum Verdict {
+pub(crate) enum Verdict {
     Same,
     Differs,
     End,
@@ -55,7 +55,7 @@ fn judge(
 }
 
 // The next case of the file.
-pub fn judge_next(
+pub(crate) fn judge_next(
     fd: i32,
     block: &mut [u8],
     expected: &mut [u8],

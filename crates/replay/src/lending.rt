@@ -100,7 +100,7 @@ fn put_answer(
 }
 
 // The text of a block's answer to a call with slices for so many corners.
-pub fn put_converted(
+pub(crate) fn put_converted(
     corners: u32,
     block: &[u8],
     out: &mut [u8],

@@ -65,7 +65,7 @@ fn read_corners(fd: i32) -> Part {
     }
 }
 
-pub fn read_case(fd: i32, block: &mut [u8], text: &mut [u8]) -> Case {
+pub(crate) fn read_case(fd: i32, block: &mut [u8], text: &mut [u8]) -> Case {
     let corners = match read_corners(fd) {
         Part::Got(n) => n,
         Part::End => return Case::End,
