@@ -10,17 +10,18 @@ ghost use Rattle.tables.specs.Soups.{startIn, Sound};
 ghost use Rattle.faces.specs.Naming.{threes, numbered};
 ghost use Rattle.faces.specs.Indices.{outlineIn, facingIn, trianglesIn, oneFace, allFaces, Ready, Put, Made};
 use crate::naming::rename;
+use block::CornerNumber;
 use tables::Plan;
 use tables::stretch_of;
 
 // The face of the n corners from a on: its points in the plane, to the front of `floats`.
-fn put_plane(work: &[u32], t: Plan, a: usize, n: usize, ccw: bool, floats: &mut [f32])
-    requires { ⌜ Sound (now work) t × (a + n ≤ t .count) ⌝ }
-    ensures { λ _. ⌜ now (floats .exit) ≡ sets (now (floats .entry)) 0 (flat2 (projection ccw (facingIn (now (work .entry)) t ccw a n) (outlineIn (now (work .entry)) t a n))) ⌝ }
+fn put_plane(work: &[u32], t: Plan, a: CornerNumber, n: usize, ccw: bool, floats: &mut [f32])
+    requires { ⌜ Sound (now work) t × (a .0 + n ≤ t .count) ⌝ }
+    ensures { λ _. ⌜ now (floats .exit) ≡ sets (now (floats .entry)) 0 (flat2 (projection ccw (facingIn (now (work .entry)) t ccw (a .0) n) (outlineIn (now (work .entry)) t (a .0) n))) ⌝ }
 {
     let lo = t.points;
     let hi = lo + 3 * t.spots;
-    let from = t.corners + a;
+    let from = t.corners + a.0;
     let to = from + n;
     let sum = polygon::newell(&work[lo..hi], &work[from..to]);
     let normal = polygon::handed_of(ccw, sum);
@@ -31,7 +32,7 @@ fn put_plane(work: &[u32], t: Plan, a: usize, n: usize, ccw: bool, floats: &mut 
 fn put_corners(
     work: &mut [u32],
     t: Plan,
-    a: usize,
+    a: CornerNumber,
     n: usize,
     ccw: bool,
     convex: bool,
@@ -39,9 +40,9 @@ fn put_corners(
     indices: &mut [u32],
     at: usize,
 )
-    requires { ⌜ Ready (now work) t (length (now floats)) × (a + n ≤ t .count) × (at + (n - 2) * 3 ≤ length (now indices)) ⌝ }
+    requires { ⌜ Ready (now work) t (length (now floats)) × (a .0 + n ≤ t .count) × (at + (n - 2) * 3 ≤ length (now indices)) ⌝ }
     ensures { λ _. ⌜ Kept (t .places) (now (work .entry)) (now (work .exit))
-        × (now (indices .exit) ≡ sets (now (indices .entry)) at (flat (trianglesIn (now (work .entry)) t ccw convex a n))) ⌝ }
+        × (now (indices .exit) ≡ sets (now (indices .entry)) at (flat (trianglesIn (now (work .entry)) t ccw convex (a .0) n))) ⌝ }
 {
     put_plane(work, t, a, n, ccw, floats);
     let lo = t.places;
@@ -53,16 +54,16 @@ fn put_corners(
 fn name_corners(
     work: &[u32],
     t: Plan,
-    a: usize,
+    a: CornerNumber,
     n: usize,
     ccw: bool,
     indices: &mut [u32],
     at: usize,
 )
-    requires { ⌜ (2 ≤ n) × (t .named + a + n ≤ length (now work)) × (at + (n - 2) * 3 ≤ length (now indices)) ⌝ }
-    ensures { λ _. ⌜ now (indices .exit) ≡ sets (now (indices .entry)) at (numbered ccw (seg (now (work .entry)) (t .named + a) n) (threes (n - 2) (drop at (now (indices .entry))))) ⌝ }
+    requires { ⌜ (2 ≤ n) × (t .named + a .0 + n ≤ length (now work)) × (at + (n - 2) * 3 ≤ length (now indices)) ⌝ }
+    ensures { λ _. ⌜ now (indices .exit) ≡ sets (now (indices .entry)) at (numbered ccw (seg (now (work .entry)) (t .named + a .0) n) (threes (n - 2) (drop at (now (indices .entry))))) ⌝ }
 {
-    let lo = t.named + a;
+    let lo = t.named + a.0;
     let hi = lo + n;
     rename(indices, at, n - 2, &work[lo..hi], ccw);
 }
@@ -82,8 +83,8 @@ fn one_face(
     ensures { λ r. ⌜ Put t (oneFace (now (work .entry)) t ccw convex face) at r (now (indices .entry)) (now (indices .exit)) (now (work .entry)) (now (work .exit)) ⌝ }
 {
     let r = stretch_of(work, t, face);
-    let a = r.from.0;
-    let n = r.to.0 - a;
+    let a = r.from;
+    let n = r.to.0 - a.0;
     if n < 3 {
         return at;
     }

@@ -1,21 +1,45 @@
 // FORMAT 12.1, PolyMesh::build (local): triangles of a face's own corners become triangles of vertices, where they stand.
 ghost use mathlib.Core.Path.{_≡_};
 ghost use mathlib.Core.List.{[], _∷_};
-ghost use Prim.Native.Nat.{_+_, _*_, _≤_};
-ghost use lib.ListN.{length, getD, drop};
+ghost use Prim.Native.Nat.{_+_, _*_, _^_, _≤_, _<_};
+ghost use lib.ListN.{length, getD, set, drop};
 ghost use lib.Seq.{sets};
 ghost use Rattle.polygon.specs.Ears.{triple};
 ghost use Rattle.faces.specs.Naming.{threes, numbered};
+use block::CornerNumber;
+use block::VertexNumber;
 use polygon::get;
 use polygon::put;
+use tables::wide;
 
-fn put_three(s: &mut [u32], k: usize, a: u32, b: u32, c: u32)
-    requires { ⌜ k + 3 ≤ length (now s) ⌝ }
-    ensures { λ _. ⌜ now (s .exit) ≡ sets (now (s .entry)) k (a ∷ b ∷ c ∷ []) ⌝ }
+// The corner that place k names before it is renamed, counted from the face's first corner.
+fn corner_at(s: &[u32], k: usize) -> CornerNumber
+    ensures { λ r. ⌜ r .0 ≡ getD (now (s .entry)) k 0 ⌝ }
 {
-    put(s, k, a);
-    put(s, k + 1, b);
-    put(s, k + 2, c);
+    CornerNumber(wide(get(s, k)))
+}
+
+// Its vertex. `named` starts at the face's first corner.
+fn vertex_of(named: &[u32], c: CornerNumber) -> VertexNumber
+    ensures { λ r. ⌜ (r .0 ≡ getD (now (named .entry)) (c .0) 0) × (r .0 < 2 ^ 32) ⌝ }
+{
+    VertexNumber(wide(get(named, c.0)))
+}
+
+fn put_vertex(s: &mut [u32], k: usize, v: VertexNumber)
+    requires { ⌜ v .0 < 2 ^ 32 ⌝ }
+    ensures { λ _. ⌜ now (s .exit) ≡ set (now (s .entry)) k (v .0) ⌝ }
+{
+    put(s, k, v.0 as u32);
+}
+
+fn put_three(s: &mut [u32], k: usize, a: VertexNumber, b: VertexNumber, c: VertexNumber)
+    requires { ⌜ (k + 3 ≤ length (now s)) × (a .0 < 2 ^ 32) × (b .0 < 2 ^ 32) × (c .0 < 2 ^ 32) ⌝ }
+    ensures { λ _. ⌜ now (s .exit) ≡ sets (now (s .entry)) k (a .0 ∷ b .0 ∷ c .0 ∷ []) ⌝ }
+{
+    put_vertex(s, k, a);
+    put_vertex(s, k + 1, b);
+    put_vertex(s, k + 2, c);
 }
 
 // One triangle; b and c are exchanged where ccw is off.
@@ -24,9 +48,9 @@ fn name_tri(s: &mut [u32], k: usize, named: &[u32], ccw: bool)
     ensures { λ _. ⌜ now (s .exit) ≡ sets (now (s .entry)) k (numbered ccw (now (named .entry))
         (triple (getD (now (s .entry)) k 0) (getD (now (s .entry)) (k + 1) 0) (getD (now (s .entry)) (k + 2) 0) ∷ [])) ⌝ }
 {
-    let a = get(named, get(s, k) as usize);
-    let b = get(named, get(s, k + 1) as usize);
-    let c = get(named, get(s, k + 2) as usize);
+    let a = vertex_of(named, corner_at(s, k));
+    let b = vertex_of(named, corner_at(s, k + 1));
+    let c = vertex_of(named, corner_at(s, k + 2));
     if ccw {
         put_three(s, k, a, b, c);
     } else {

@@ -9,28 +9,28 @@ stretch-of-requires : tie.Need-stretch-of-requires
 stretch-of-requires c κs = (c .before .before .before .before .pre .0 .sound, c .before .before .before .before .pre .1)
 
 sub-n : tie.Need-sub-n
-sub-n c = let e = c .before .stretch-of .ensures in omega (arith, e .order)
+sub-n c = let e = c .before .before .before .stretch-of .ensures in omega (arith, e .order)
 
 same-length : tie.Need-same-length
 same-length c = search needs
 
 returns : tie.Need-returns
-returns c = few-put (c .before .before .before .before .before .before .before .pre .0 .sound) (c .before .before .before .before .before .before .before .args .ccw) (c .before .before .before .before .before .before .before .args .convex) _ _ _ (c .before .before .before .before .before .before .before .pre .1) (c .before .before .stretch-of .ensures .from) (c .before .before .stretch-of .ensures .to) _ _ (c .if1 .taken)
+returns c = few-put (c .before .before .before .before .before .before .before .before .before .pre .0 .sound) (c .before .before .before .before .before .before .before .before .before .args .ccw) (c .before .before .before .before .before .before .before .before .before .args .convex) _ _ _ (c .before .before .before .before .before .before .before .before .before .pre .1) (c .before .before .before .before .stretch-of .ensures .from) (c .before .before .before .before .stretch-of .ensures .to) _ _ (c .if1 .taken)
 
 sub-next : tie.Need-sub-next
 sub-next c = omega (arith, c .if1 .left)
 
 mul-next : tie.Need-mul-next
-mul-next c = let R = c .before .before .before .before .before .before .before .pre .0 .sound .room in let e = c .before .before .stretch-of .ensures in omega (arith, e .within)
+mul-next c = let R = c .before .before .before .before .before .before .before .before .before .pre .0 .sound .room in let e = c .before .before .before .before .stretch-of .ensures in omega (arith, e .within)
 
 add-next : tie.Need-add-next
-add-next c = let e = c .before .before .stretch-of .ensures in omega (arith, c .before .before .before .before .before .before .before .pre .2, e .from, e .to)
+add-next c = let e = c .before .before .before .before .stretch-of .ensures in omega (arith, c .before .before .before .before .before .before .before .before .before .pre .2, e .from, e .to)
 
 put-corners-requires : tie.Need-put-corners-requires
-put-corners-requires c κs = let e = c .before .before .before .before .before .stretch-of .ensures in (c .before .before .before .before .before .before .before .before .before .before .pre .0, omega (arith, e .order, e .within), omega (arith, c .before .before .before .before .before .before .before .before .before .before .pre .2, e .from, e .to))
+put-corners-requires c κs = let e = c .before .before .before .before .before .before .before .stretch-of .ensures in (c .before .before .before .before .before .before .before .before .before .before .before .before .pre .0, omega (arith, e .order, e .within), omega (arith, c .before .before .before .before .before .before .before .before .before .before .before .before .pre .2, e .from, e .to))
 
 name-corners-requires : tie.Need-name-corners-requires
-name-corners-requires c κs = let R = c .before .before .before .before .before .before .before .before .before .before .before .before .before .before .before .before .before .before .before .pre .0 .sound .room in let e = c .before .before .before .before .before .before .before .before .before .before .before .before .before .before .stretch-of .ensures in (omega (arith, c .before .before .before .before .before .before .before .before .before .before .before .before .if1 .left), omega (arith, e .order, e .within, c .before .before .before .before .before .before .before .before .put-corners .ensures .0 .len), omega (arith, c .before .before .before .before .before .before .before .before .before .before .before .before .before .before .before .before .before .before .before .pre .2, e .from, e .to, c .before .before .before .before .before .before .before .before .put-corners .kept .1 .1 .1 .1 .1 .1 .1 .0))
+name-corners-requires c κs = let R = c .before .before .before .before .before .before .before .before .before .before .before .before .before .before .before .before .before .before .before .before .before .pre .0 .sound .room in let e = c .before .before .before .before .before .before .before .before .before .before .before .before .before .before .before .before .stretch-of .ensures in (omega (arith, c .before .before .before .before .before .before .before .before .before .before .before .before .if1 .left), omega (arith, e .order, e .within, c .before .before .before .before .before .before .before .before .put-corners .ensures .0 .len), omega (arith, c .before .before .before .before .before .before .before .before .before .before .before .before .before .before .before .before .before .before .before .before .before .pre .2, e .from, e .to, c .before .before .before .before .before .before .before .before .put-corners .kept .1 .1 .1 .1 .1 .1 .1 .0))
 
 same-length-2 : tie.Need-same-length-2
 same-length-2 c = search needs
@@ -42,7 +42,7 @@ same-length-4 : tie.Need-same-length-4
 same-length-4 c = search needs
 
 returns-2 : tie.Need-returns-2
-returns-2 c = let e = c .before .before .before .before .before .before .before .before .before .before .before .before .before .before .before .before .before .stretch-of .ensures in more-put (c .before .before .before .before .before .before .before .before .before .before .before .before .before .before .before .before .before .before .before .before .before .before .pre .0 .sound) (c .before .before .before .before .before .before .before .before .before .before .before .before .before .before .before .before .before .before .before .before .before .before .args .ccw) (c .before .before .before .before .before .before .before .before .before .before .before .before .before .before .before .before .before .before .before .before .before .before .args .convex) _ _ _ (c .before .before .before .before .before .before .before .before .before .before .before .before .before .before .before .before .before .before .before .before .before .before .pre .1) (e .from) (e .to) _ _ _ _ (c .before .before .before .before .before .before .before .before .before .before .before .before .before .before .before .before .before .before .before .before .before .before .args .at) _ (omega (arith, c .before .before .before .before .before .before .before .before .before .before .before .before .before .before .before .before .before .before .before .before .before .before .pre .2, e .from, e .to)) (c .before .before .before .before .before .before .before .before .before .before .before .put-corners .ensures .0) (c .before .before .before .before .before .before .before .before .before .before .before .put-corners .ensures .1) (c .before .before .name-corners .ensures) refl
+returns-2 c = let e = c .before .before .before .before .before .before .before .before .before .before .before .before .before .before .before .before .before .before .before .stretch-of .ensures in more-put (c .before .before .before .before .before .before .before .before .before .before .before .before .before .before .before .before .before .before .before .before .before .before .before .before .pre .0 .sound) (c .before .before .before .before .before .before .before .before .before .before .before .before .before .before .before .before .before .before .before .before .before .before .before .before .args .ccw) (c .before .before .before .before .before .before .before .before .before .before .before .before .before .before .before .before .before .before .before .before .before .before .before .before .args .convex) _ _ _ (c .before .before .before .before .before .before .before .before .before .before .before .before .before .before .before .before .before .before .before .before .before .before .before .before .pre .1) (e .from) (e .to) _ _ _ _ (c .before .before .before .before .before .before .before .before .before .before .before .before .before .before .before .before .before .before .before .before .before .before .before .before .args .at) _ (omega (arith, c .before .before .before .before .before .before .before .before .before .before .before .before .before .before .before .before .before .before .before .before .before .before .before .before .pre .2, e .from, e .to)) (c .before .before .before .before .before .before .before .before .before .before .before .put-corners .ensures .0) (c .before .before .before .before .before .before .before .before .before .before .before .put-corners .ensures .1) (c .before .before .name-corners .ensures) refl
 
 pub one-face-spec : {M : Type 1} → statement M
 one-face-spec =

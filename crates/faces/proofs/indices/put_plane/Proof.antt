@@ -73,13 +73,13 @@ part-project-end-2 : tie.Need-part-project-end-2
 part-project-end-2 c = search needs
 
 project-requires : tie.Need-project-requires
-project-requires c κs = let R = c .before .before .before .before .before .before .before .before .before .before .before .pre .0 .room in let e = part-length (c .before .before .before .before .before .before .before .before .before .before .before .args .work .now) (c .before .before .before .before .before .before .before .before .before .before .before .args .t .corners + c .before .before .before .before .before .before .before .before .before .before .before .args .a) (c .before .before .before .before .before .before .before .before .before .before .before .args .t .corners + c .before .before .before .before .before .before .before .before .before .before .before .args .a + c .before .before .before .before .before .before .before .before .before .before .before .args .n) (c .before .before .before .before .before .before .before .before .before .before .before .args .n) refl (omega (arith, c .before .before .before .before .before .before .before .before .before .before .before .pre .1)) in omega (arith, e, c .before .before .before .before .before .before .before .before .before .before .before .pre .1)
+project-requires c κs = let R = c .before .before .before .before .before .before .before .before .before .before .before .before .pre .0 .room in let e = part-length (c .before .before .before .before .before .before .before .before .before .before .before .before .args .work .now) (c .before .before .before .before .before .before .before .before .before .before .before .before .args .t .corners + c .before .before .before .before .before .before .before .before .before .before .before .before .args .a .0) (c .before .before .before .before .before .before .before .before .before .before .before .before .args .t .corners + c .before .before .before .before .before .before .before .before .before .before .before .before .args .a .0 + c .before .before .before .before .before .before .before .before .before .before .before .before .args .n) (c .before .before .before .before .before .before .before .before .before .before .before .before .args .n) refl (omega (arith, c .before .before .before .before .before .before .before .before .before .before .before .before .pre .1)) in omega (arith, e, c .before .before .before .before .before .before .before .before .before .before .before .before .pre .1)
 
 same-length : tie.Need-same-length
 same-length c = search needs
 
 returns : tie.Need-returns
-returns c = plane-made (c .before .before .before .before .before .before .before .before .before .before .before .before .before .before .args .work .now) (c .before .before .before .before .before .before .before .before .before .before .before .before .before .before .args .t) (c .before .before .before .before .before .before .before .before .before .before .before .before .before .before .args .ccw) (c .before .before .before .before .before .before .before .before .before .before .before .before .before .before .args .a) (c .before .before .before .before .before .before .before .before .before .before .before .before .before .before .args .n) _ _ _ _ refl refl refl refl _ _ refl refl _ _ (c .before .before .before .before .before .before .before .newell .ensures) (c .before .before .before .before .before .before .handed-of .ensures) _ _ (c .before .before .project .ensures)
+returns c = plane-made (c .before .before .before .before .before .before .before .before .before .before .before .before .before .before .before .args .work .now) (c .before .before .before .before .before .before .before .before .before .before .before .before .before .before .before .args .t) (c .before .before .before .before .before .before .before .before .before .before .before .before .before .before .before .args .ccw) (c .before .before .before .before .before .before .before .before .before .before .before .before .before .before .before .args .a .0) (c .before .before .before .before .before .before .before .before .before .before .before .before .before .before .before .args .n) _ _ _ _ refl refl refl refl _ _ refl refl _ _ (c .before .before .before .before .before .before .before .newell .ensures) (c .before .before .before .before .before .before .handed-of .ensures) _ _ (c .before .before .project .ensures)
 
 pub put-plane-spec : {M : Type 1} → statement M
 put-plane-spec =

@@ -3,20 +3,20 @@ use borrow.Author.Needs.{needs}
 use Rattle.faces.proofs.naming.put_three.Statement.{statement}
 use Rattle.faces.proofs.naming.put_three.Tie as tie
 
-put-requires : tie.Need-put-requires
-put-requires c κs = search needs
+put-vertex-requires : tie.Need-put-vertex-requires
+put-vertex-requires c κs = search needs
 
-add-put : tie.Need-add-put
-add-put c = search needs
+add-put-vertex : tie.Need-add-put-vertex
+add-put-vertex c = search needs
 
-put-requires-2 : tie.Need-put-requires-2
-put-requires-2 c κs = search needs
+put-vertex-requires-2 : tie.Need-put-vertex-requires-2
+put-vertex-requires-2 c κs = search needs
 
-add-put-2 : tie.Need-add-put-2
-add-put-2 c = search needs
+add-put-vertex-2 : tie.Need-add-put-vertex-2
+add-put-vertex-2 c = search needs
 
-put-requires-3 : tie.Need-put-requires-3
-put-requires-3 c κs = search needs
+put-vertex-requires-3 : tie.Need-put-vertex-requires-3
+put-vertex-requires-3 c κs = search needs
 
 same-length : tie.Need-same-length
 same-length c = search needs
@@ -27,4 +27,4 @@ returns c = cc (add-one (c .before .before .before .before .before .before .befo
 pub put-three-spec : {M : Type 1} → statement M
 put-three-spec =
     tie.close
-    (tie.spec put-requires add-put put-requires-2 add-put-2 put-requires-3 same-length returns)
+    (tie.spec put-vertex-requires add-put-vertex put-vertex-requires-2 add-put-vertex-2 put-vertex-requires-3 same-length returns)
