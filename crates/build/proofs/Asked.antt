@@ -5,6 +5,7 @@ use mathlib.Core.List.{List}
 use Prim.Native.Nat.{ℕ, suc, _+_, _*_, _-_, _^_, _≤_, _<_}
 use native.Mathlib.Nat.{le-refl}
 use native.Mathlib.Omega.{arith}
+use lib.Ieee.{Float}
 use lib.ListN.{length, take, drop, length-append}
 use lib.Seq.{length-take-le}
 use Rattle.mesh.specs.Mesh.{Slices}
@@ -101,7 +102,7 @@ module _ {L : Lent} {s : Shared} {t : Plan} {w : List ℕ} {o : Slices} (R : Rea
     pub faces-room : length (allFaces w₁ t (s .ccw) (s .convex)) ≤ length (o .indices)
     faces-room = omega (arith, count-indices, R .indices)
 
-    module _ {o₁ w₂ : List ℕ} {k : ℕ} (M : Made t (allFaces w₁ t (s .ccw) (s .convex)) k (o .indices) o₁ w₁ w₂) where
+    module _ {f₁ f₂ : List Float} {o₁ w₂ : List ℕ} {k : ℕ} (M : Made t (allFaces w₁ t (s .ccw) (s .convex)) f₁ k (o .indices) o₁ w₁ w₂ f₂) where
       pub indices-there : k ≤ length o₁
       indices-there =
           let xs : List ℕ = allFaces w₁ t (s .ccw) (s .convex) in

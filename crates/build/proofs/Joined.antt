@@ -100,13 +100,13 @@ module _ {L : Lent} {s : Shared} {t : Plan} {w : List ℕ} {F : Frame} {fs : Lis
         subst (adding.Holds (s .widths) (F .points) (storeOf o) (o .positions) st x) vertices-told
         (subst (λ (p : List ℕ). adding.Holds (s .widths) p (storeOf o) (o .positions) st x (verticesIn L (s .attributes) (s .widths) w (tablesOf t))) (T .holds .points) (C .holds))
 
-    module _ {o₁ w₂ : List ℕ} {k : ℕ} (M : Made t (allFaces w₁ t (s .ccw) (s .convex)) k (o .indices) o₁ w₁ w₂) where
+    module _ {f₁ f₂ : List Float} {o₁ w₂ : List ℕ} {k : ℕ} (M : Made t (allFaces w₁ t (s .ccw) (s .convex)) f₁ k (o .indices) o₁ w₁ w₂ f₂) where
       -- FORMAT 12.1
-      indices-made : Made t (indicesOf F fs (vertices F fs)) k (o .indices) o₁ w₁ w₂
+      indices-made : Made t (indicesOf F fs (vertices F fs)) f₁ k (o .indices) o₁ w₁ w₂ f₂
       indices-made =
           made-joined holds-after named-after
-          (subst (λ (p : Bool). Made t (allFaces w₁ t (F .ccw) p) k (o .indices) o₁ w₁ w₂) (sym (T .convex))
-          (subst (λ (p : Bool). Made t (allFaces w₁ t p (s .convex)) k (o .indices) o₁ w₁ w₂) (sym (T .ccw)) M))
+          (subst (λ (p : Bool). Made t (allFaces w₁ t (F .ccw) p) f₁ k (o .indices) o₁ w₁ w₂ f₂) (sym (T .convex))
+          (subst (λ (p : Bool). Made t (allFaces w₁ t p (s .convex)) f₁ k (o .indices) o₁ w₁ w₂ f₂) (sym (T .ccw)) M))
 
       -- as they are lent
       indices-lent : take (k - 0) (drop 0 o₁) ≡ indicesOf F fs (vertices F fs)
@@ -150,8 +150,8 @@ module _ {L : Lent} {s : Shared} {t : Plan} {w : List ℕ} {F : Frame} {fs : Lis
 
 -- FORMAT 5, 10.3, 11, 12: what the five calls leave, one after another
 module _ {L : Lent} {s : Shared} {t : Plan} {w : List ℕ} {o : Slices} (R : Ready L s t w o) {st : Store} {x w₁ : List ℕ} {n : ℕ}
-    (C : Cornered L (s .attributes) (s .widths) (tablesOf t) (storeOf o) (o .positions) w st x w₁ n) {o₁ w₂ : List ℕ} {k : ℕ}
-    (M : Made t (allFaces w₁ t (s .ccw) (s .convex)) k (o .indices) o₁ w₁ w₂) where
+    (C : Cornered L (s .attributes) (s .widths) (tablesOf t) (storeOf o) (o .positions) w st x w₁ n) {f₁ f₂ : List Float} {o₁ w₂ : List ℕ} {k : ℕ}
+    (M : Made t (allFaces w₁ t (s .ccw) (s .convex)) f₁ k (o .indices) o₁ w₁ w₂ f₂) where
   pub built : (out : List ℕ) → out ≡ mendedWords x (take (k - 0) (drop 0 o₁)) (st .normals) n ++ drop (3 * n) (st .normals)
       → {m : ℕ} → m ≡ length w → (w₃ : List ℕ) → w₃ ≡ replicate m 0 → {l : ℕ} → l ≡ length (L .floats) → (f : List Float) → f ≡ replicate l (ofBits binary32 0)
       → Built L s t w o (record { sources = st .sources; positions = x; normals = out; colours = st .colours; textures = st .textures; indices = o₁ })

@@ -5,6 +5,7 @@ use mathlib.Core.List.{List, [], _∷_, _++_, map}
 use Prim.Native.Nat.{ℕ, zero, suc, _+_, _-_, _*_, _≤_, _<_}
 use native.Mathlib.Nat.{zero-add, add-zero, add-suc, suc-add}
 use native.Mathlib.Omega.{arith}
+use lib.Ieee.{Float}
 use lib.ListN.{length, getD, length-append}
 use Rattle.math.specs.declared.vector.V3.{V3}
 use Rattle.polygon.specs.Loops.{tab}
@@ -78,8 +79,9 @@ module _ {w : List ℕ} {t : Plan} {F : Frame} {fs : List Face} {vs : List Key} 
       (λ j b. subst (λ (k : ℕ). oneFace w t (F .ccw) (F .convex) k ≡ faceIndices F fs vs k (getD fs j [])) (sym (zero-add j)) (face-joined j (omega (arith, b, l))))
 
   -- and so is what `all_faces` leaves
-  pub made-joined : {r : ℕ} {o o′ w′ : List ℕ} → Made t (allFaces w t (F .ccw) (F .convex)) r o o′ w w′ → Made t (indicesOf F fs vs) r o o′ w w′
-  made-joined {r} {o} {o′} {w′} M = subst (λ (xs : List ℕ). Made t xs r o o′ w w′) faces-joined M
+  pub made-joined : {f : List Float} {r : ℕ} {o o′ w′ : List ℕ} {f′ : List Float} → Made t (allFaces w t (F .ccw) (F .convex)) f r o o′ w w′ f′
+      → Made t (indicesOf F fs vs) f r o o′ w w′ f′
+  made-joined {f} {r} {o} {o′} {w′} {f′} M = subst (λ (xs : List ℕ). Made t xs f r o o′ w w′ f′) faces-joined M
 
 -- FORMAT 4: three indices a corner are enough
 module _ {w : List ℕ} {t : Plan} (S : Sound w t) (ccw convex : Bool) where

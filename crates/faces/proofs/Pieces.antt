@@ -4,11 +4,14 @@ use mathlib.Core.Bool.{Bool}
 use mathlib.Core.List.{List, [], _∷_, _++_}
 use Prim.Native.Nat.{ℕ, suc, _+_, _-_, _*_, _≤_, _<_}
 use native.Mathlib.Omega.{arith}
+use borrow.Author.Tests.{lt-ltb, le-ltb}
 use borrow.Rule.Slice.PartMut.{putMid, midOf, postOf, same-len-mid}
+use lib.Dec.{ltb}
 use lib.Ieee.{Float}
 use lib.ListN.{length, take, drop}
 use lib.Seq.{sets, take-at, length-take-le}
 use Rattle.math.specs.declared.vector.V3.{V3}
+use Rattle.polygon.specs.Loops.{pick}
 use Rattle.polygon.specs.Points.{spots}
 use Rattle.polygon.specs.Facing.{newell}
 use Rattle.polygon.specs.Plane.{handed, projection, flat2, pairs}
@@ -23,7 +26,7 @@ use Rattle.tables.specs.Soups.{startIn, pointsIn, Sound}
 use Rattle.tables.proofs.Keep.{kept-all, kept-seg, length-seg}
 use Rattle.tables.proofs.Stays.{start-le, start-kept, points-kept}
 use Rattle.faces.specs.Naming.{threes, numbered}
-use Rattle.faces.specs.Indices.{outlineIn, facingIn, trianglesIn, cornersMade, oneFace, Ready, Put}
+use Rattle.faces.specs.Indices.{outlineIn, facingIn, trianglesIn, cornersMade, oneFace, planeIn, cornersFloats, oneFloats, Ready, Put}
 use Rattle.faces.proofs.Threes.{length-numbered, in-place}
 
 -- a part as it is lent
@@ -46,8 +49,8 @@ module _ (w : List ℕ) (t : Plan) (ccw : Bool) (a n : ℕ) where
   pub plane-made : (lo hi from to : ℕ) → lo ≡ t .points → hi ≡ lo + 3 * t .spots → from ≡ t .corners + a → to ≡ from + n
       → (P N : List ℕ) → P ≡ take (hi - lo) (drop lo w) → N ≡ take (to - from) (drop from w) → (s v : V3) → s ≡ newell (spots P N) → v ≡ handed ccw s
       → (fs fs′ : List Float) → fs′ ≡ sets fs 0 (flat2 (projection ccw v (spots P N)))
-      → fs′ ≡ sets fs 0 (flat2 (projection ccw (facingIn w t ccw a n) (outlineIn w t a n)))
-  unfolding facingIn outlineIn pointsIn
+      → fs′ ≡ sets fs 0 (planeIn w t ccw a n)
+  unfolding planeIn facingIn outlineIn pointsIn
   plane-made lo hi from to l h f o P N p q s v es ev fs fs′ e =
       let x : P ≡ pointsIn w t = p ∙ part-seg w lo hi (3 * t .spots) h ∙ ap (λ (k : ℕ). seg w k (3 * t .spots)) l in
       let y : N ≡ seg w (t .corners + a) n = q ∙ part-seg w from to n o ∙ ap (λ (k : ℕ). seg w k n) f in
@@ -55,12 +58,20 @@ module _ (w : List ℕ) (t : Plan) (ccw : Bool) (a n : ℕ) where
       let u : v ≡ facingIn w t ccw a n = ev ∙ ap (handed ccw) (es ∙ ap newell z) in
       e ∙ ap₂ (λ (m : V3) (ps : List V3). sets fs 0 (flat2 (projection ccw m ps))) u z
 
+  floats-few : (f : List Float) → n < 3 → cornersFloats w t ccw a n f ≡ f
+  unfolding cornersFloats
+  floats-few f h = rw (lt-ltb n 3 h)
+
+  floats-more : (f : List Float) → 3 ≤ n → cornersFloats w t ccw a n f ≡ sets f 0 (planeIn w t ccw a n)
+  unfolding cornersFloats
+  floats-more f h = rw (le-ltb n 3 h)
+
   module _ (convex : Bool) (h : t .corners + a + n ≤ length w) where
     -- what `put_corners` leaves
     pub corners-put : (fs gs : List Float) (o o′ : List ℕ) (at : ℕ) → n * 2 ≤ length fs
-        → gs ≡ sets fs 0 (flat2 (projection ccw (facingIn w t ccw a n) (outlineIn w t a n)))
+        → gs ≡ sets fs 0 (planeIn w t ccw a n)
         → o′ ≡ sets o at (flat (faceTris convex (pairs (take (n * 2) gs)))) → o′ ≡ sets o at (flat (trianglesIn w t ccw convex a n))
-    unfolding trianglesIn outlineIn
+    unfolding planeIn trianglesIn outlineIn
     corners-put fs gs o o′ at k g e =
         e ∙ ap (λ (ts : List Tri). sets o at (flat ts))
         (by-plane ccw convex (pointsIn w t) (seg w (t .corners + a) n) (facingIn w t ccw a n) n fs gs (length-seg w (t .corners + a) n h) k g)
@@ -96,9 +107,16 @@ module _ {w : List ℕ} {t : Plan} (S : Sound w t) (ccw convex : Bool) where
     ends-in : (a ≤ b) × (b ≤ t .count)
     ends-in = (omega (arith, S .rises g h), omega (arith, start-le S (suc g) h))
 
+    ends-are : {A : Type 0} (v : ℕ → ℕ → A) → v (startIn w t g) (startIn w t (suc g) - startIn w t g) ≡ v a (b - a)
+    ends-are v = sym (ap₂ (λ (x y : ℕ). v x (y - x)) ea eb)
+
     one-is : oneFace w t ccw convex g ≡ cornersMade w t ccw convex a (b - a)
     unfolding oneFace
-    one-is = sym (ap₂ (λ (x y : ℕ). cornersMade w t ccw convex x (y - x)) ea eb)
+    one-is = ends-are (cornersMade w t ccw convex)
+
+    floats-are : (f : List Float) → oneFloats w t ccw g f ≡ cornersFloats w t ccw a (b - a) f
+    unfolding oneFloats
+    floats-are f = ends-are (λ (x n : ℕ). cornersFloats w t ccw x n f)
 
     pub corners-here : t .corners + a + (b - a) ≤ length w
     corners-here = let q = ends-in in corners-in a (b - a) (omega (arith, q .0, q .1))
@@ -107,18 +125,23 @@ module _ {w : List ℕ} {t : Plan} (S : Sound w t) (ccw convex : Bool) where
     length-here = ap length one-is ∙ length-corners w t ccw a (b - a) convex corners-here
 
     -- fewer than three corners
-    pub few-put : (o : List ℕ) (at : ℕ) → b - a < 3 → Put t (oneFace w t ccw convex g) at at o o w w
-    few-put o at few =
+    pub few-put : (o : List ℕ) (f : List Float) (at : ℕ) → b - a < 3 → Put t (oneFace w t ccw convex g) (oneFloats w t ccw g f) at at o o w w f
+    few-put o f at few =
         let l : length (oneFace w t ccw convex g) ≡ 0 = length-here ∙ omega arith in
-        record { next = omega arith; made = ap (sets o at) (sym (none (oneFace w t ccw convex g) l)); kept = kept-all }
+        record {
+          next = omega arith;
+          made = ap (sets o at) (sym (none (oneFace w t ccw convex g) l));
+          kept = kept-all;
+          floats = sym (floats-are f ∙ floats-few w t ccw a (b - a) f few);
+        }
 
     -- three or more
-    pub more-put : (w′ o X Y : List ℕ) (at r : ℕ) → at + (b - a - 2) * 3 ≤ length o → Kept (t .places) w w′
+    pub more-put : (w′ o X Y : List ℕ) (f f′ : List Float) (at r : ℕ) → 3 ≤ b - a → at + (b - a - 2) * 3 ≤ length o → Kept (t .places) w w′
         → X ≡ sets o at (flat (trianglesIn w t ccw convex a (b - a)))
-        → Y ≡ sets X at (numbered ccw (seg w′ (t .named + a) (b - a)) (threes (b - a - 2) (drop at X))) → r ≡ at + (b - a - 2) * 3
-        → Put t (oneFace w t ccw convex g) at r o Y w w′
+        → Y ≡ sets X at (numbered ccw (seg w′ (t .named + a) (b - a)) (threes (b - a - 2) (drop at X))) → f′ ≡ sets f 0 (planeIn w t ccw a (b - a))
+        → r ≡ at + (b - a - 2) * 3 → Put t (oneFace w t ccw convex g) (oneFloats w t ccw g f) at r o Y w w′ f′
     unfolding cornersMade
-    more-put w′ o X Y at r room K x y er =
+    more-put w′ o X Y f f′ at r more room K x y z er =
         let q = ends-in in
         let R = S .room in
         let l : length (oneFace w t ccw convex g) ≡ (b - a - 2) * 3 = length-here in
@@ -131,30 +154,48 @@ module _ {w : List ℕ} {t : Plan} (S : Sound w t) (ccw convex : Bool) where
               in-place ccw (seg w (t .named + a) (b - a)) o X Y (trianglesIn w t ccw convex a (b - a)) at (b - a - 2) (length-triangles w t ccw a (b - a) convex corners-here)
               room x (y ∙ ap (λ (s : List ℕ). sets X at (numbered ccw s (threes (b - a - 2) (drop at X)))) v) ∙ ap (sets o at) (sym one-is);
           kept = K;
+          floats = z ∙ sym (floats-are f ∙ floats-more w t ccw a (b - a) f more);
         }
 
 -- ---- a face is kept with the words below the places
 
 module _ {w₀ w : List ℕ} {t : Plan} (K : Kept (t .places) w₀ w) (S : Sound w₀ t) (ccw convex : Bool) where
+  outline-kept : (a n : ℕ) → a + n ≤ t .count → outlineIn w t a n ≡ outlineIn w₀ t a n
+  unfolding outlineIn
+  outline-kept a n h =
+      let R = S .room in
+      ap₂ spots (points-kept K t (omega arith) S) (kept-seg K (t .corners + a) n (omega arith) (omega arith))
+
   corners-kept : (a n : ℕ) → a + n ≤ t .count → cornersMade w t ccw convex a n ≡ cornersMade w₀ t ccw convex a n
-  unfolding cornersMade trianglesIn facingIn outlineIn
+  unfolding cornersMade trianglesIn facingIn
   corners-kept a n h =
       let R = S .room in
-      let p : pointsIn w t ≡ pointsIn w₀ t = points-kept K t (omega arith) S in
-      let q : seg w (t .corners + a) n ≡ seg w₀ (t .corners + a) n = kept-seg K (t .corners + a) n (omega arith) (omega arith) in
+      let p : outlineIn w t a n ≡ outlineIn w₀ t a n = outline-kept a n h in
       let v : seg w (t .named + a) n ≡ seg w₀ (t .named + a) n = kept-seg K (t .named + a) n (omega arith) (omega arith) in
-      λ i. numbered ccw (v i) (triangles ccw convex (spots (p i) (q i)) (handed ccw (newell (spots (p i) (q i)))))
+      λ i. numbered ccw (v i) (triangles ccw convex (p i) (handed ccw (newell (p i))))
 
-  pub one-kept : (g : ℕ) → g < t .faces → oneFace w t ccw convex g ≡ oneFace w₀ t ccw convex g
-  unfolding oneFace
-  one-kept g h =
-      let R = S .room in
-      let r = S .rises g h in
-      let l = start-le S (suc g) h in
-      let x : startIn w t g ≡ startIn w₀ t g = start-kept K t g (omega arith) in
-      let y : startIn w t (suc g) ≡ startIn w₀ t (suc g) = start-kept K t (suc g) (omega arith) in
-      ap₂ (λ (x y : ℕ). cornersMade w t ccw convex x (y - x)) x y
-      ∙ corners-kept (startIn w₀ t g) (startIn w₀ t (suc g) - startIn w₀ t g) (omega arith)
+  floats-kept : (f : List Float) (a n : ℕ) → a + n ≤ t .count → cornersFloats w t ccw a n f ≡ cornersFloats w₀ t ccw a n f
+  unfolding cornersFloats planeIn facingIn
+  floats-kept f a n h = ap (λ (ps : List V3). pick (ltb n 3) f (sets f 0 (flat2 (projection ccw (handed ccw (newell ps)) ps)))) (outline-kept a n h)
+
+  module _ (g : ℕ) (h : g < t .faces) where
+    -- what is said of the corners of a face
+    face-kept : {A : Type 0} (v v₀ : ℕ → ℕ → A) → ((a n : ℕ) → a + n ≤ t .count → v a n ≡ v₀ a n)
+        → v (startIn w t g) (startIn w t (suc g) - startIn w t g) ≡ v₀ (startIn w₀ t g) (startIn w₀ t (suc g) - startIn w₀ t g)
+    face-kept v v₀ same =
+        let R = S .room in
+        let r = S .rises g h in
+        let l = start-le S (suc g) h in
+        ap₂ (λ (x y : ℕ). v x (y - x)) (start-kept K t g (omega arith)) (start-kept K t (suc g) (omega arith))
+        ∙ same (startIn w₀ t g) (startIn w₀ t (suc g) - startIn w₀ t g) (omega arith)
+
+    pub one-kept : oneFace w t ccw convex g ≡ oneFace w₀ t ccw convex g
+    unfolding oneFace
+    one-kept = face-kept (cornersMade w t ccw convex) (cornersMade w₀ t ccw convex) corners-kept
+
+    pub one-floats : (f : List Float) → oneFloats w t ccw g f ≡ oneFloats w₀ t ccw g f
+    unfolding oneFloats
+    one-floats f = face-kept (λ (a n : ℕ). cornersFloats w t ccw a n f) (λ (a n : ℕ). cornersFloats w₀ t ccw a n f) (floats-kept f)
 
 -- FORMAT 4: the words and floats that are lent are enough
 pub plan-ready : (spots count faces floats : ℕ) (w : List ℕ) → Sound w (planOf spots count faces) → faces * 3 ≤ count

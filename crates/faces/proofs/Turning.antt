@@ -1,14 +1,16 @@
 -- The loop over the kept faces: start, one turn, end. The next face goes behind the last.
 use mathlib.Core.Path.{_≡_, refl, sym, ap, ap₂, _∙_}
 use mathlib.Core.Bool.{Bool}
-use mathlib.Core.List.{List, [], _∷_, _++_}
+use mathlib.Core.List.{List, [], _++_}
 use Prim.Native.Nat.{ℕ, suc, _+_, _-_, _*_, _≤_, _<_}
-use native.Mathlib.Nat.{zero-add, add-zero, add-suc, suc-add, sub-zero}
+use native.Mathlib.Nat.{zero-add, sub-zero}
 use native.Mathlib.Numerals.{add-one}
 use native.Mathlib.Omega.{arith}
+use lib.Ieee.{Float}
 use lib.ListN.{length, drop, length-append}
 use lib.Seq.{sets, sets-eq, length-sets}
-use Rattle.polygon.specs.Loops.{tab}
+use Rattle.polygon.specs.Loops.{tab, run}
+use Rattle.polygon.proofs.Laws.{run-go, run-end}
 use Rattle.mesh.specs.Lists.{flat}
 use Rattle.mesh.proofs.Lists.{sets-append}
 use Rattle.tables.specs.declared.layout.Plan.{Plan}
@@ -16,8 +18,8 @@ use Rattle.tables.specs.Kept.{Kept}
 use Rattle.tables.specs.Soups.{startIn}
 use Rattle.tables.proofs.Keep.{kept-all, kept-then}
 use Rattle.tables.proofs.Stays.{sound-kept}
-use Rattle.faces.specs.Indices.{oneFace, allFaces, Ready, Put, Made}
-use Rattle.faces.proofs.Pieces.{length-one, one-kept}
+use Rattle.faces.specs.Indices.{oneFace, allFaces, oneFloats, allFloats, Ready, Put, Made}
+use Rattle.faces.proofs.Pieces.{length-one, one-kept, one-floats}
 
 module _ (w₀ : List ℕ) (t : Plan) (ccw convex : Bool) where
   -- the faces from g on
@@ -25,12 +27,13 @@ module _ (w₀ : List ℕ) (t : Plan) (ccw convex : Bool) where
   rest g = flat (tab (oneFace w₀ t ccw convex) (t .faces - g) g)
 
   -- g faces are done, and the next goes to `at`
-  pub record Facing (o₀ o w : List ℕ) (g at : ℕ) : Type 0 where
+  pub record Facing (o₀ o w : List ℕ) (f₀ f : List Float) (g at : ℕ) : Type 0 where
     pub within : g ≤ t .faces
     pub kept : Kept (t .places) w₀ w
     pub long : length o ≡ length o₀
     pub count : at + length (rest g) ≡ length (allFaces w₀ t ccw convex)
     pub made : sets o at (rest g) ≡ sets o₀ 0 (allFaces w₀ t ccw convex)
+    pub floats : run (oneFloats w₀ t ccw) (t .faces - g) g f ≡ allFloats w₀ t ccw f₀
 
   rest-all : rest 0 ≡ allFaces w₀ t ccw convex
   unfolding allFaces rest
@@ -44,16 +47,18 @@ module _ (w₀ : List ℕ) (t : Plan) (ccw convex : Bool) where
   unfolding rest tab flat
   rest-none g h = let e : t .faces - g ≡ 0 = omega arith in ap (λ (k : ℕ). flat (tab (oneFace w₀ t ccw convex) k g)) e
 
-  pub facing-start : (o : List ℕ) → Facing o o w₀ 0 0
-  facing-start o = record {
+  pub facing-start : (o : List ℕ) (f : List Float) → Facing o o w₀ f f 0 0
+  unfolding allFloats
+  facing-start o f = record {
     within = omega arith;
     kept = kept-all;
     long = refl;
     count = let e = ap length rest-all in omega (arith, e);
     made = ap (sets o 0) rest-all;
+    floats = ap (λ (k : ℕ). run (oneFloats w₀ t ccw) k 0 f) (sub-zero (t .faces));
   }
 
-  module _ {floats : ℕ} (Q : Ready w₀ t floats) {o₀ o w : List ℕ} {g at : ℕ} (F : Facing o₀ o w g at) where
+  module _ {floats : ℕ} (Q : Ready w₀ t floats) {o₀ o w : List ℕ} {f₀ f : List Float} {g at : ℕ} (F : Facing o₀ o w f₀ f g at) where
     pub facing-ready : (n : ℕ) → n ≡ floats → Ready w t n
     facing-ready n e =
         let R = Q .sound .room in
@@ -79,8 +84,9 @@ module _ (w₀ : List ℕ) (t : Plan) (ccw convex : Bool) where
           let z = F .long in
           omega (arith, e, x, y, z, b)
 
-      pub facing-go : (o′ w′ : List ℕ) (r : ℕ) → Put t (oneFace w t ccw convex g) at r o o′ w w′ → Facing o₀ o′ w′ (g + 1) r
-      facing-go o′ w′ r P =
+      pub facing-go : (o′ w′ : List ℕ) (f′ : List Float) (r : ℕ) → Put t (oneFace w t ccw convex g) (oneFloats w t ccw g f) at r o o′ w w′ f′
+          → Facing o₀ o′ w′ f₀ f′ (g + 1) r
+      facing-go o′ w′ f′ r P =
           let xs : List ℕ = oneFace w t ccw convex g in
           let q : rest (g + 1) ≡ rest (suc g) = ap rest (add-one g) in
           let x = length-now in
@@ -96,11 +102,14 @@ module _ (w₀ : List ℕ) (t : Plan) (ccw convex : Bool) where
             made =
                 ap (sets o′ r) q ∙ ap₂ (λ (l : List ℕ) (k : ℕ). sets l k (rest (suc g))) (P .made) n
                 ∙ sym (sets-append xs (rest (suc g)) o at) ∙ ap (sets o at) (sym s) ∙ F .made;
+            floats =
+                ap (run (oneFloats w₀ t ccw) (t .faces - (g + 1)) (g + 1)) (P .floats ∙ one-floats (F .kept) (Q .sound) ccw convex g h f)
+                ∙ sym (run-go (oneFloats w₀ t ccw) (t .faces) g f h) ∙ F .floats;
           }
 
-  pub facing-end : (o₀ o w : List ℕ) (g at : ℕ) → t .faces ≤ g → length (allFaces w₀ t ccw convex) ≤ length o₀ → Facing o₀ o w g at
-      → Made t (allFaces w₀ t ccw convex) at o₀ o w₀ w
-  facing-end o₀ o w g at h b F =
+  pub facing-end : (o₀ o w : List ℕ) (f₀ f : List Float) (g at : ℕ) → t .faces ≤ g → length (allFaces w₀ t ccw convex) ≤ length o₀ → Facing o₀ o w f₀ f g at
+      → Made t (allFaces w₀ t ccw convex) (allFloats w₀ t ccw f₀) at o₀ o w₀ w f
+  facing-end o₀ o w f₀ f g at h b F =
       let z : length (rest g) ≡ 0 = ap length (rest-none g h) in
       let y = F .count in
       record {
@@ -108,4 +117,5 @@ module _ (w₀ : List ℕ) (t : Plan) (ccw convex : Bool) where
         made = ap (sets o at) (sym (rest-none g h)) ∙ F .made ∙ sets-eq (allFaces w₀ t ccw convex) o₀ 0 (omega (arith, b))
             ∙ ap (λ (k : ℕ). allFaces w₀ t ccw convex ++ drop k o₀) (zero-add (length (allFaces w₀ t ccw convex)));
         kept = F .kept;
+        floats = sym (run-end (oneFloats w₀ t ccw) (t .faces) g f h) ∙ F .floats;
       }

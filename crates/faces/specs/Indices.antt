@@ -1,15 +1,17 @@
--- FORMAT 12.1: the indices of the faces that the tables hold.
+-- FORMAT 12.1, 12.2: the indices of the faces that the tables hold, and the floats in which each is put in the plane.
 use mathlib.Core.Path.{_≡_}
 use mathlib.Core.Bool.{Bool}
 use mathlib.Core.List.{List, [], _++_}
 use Prim.Native.Nat.{ℕ, suc, _+_, _*_, _-_, _≤_, _<_}
+use lib.Dec.{ltb}
+use lib.Ieee.{Float}
 use lib.ListN.{length, getD, drop}
 use lib.Seq.{sets}
 use Rattle.math.specs.declared.vector.V3.{V3}
-use Rattle.polygon.specs.Loops.{tab}
+use Rattle.polygon.specs.Loops.{pick, tab, run}
 use Rattle.polygon.specs.Points.{spots}
 use Rattle.polygon.specs.Facing.{newell}
-use Rattle.polygon.specs.Plane.{handed}
+use Rattle.polygon.specs.Plane.{handed, projection, flat2}
 use Rattle.polygon.specs.Ears.{Tri}
 use Rattle.polygon.specs.Face.{triangles}
 use Rattle.mesh.specs.Lists.{place, flat}
@@ -44,6 +46,22 @@ oneFace w t ccw convex g = cornersMade w t ccw convex (startIn w t g) (startIn w
 unfoldable pub allFaces : List ℕ → Plan → Bool → Bool → List ℕ
 allFaces w t ccw convex = flat (tab (oneFace w t ccw convex) (t .faces) 0)
 
+-- FORMAT 12.2, triangulate (pts): the n corners from a on in the plane, two floats a corner
+unfoldable pub planeIn : List ℕ → Plan → Bool → ℕ → ℕ → List Float
+planeIn w t ccw a n = flat2 (projection ccw (facingIn w t ccw a n) (outlineIn w t a n))
+
+-- FORMAT 12.2: the floats f after the n corners from a on: three or more stand in front, in the plane
+unfoldable pub cornersFloats : List ℕ → Plan → Bool → ℕ → ℕ → List Float → List Float
+cornersFloats w t ccw a n f = pick (ltb n 3) f (sets f 0 (planeIn w t ccw a n))
+
+-- FORMAT 12.2: after kept face g
+unfoldable pub oneFloats : List ℕ → Plan → Bool → ℕ → List Float → List Float
+oneFloats w t ccw g f = cornersFloats w t ccw (startIn w t g) (startIn w t (suc g) - startIn w t g) f
+
+-- FORMAT 12.2: after all of them, one after another
+unfoldable pub allFloats : List ℕ → Plan → Bool → List Float → List Float
+allFloats w t ccw f = run (oneFloats w t ccw) (t .faces) 0 f
+
 -- the tables hold a soup, with five words a corner from the places on, and two floats a corner
 pub record Ready (w : List ℕ) (t : Plan) (floats : ℕ) : Type 0 where
   pub sound : Sound w t
@@ -55,14 +73,16 @@ pub record Named (w : List ℕ) (t : Plan) (F : Frame) (fs : List Face) (vs : Li
   pub at : (j i : ℕ) → j < t .faces → i < length (getD fs j [])
       → namedIn w t (startIn w t j + i) ≡ place sameKey (keyOf F fs j (getD fs j []) (getD (getD fs j []) i noCorner)) vs
 
--- one face: its indices xs from `at` on, the next place r; the tables below the places are kept
-pub record Put (t : Plan) (xs : List ℕ) (at r : ℕ) (o o′ w w′ : List ℕ) : Type 0 where
+-- one face: its indices xs from `at` on, the next place r; the tables below the places are kept; the floats became f
+pub record Put (t : Plan) (xs : List ℕ) (f : List Float) (at r : ℕ) (o o′ w w′ : List ℕ) (f′ : List Float) : Type 0 where
   pub next : r ≡ at + length xs
   pub made : o′ ≡ sets o at xs
   pub kept : Kept (t .places) w w′
+  pub floats : f′ ≡ f
 
--- all faces: their indices xs in front, r of them, and what was there beyond; the tables below the places are kept
-pub record Made (t : Plan) (xs : List ℕ) (r : ℕ) (o o′ w w′ : List ℕ) : Type 0 where
+-- all faces: their indices xs in front, r of them, and what was there beyond; the tables below the places are kept; the floats became f
+pub record Made (t : Plan) (xs : List ℕ) (f : List Float) (r : ℕ) (o o′ w w′ : List ℕ) (f′ : List Float) : Type 0 where
   pub count : r ≡ length xs
   pub made : o′ ≡ xs ++ drop (length xs) o
   pub kept : Kept (t .places) w w′
+  pub floats : f′ ≡ f

@@ -4,11 +4,10 @@ ghost use Prim.Native.Nat.{suc, _+_, _-_, _*_, _≤_, _<_};
 ghost use lib.ListN.{length, drop};
 ghost use lib.Seq.{sets};
 ghost use Rattle.polygon.specs.Ears.{flat};
-ghost use Rattle.polygon.specs.Plane.{projection, flat2};
 ghost use Rattle.tables.specs.Kept.{seg, Kept};
 ghost use Rattle.tables.specs.Soups.{startIn, Sound};
 ghost use Rattle.faces.specs.Naming.{threes, numbered};
-ghost use Rattle.faces.specs.Indices.{outlineIn, facingIn, trianglesIn, oneFace, allFaces, Ready, Put, Made};
+ghost use Rattle.faces.specs.Indices.{trianglesIn, oneFace, allFaces, planeIn, oneFloats, allFloats, Ready, Put, Made};
 use crate::naming::rename;
 use block::CornerNumber;
 use tables::Plan;
@@ -17,7 +16,7 @@ use tables::stretch_of;
 // The face of the n corners from a on: its points in the plane, to the front of `floats`.
 fn put_plane(work: &[u32], t: Plan, a: CornerNumber, n: usize, ccw: bool, floats: &mut [f32])
     requires { ⌜ Sound (now work) t × (a .0 + n ≤ t .count) ⌝ }
-    ensures { λ _. ⌜ now (floats .exit) ≡ sets (now (floats .entry)) 0 (flat2 (projection ccw (facingIn (now (work .entry)) t ccw (a .0) n) (outlineIn (now (work .entry)) t (a .0) n))) ⌝ }
+    ensures { λ _. ⌜ now (floats .exit) ≡ sets (now (floats .entry)) 0 (planeIn (now (work .entry)) t ccw (a .0) n) ⌝ }
 {
     let lo = t.points;
     let hi = lo + 3 * t.spots;
@@ -42,7 +41,8 @@ fn put_corners(
 )
     requires { ⌜ Ready (now work) t (length (now floats)) × (a .0 + n ≤ t .count) × (at + (n - 2) * 3 ≤ length (now indices)) ⌝ }
     ensures { λ _. ⌜ Kept (t .places) (now (work .entry)) (now (work .exit))
-        × (now (indices .exit) ≡ sets (now (indices .entry)) at (flat (trianglesIn (now (work .entry)) t ccw convex (a .0) n))) ⌝ }
+        × (now (indices .exit) ≡ sets (now (indices .entry)) at (flat (trianglesIn (now (work .entry)) t ccw convex (a .0) n)))
+        × (now (floats .exit) ≡ sets (now (floats .entry)) 0 (planeIn (now (work .entry)) t ccw (a .0) n)) ⌝ }
 {
     put_plane(work, t, a, n, ccw, floats);
     let lo = t.places;
@@ -80,7 +80,8 @@ fn one_face(
     at: usize,
 ) -> usize
     requires { ⌜ Ready (now work) t (length (now floats)) × (face < t .faces) × (at + (startIn (now work) t (suc face) - startIn (now work) t face - 2) * 3 ≤ length (now indices)) ⌝ }
-    ensures { λ r. ⌜ Put t (oneFace (now (work .entry)) t ccw convex face) at r (now (indices .entry)) (now (indices .exit)) (now (work .entry)) (now (work .exit)) ⌝ }
+    ensures { λ r. ⌜ Put t (oneFace (now (work .entry)) t ccw convex face) (oneFloats (now (work .entry)) t ccw face (now (floats .entry))) at r
+        (now (indices .entry)) (now (indices .exit)) (now (work .entry)) (now (work .exit)) (now (floats .exit)) ⌝ }
 {
     let r = stretch_of(work, t, face);
     let a = r.from;
@@ -94,7 +95,7 @@ fn one_face(
     next
 }
 
-// The indices of all kept faces, to the front of `indices`, and how many they are.
+// The indices of all kept faces, to the front of `indices`, and how many they are. Each face is put in the plane in `floats`.
 pub fn all_faces(
     work: &mut [u32],
     t: Plan,
@@ -104,7 +105,8 @@ pub fn all_faces(
     indices: &mut [u32],
 ) -> usize
     requires { ⌜ Ready (now work) t (length (now floats)) × (length (allFaces (now work) t ccw convex) ≤ length (now indices)) ⌝ }
-    ensures { λ r. ⌜ Made t (allFaces (now (work .entry)) t ccw convex) r (now (indices .entry)) (now (indices .exit)) (now (work .entry)) (now (work .exit)) ⌝ }
+    ensures { λ r. ⌜ Made t (allFaces (now (work .entry)) t ccw convex) (allFloats (now (work .entry)) t ccw (now (floats .entry))) r
+        (now (indices .entry)) (now (indices .exit)) (now (work .entry)) (now (work .exit)) (now (floats .exit)) ⌝ }
 {
     let mut at = 0;
     let mut g = 0;

@@ -26,6 +26,7 @@ fn vertex_of(named: &[u32], c: CornerNumber) -> VertexNumber
     VertexNumber(wide(get(named, c.0)))
 }
 
+// A vertex number fits a word: it was read from one.
 fn put_vertex(s: &mut [u32], k: usize, v: VertexNumber)
     requires { ⌜ v .0 < 2 ^ 32 ⌝ }
     ensures { λ _. ⌜ now (s .exit) ≡ set (now (s .entry)) k (v .0) ⌝ }

@@ -7,13 +7,13 @@ use Rattle.faces.proofs.indices.all_faces.Statement.{statement}
 use Rattle.faces.proofs.indices.all_faces.Tie as tie
 
 abbrev Inv-loop : tie.InvT-loop
-Inv-loop work₀ t ccw convex floats₀ indices₀ at₀ g₀ work floats indices at g = (length floats ≡ length floats₀) × Facing work₀ t ccw convex indices₀ indices work g at
+Inv-loop work₀ t ccw convex floats₀ indices₀ at₀ g₀ work floats indices at g = (length floats ≡ length floats₀) × Facing work₀ t ccw convex indices₀ indices work floats₀ floats g at
 
 abbrev μ-loop : tie.MeasureT-loop
 μ-loop work₀ t ccw convex floats₀ indices₀ at₀ g₀ work floats indices at g = t .faces - g
 
 loop-holds : tie.Need-loop-holds Inv-loop μ-loop
-loop-holds c = (refl, facing-start _ _ _ _ _)
+loop-holds c = (refl, facing-start _ _ _ _ _ _)
 
 one-face-requires : tie.Need-one-face-requires Inv-loop μ-loop
 one-face-requires c κs = (facing-ready _ _ _ _ (c .before .before .before .before .before .before .before .before .before .pre .0) (c .before .before .before .before .before .loop .inv .1) _ (c .before .before .before .before .before .loop .inv .0), c .before .before .before .if1 .taken, facing-room _ _ _ _ (c .before .before .before .before .before .before .before .before .before .pre .0) (c .before .before .before .before .before .loop .inv .1) (c .before .before .before .if1 .taken) (c .before .before .before .before .before .before .before .before .before .pre .1))
@@ -25,7 +25,7 @@ loop-less : tie.Need-loop-less Inv-loop μ-loop
 loop-less c = search needs
 
 loop-again : tie.Need-loop-again Inv-loop μ-loop
-loop-again c = (c .before .before .before .before .before .before .one-face .kept .1 .1 .1 .1 .1 .0 ∙ c .before .before .before .before .before .before .before .before .before .before .before .before .loop .inv .0, facing-go _ _ _ _ (c .before .before .before .before .before .before .before .before .before .before .before .before .before .before .before .before .pre .0) (c .before .before .before .before .before .before .before .before .before .before .before .before .loop .inv .1) (c .before .before .before .before .before .before .before .before .before .before .if1 .taken) _ _ _ (c .before .before .before .before .before .before .one-face .ensures))
+loop-again c = (c .before .before .before .before .before .before .one-face .kept .1 .1 .1 .1 .1 .0 ∙ c .before .before .before .before .before .before .before .before .before .before .before .before .loop .inv .0, facing-go _ _ _ _ (c .before .before .before .before .before .before .before .before .before .before .before .before .before .before .before .before .pre .0) (c .before .before .before .before .before .before .before .before .before .before .before .before .loop .inv .1) (c .before .before .before .before .before .before .before .before .before .before .if1 .taken) _ _ _ _ (c .before .before .before .before .before .before .one-face .ensures))
 
 same-length : tie.Need-same-length Inv-loop μ-loop
 same-length c = c .before .before .loop .inv .1 .kept .len
@@ -37,7 +37,7 @@ same-length-3 : tie.Need-same-length-3 Inv-loop μ-loop
 same-length-3 c = c .before .before .loop .inv .1 .long
 
 returns : tie.Need-returns Inv-loop μ-loop
-returns c = facing-end _ _ _ _ _ _ _ _ _ (c .if1 .left) (c .before .before .before .before .before .before .pre .1) (c .before .before .loop .inv .1)
+returns c = facing-end _ _ _ _ _ _ _ _ _ _ _ (c .if1 .left) (c .before .before .before .before .before .before .pre .1) (c .before .before .loop .inv .1)
 
 pub all-faces-spec : {M : Type 1} → statement M
 all-faces-spec =

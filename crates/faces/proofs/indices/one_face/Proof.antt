@@ -15,7 +15,7 @@ same-length : tie.Need-same-length
 same-length c = search needs
 
 returns : tie.Need-returns
-returns c = few-put (c .before .before .before .before .before .before .before .before .before .pre .0 .sound) (c .before .before .before .before .before .before .before .before .before .args .ccw) (c .before .before .before .before .before .before .before .before .before .args .convex) _ _ _ (c .before .before .before .before .before .before .before .before .before .pre .1) (c .before .before .before .before .stretch-of .ensures .from) (c .before .before .before .before .stretch-of .ensures .to) _ _ (c .if1 .taken)
+returns c = few-put (c .before .before .before .before .before .before .before .before .before .pre .0 .sound) (c .before .before .before .before .before .before .before .before .before .args .ccw) (c .before .before .before .before .before .before .before .before .before .args .convex) _ _ _ (c .before .before .before .before .before .before .before .before .before .pre .1) (c .before .before .before .before .stretch-of .ensures .from) (c .before .before .before .before .stretch-of .ensures .to) _ _ _ (c .if1 .taken)
 
 sub-next : tie.Need-sub-next
 sub-next c = omega (arith, c .if1 .left)
@@ -42,7 +42,7 @@ same-length-4 : tie.Need-same-length-4
 same-length-4 c = search needs
 
 returns-2 : tie.Need-returns-2
-returns-2 c = let e = c .before .before .before .before .before .before .before .before .before .before .before .before .before .before .before .before .before .before .before .stretch-of .ensures in more-put (c .before .before .before .before .before .before .before .before .before .before .before .before .before .before .before .before .before .before .before .before .before .before .before .before .pre .0 .sound) (c .before .before .before .before .before .before .before .before .before .before .before .before .before .before .before .before .before .before .before .before .before .before .before .before .args .ccw) (c .before .before .before .before .before .before .before .before .before .before .before .before .before .before .before .before .before .before .before .before .before .before .before .before .args .convex) _ _ _ (c .before .before .before .before .before .before .before .before .before .before .before .before .before .before .before .before .before .before .before .before .before .before .before .before .pre .1) (e .from) (e .to) _ _ _ _ (c .before .before .before .before .before .before .before .before .before .before .before .before .before .before .before .before .before .before .before .before .before .before .before .before .args .at) _ (omega (arith, c .before .before .before .before .before .before .before .before .before .before .before .before .before .before .before .before .before .before .before .before .before .before .before .before .pre .2, e .from, e .to)) (c .before .before .before .before .before .before .before .before .before .before .before .put-corners .ensures .0) (c .before .before .before .before .before .before .before .before .before .before .before .put-corners .ensures .1) (c .before .before .name-corners .ensures) refl
+returns-2 c = let e = c .before .before .before .before .before .before .before .before .before .before .before .before .before .before .before .before .before .before .before .stretch-of .ensures in more-put (c .before .before .before .before .before .before .before .before .before .before .before .before .before .before .before .before .before .before .before .before .before .before .before .before .pre .0 .sound) (c .before .before .before .before .before .before .before .before .before .before .before .before .before .before .before .before .before .before .before .before .before .before .before .before .args .ccw) (c .before .before .before .before .before .before .before .before .before .before .before .before .before .before .before .before .before .before .before .before .before .before .before .before .args .convex) _ _ _ (c .before .before .before .before .before .before .before .before .before .before .before .before .before .before .before .before .before .before .before .before .before .before .before .before .pre .1) (e .from) (e .to) _ _ _ _ _ _ (c .before .before .before .before .before .before .before .before .before .before .before .before .before .before .before .before .before .before .before .before .before .before .before .before .args .at) _ (c .before .before .before .before .before .before .before .before .before .before .before .before .before .before .before .if1 .left) (omega (arith, c .before .before .before .before .before .before .before .before .before .before .before .before .before .before .before .before .before .before .before .before .before .before .before .before .pre .2, e .from, e .to)) (c .before .before .before .before .before .before .before .before .before .before .before .put-corners .ensures .0) (c .before .before .before .before .before .before .before .before .before .before .before .put-corners .ensures .1) (c .before .before .name-corners .ensures) (c .before .before .before .before .before .before .before .before .before .before .before .put-corners .ensures .2) refl
 
 pub one-face-spec : {M : Type 1} → statement M
 one-face-spec =
