@@ -2,7 +2,7 @@
 use mathlib.Core.Path.{_≡_, refl, sym, ap, _∙_, subst}
 use mathlib.Core.Bool.{Bool, true, false, cond}
 use mathlib.Core.List.{List, [], _∷_, _++_}
-use Prim.Native.Nat.{ℕ, suc, _+_, _*_, _-_, _≤_, _<_, suc-le-suc}
+use Prim.Native.Nat.{ℕ, suc, _+_, _*_, _≤_, _<_, suc-le-suc}
 use native.Mathlib.Nat.{zero-lt-suc}
 use native.Mathlib.Numerals.{add-one}
 use native.Mathlib.Omega.{arith}
@@ -10,17 +10,20 @@ use borrow.Author.Tests.{eq-eqb, ne-eqb}
 use lib.Dec.{T}
 use lib.ListN.{length, getD, set, take, drop, length-append, length-set}
 use lib.Seq.{sets, getD-append-seam, take-set-le}
+use Rattle.block.specs.declared.number.VertexNumber.{VertexNumber}
 use Rattle.mesh.specs.Lists.{has, place, meet, firsts}
 use Rattle.mesh.specs.Vertices.{Key, sameKey}
 use Rattle.mesh.proofs.Lists.{All-append, All-getD, T-true, has-getD, firsts-distinct, meet-old, meet-new}
 use Rattle.mesh.proofs.Keys.{sameKey-sound, sameKey-self}
 use Rattle.vertices.specs.declared.places.Widths.{Widths}
 use Rattle.vertices.specs.declared.places.Chains.{Chains}
+use Rattle.vertices.specs.declared.search.Known.{Known}
+use Rattle.vertices.specs.declared.search.Known.the-variants.{At, Nowhere}
 use Rattle.tables.specs.Kept.{seg}
 use Rattle.vertices.specs.Places.{Store, Roomy, Laid, Room}
 use Rattle.vertices.specs.Search.{two, three, four, keyAt, cornerKey, placeOf, Chained}
 use Rattle.vertices.specs.Adding.{linked, Appended, positionOf, normalOf, colourOf, textureOf, trimmed, Holds, pointsIn, countAfter, Vertexed}
-use Rattle.vertices.proofs.Seek.{seek-le, seek-hit, seek-absent}
+use Rattle.vertices.proofs.Seek.{upTo, seek-le, seek-hit, seek-absent}
 use Rattle.vertices.proofs.Keys.{corner-normal, corner-colour, corner-texture, corner-trim}
 use Rattle.vertices.proofs.Chains.{chain-grow}
 use Rattle.vertices.proofs.Rows.{row-at, row-grow, source-at, source-grow, position-wide, normal-wide, colour-wide, texture-wide, point-words}
@@ -34,6 +37,11 @@ has-none k d (x ∷ ks) h =
     let a : sameKey k x ≡ false = h 0 (zero-lt-suc (length ks)) in
     rw a (has-none k d ks (λ i b. h (suc i) (suc-le-suc b)))
 
+-- a vertex that the search finds is one of the n
+place-below : (w : Widths) (s : Store) (n : ℕ) (k : Key) (i : VertexNumber) → placeOf w s n k ≡ At i → i .0 < n
+unfolding placeOf upTo
+place-below w s n k i f = subst (λ (x : Known). upTo x ≤ n) f (seek-le (λ i. sameKey k (keyAt w s i)) n)
+
 module _ (w : Widths) (pts : List ℕ) (z : Store) (x₀ : List ℕ) (s : Store) (x : List ℕ) (ks : List Key) (H : Holds w pts z x₀ s x ks)
     (W : (w .normal ≤ 3) × (w .colour ≤ 4) × (w .texture ≤ 2)) where
   held-key : (i : ℕ) (d : Key) → i < length ks → keyAt w s i ≡ getD ks i d
@@ -46,25 +54,22 @@ module _ (w : Widths) (pts : List ℕ) (z : Store) (x₀ : List ℕ) (s : Store)
       (λ j. record { point = a j; normal = three (b j); colour = four (c j); texture = two (e j) })
       ∙ All-getD (λ (k : Key). trimmed w k ≡ k) ks (H .trim) d i l
 
-  module _ (k : Key) (n p : ℕ) (e : length ks ≡ n) (f : p ≡ placeOf w s n k) where
-    pub held-old : 0 < p → (has sameKey k ks ≡ true) × (place sameKey k ks ≡ p - 1)
+  module _ (k : Key) (n : ℕ) (e : length ks ≡ n) where
+    pub held-old : (i : VertexNumber) → placeOf w s n k ≡ At i → (has sameKey k ks ≡ true) × (place sameKey k ks ≡ i .0)
     unfolding placeOf
-    held-old h =
+    held-old i f =
         let q : ℕ → Bool = λ i. sameKey k (keyAt w s i) in
-        let b : p ≤ n = rw f (seek-le q n) in
-        let l : p - 1 < length ks = omega arith in
-        let t : q (p - 1) ≡ true = subst (λ (u : ℕ). q (u - 1) ≡ true) (sym f) (seek-hit q n (subst (λ (u : ℕ). 0 < u) f h)) in
-        let y : k ≡ getD ks (p - 1) k = sameKey-sound k (getD ks (p - 1) k) (subst (λ (c : Bool). T c) (sym (ap (sameKey k) (sym (held-key (p - 1) k l)) ∙ t)) tt) in (
-          T-true _ (subst (λ (c : Key). T (has sameKey c ks)) (sym y) (has-getD sameKey sameKey-self ks (p - 1) k l)),
-          ap (λ (c : Key). place sameKey c ks) y ∙ H .distinct (p - 1) k l,
+        let l : i .0 < length ks = rw e (place-below w s n k i f) in
+        let y : k ≡ getD ks (i .0) k = sameKey-sound k (getD ks (i .0) k) (subst (λ (c : Bool). T c) (sym (ap (sameKey k) (sym (held-key (i .0) k l)) ∙ seek-hit q n i f)) tt) in (
+          T-true _ (subst (λ (c : Key). T (has sameKey c ks)) (sym y) (has-getD sameKey sameKey-self ks (i .0) k l)),
+          ap (λ (c : Key). place sameKey c ks) y ∙ H .distinct (i .0) k l,
         )
 
-    pub held-new : p ≤ 0 → has sameKey k ks ≡ false
+    pub held-new : placeOf w s n k ≡ Nowhere → has sameKey k ks ≡ false
     unfolding placeOf
-    held-new h =
+    held-new f =
         let q : ℕ → Bool = λ i. sameKey k (keyAt w s i) in
-        let a : p ≡ 0 = omega arith in
-        has-none k k ks (λ i b. ap (sameKey k) (sym (held-key i k b)) ∙ seek-absent q n i (sym f ∙ a) (rw (← e) b))
+        has-none k k ks (λ i b. ap (sameKey k) (sym (held-key i k b)) ∙ seek-absent q n i f (rw (← e) b))
 
 -- ---- meeting a key
 
@@ -107,22 +112,18 @@ linked-length t m n v =
     let old = getD m (t .heads + v) 0 in
     length-set (set m (t .nexts + n) old) (t .heads + v) (n + 1) ∙ length-set m (t .nexts + n) old
 
-place-le : (w : Widths) (s : Store) (n : ℕ) (k : Key) → placeOf w s n k ≤ n
-unfolding placeOf
-place-le w s n k = seek-le (λ i. sameKey k (keyAt w s i)) n
-
 pub laid-le : {t : Chains} {len n : ℕ} (m : ℕ) → Laid t len n → m ≤ n → Laid t len m
 laid-le {t} {len} {n} m L h = record { some = L .some; points = L .points; heads = L .heads; nexts = omega (arith, L .nexts) }
 
-pub vertexed-old : (w : Widths) (t : Chains) (n : ℕ) (k : Key) (s : Store) (x m : List ℕ) (p : ℕ) → Roomy w s (n + 1)
-    → Chained t (s .sources) m n → p ≡ placeOf w s n k → 0 < p → Vertexed w t n k s x m s x m (p - 1)
-vertexed-old w t n k s x m p R C f h =
+pub vertexed-old : (w : Widths) (t : Chains) (n : ℕ) (k : Key) (s : Store) (x m : List ℕ) (i : VertexNumber) → Roomy w s (n + 1)
+    → Chained t (s .sources) m n → placeOf w s n k ≡ At i → Vertexed w t n k s x m s x m (i .0)
+vertexed-old w t n k s x m i R C f =
     record {
-      number = λ z x₀ ks H e. let a = held-old w (pointsIn t m) z x₀ s x ks H (R .widths) k n p e f h in
+      number = λ z x₀ ks H e. let a = held-old w (pointsIn t m) z x₀ s x ks H (R .widths) k n e i f in
           sym (ap (place sameKey k) (meet-old sameKey k ks (a .0)) ∙ a .1);
-      holds = λ z x₀ ks H e. let a = held-old w (pointsIn t m) z x₀ s x ks H (R .widths) k n p e f h in
+      holds = λ z x₀ ks H e. let a = held-old w (pointsIn t m) z x₀ s x ks H (R .widths) k n e i f in
           subst (Holds w (pointsIn t m) z x₀ s x) (sym (meet-old sameKey k ks (a .0))) H;
-      chained = subst (Chained t (s .sources) m) (count-same n (p - 1) (omega (arith, place-le w s n k))) C;
+      chained = subst (Chained t (s .sources) m) (count-same n (i .0) (place-below w s n k i f)) C;
       front = refl;
       len = refl;
     }
@@ -160,14 +161,13 @@ module _ (w : Widths) (t : Chains) (n v : ℕ) (l : List ℕ) (s : Store) (x m :
         distinct = D;
       }
 
-  pub vertexed-new : (p : ℕ) → Chained t (s .sources) m n → p ≡ placeOf w s n (cornerKey w v l) → p ≤ 0
-      → Vertexed w t n (cornerKey w v l) s x m s′ x′ m′ n
+  pub vertexed-new : Chained t (s .sources) m n → placeOf w s n (cornerKey w v l) ≡ Nowhere → Vertexed w t n (cornerKey w v l) s x m s′ x′ m′ n
   unfolding k
-  vertexed-new p C f h =
+  vertexed-new C f =
       let L = R .laid in
       record {
-        number = λ z x₀ ks H e. sym (place-new ks k (H .distinct) (held-new w (pointsIn t m) z x₀ s x ks H W k n p e f h) ∙ e);
-        holds = λ z x₀ ks H e. let a = meet-new sameKey k ks (held-new w (pointsIn t m) z x₀ s x ks H W k n p e f h) in
+        number = λ z x₀ ks H e. sym (place-new ks k (H .distinct) (held-new w (pointsIn t m) z x₀ s x ks H W k n e f) ∙ e);
+        holds = λ z x₀ ks H e. let a = meet-new sameKey k ks (held-new w (pointsIn t m) z x₀ s x ks H W k n e f) in
             subst (Holds w (pointsIn t m) z x₀ s′ x′) (sym a) (held-grow z x₀ ks H e (subst Own a (own-meet ks k (H .distinct))));
         chained = rw (A .sources, A .table, ← count-more n) (chain-grow t (s .sources) m n v C L b (omega (arith, R .roomy .sources)));
         front = ap (take (t .heads)) (A .table) ∙ linked-front t m n v (omega arith);

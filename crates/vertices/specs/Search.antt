@@ -11,6 +11,8 @@ use Rattle.bits.specs.declared.Words4.{Words4}
 use Rattle.mesh.specs.Vertices.{Key, sameKey}
 use Rattle.vertices.specs.declared.places.Widths.{Widths}
 use Rattle.vertices.specs.declared.places.Chains.{Chains}
+use Rattle.vertices.specs.declared.search.Known.{Known}
+use Rattle.vertices.specs.declared.search.Known.the-variants.{At, Nowhere}
 use Rattle.tables.specs.Kept.{seg}
 use Rattle.vertices.specs.Places.{Store}
 
@@ -39,20 +41,25 @@ unfoldable pub cornerKey : Widths → ℕ → List ℕ → Key
 cornerKey w v l =
     record { point = v; normal = three (seg l 0 (w .normal)); colour = four (seg l 3 (w .colour)); texture = two (seg l 7 (w .texture)) }
 
--- one more than the greatest number below n that passes the test, 0 where none does
-unfoldable pub seek : (ℕ → Bool) → ℕ → ℕ
-seek p zero = 0
-seek p (suc n) = let r = seek p n in cond (p n) (suc n) r
+-- the vertex that a word of a chain names: one more than its number, 0 for none
+unfoldable pub knownBy : ℕ → Known
+knownBy zero = Nowhere
+knownBy (suc i) = At (record { 0 = i })
 
--- one more than the number of key k among the first n vertices, 0 for none
-unfoldable pub placeOf : Widths → Store → ℕ → Key → ℕ
+-- the greatest number below n that passes the test
+unfoldable pub seek : (ℕ → Bool) → ℕ → Known
+seek p zero = Nowhere
+seek p (suc n) = let r = seek p n in cond (p n) (At (record { 0 = n })) r
+
+-- FORMAT 11: the vertex among the first n that has key k
+unfoldable pub placeOf : Widths → Store → ℕ → Key → Known
 placeOf w s n k = seek (λ i. sameKey k (keyAt w s i)) n
 
--- one more than the last of the first n vertices that is made of point v, 0 for none; s the sources
-unfoldable pub lastAt : List ℕ → ℕ → ℕ → ℕ
+-- the last of the first n vertices that is made of point v; s the sources
+unfoldable pub lastAt : List ℕ → ℕ → ℕ → Known
 lastAt s n v = seek (λ i. eqb v (getD s i 0)) n
 
 -- of each point the last of the n vertices made of it, and of each vertex the last before it of the same point
 pub record Chained (t : Chains) (s m : List ℕ) (n : ℕ) : Type 0 where
-  pub heads : (v : ℕ) → v < t .spots → getD m (t .heads + v) 0 ≡ lastAt s n v
-  pub nexts : (i : ℕ) → i < n → getD m (t .nexts + i) 0 ≡ lastAt s i (getD s i 0)
+  pub heads : (v : ℕ) → v < t .spots → knownBy (getD m (t .heads + v) 0) ≡ lastAt s n v
+  pub nexts : (i : ℕ) → i < n → knownBy (getD m (t .nexts + i) 0) ≡ lastAt s i (getD s i 0)

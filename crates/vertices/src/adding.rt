@@ -9,7 +9,9 @@ ghost use Rattle.vertices.specs.Adding.{linked, Appended, Ready, Vertexe
 use crate::parts::put_row;
 use crate::places::Chains;
 use crate::places::Widths;
+use crate::search::Known;
 use crate::search::find;
+use crate::search::word_of;
 use block::PointNumber;
 use block::VertexNumber;
 use tables::narrow;
@@ -22,7 +24,7 @@ pub fn link(work: &mut [u32], t: Chains, n: VertexNumber, v: PointNumber)
     let head = t.heads + v.0;
     let next = t.nexts + n.0;
     work[next] = work[head];
-    work[head] = narrow(n.0 + 1);
+    work[head] = word_of(n);
 }
 
 // Vertex n is made: of point v, with the words key of a corner.
@@ -74,21 +76,20 @@ pub fn vertex(
         (record { sources = now (sources .entry); normals = now (normals .entry); colours = now (colours .entry); textures = now (textures .entry) }) (now (positions .entry)) (now (work .entry))
         (record { sources = now (sources .exit); normals = now (normals .exit); colours = now (colours .exit); textures = now (textures .exit) }) (now (positions .exit)) (now (work .exit)) (r .0) ⌝ }
 {
-    let c = n.0;
-    let x = find(
+    let known = find(
         sources,
         normals,
         colours,
         textures,
         w,
-        c,
+        n,
         point,
         key,
         work,
         t,
     );
-    if 0 < x {
-        return VertexNumber(x - 1);
+    if let Known::At(i) = known {
+        return i;
     }
     append(
         sources,

@@ -23,11 +23,8 @@ mul-work-2 c = search needs
 slice-write-work : tie.Need-slice-write-work
 slice-write-work c = search needs
 
-add-narrow : tie.Need-add-narrow
-add-narrow c = search needs
-
-narrow-requires : tie.Need-narrow-requires
-narrow-requires c κs = search needs
+word-of-requires : tie.Need-word-of-requires
+word-of-requires c κs = search needs
 
 mul-work-3 : tie.Need-mul-work-3
 mul-work-3 c = search needs
@@ -40,7 +37,7 @@ same-length c = search needs
 
 returns : tie.Need-returns
 unfolding linked
-returns c = rw (c .narrow .ensures)
+returns c = rw (c .word-of .ensures)
 
 pub link-spec : {M : Type 1} → statement M
 link-spec =
@@ -52,8 +49,7 @@ link-spec =
     slice-read-work
     mul-work-2
     slice-write-work
-    add-narrow
-    narrow-requires
+    word-of-requires
     mul-work-3
     slice-write-work-2
     same-length

@@ -1,4 +1,4 @@
-use Prim.Native.Nat.{_≤_, _<_}
+use mathlib.Core.Path.{sym, _∙_}
 use native.Mathlib.Omega.{arith}
 use Rattle.vertices.proofs.Keys.{roomy-le}
 use Rattle.vertices.proofs.Held.{laid-le, vertexed-old, vertexed-new}
@@ -11,8 +11,8 @@ find-requires c κs =
     let P = c .before .before .before .before .before .before .before .before .before .before .before .before .pre in
     (roomy-le _ (P .room .roomy) (omega arith), P .words, laid-le _ (P .room .laid) (omega arith), P .chained, P .point)
 
-sub-t25 : tie.Need-sub-t25
-sub-t25 c = search needs
+enum-known-known : tie.Need-enum-known-known
+enum-known-known c = search needs
 
 same-length : tie.Need-same-length
 same-length c = search needs
@@ -31,9 +31,11 @@ same-length-5 c = search needs
 
 returns : tie.Need-returns
 returns c =
-    let P = c .before .before .before .before .before .before .before .before .before .before .before .before .before .before .pre in
-    let h : 0 < c .before .find .result = omega (arith, c .if1 .taken) in
-    vertexed-old _ _ _ _ _ _ _ _ (P .room .roomy) (P .chained) (c .before .find .ensures) h
+    let P = c .before .before .before .before .before .before .before .before .before .before .before .before .before .before .before .before .pre in
+    vertexed-old _ _ _ _ _ _ _ _ (P .room .roomy) (P .chained) (sym (c .before .before .before .find .ensures) ∙ c .before .known .given .1)
+
+enum-told : tie.Need-enum-told
+enum-told c = search needs
 
 append-requires : tie.Need-append-requires
 append-requires c κs = search needs
@@ -58,22 +60,22 @@ same-length-11 c = search needs
 
 returns-2 : tie.Need-returns-2
 returns-2 c =
-    let P = c .before .before .before .before .before .before .before .before .before .before .before .before .before .before .before .before .before .before .before .before .before .before .before .before .before .before .before .before .before .before .before .before .before .pre in
-    let h : c .before .before .before .before .before .before .before .before .before .before .before .before .before .before .before .before .before .before .before .before .find .result ≤ 0 = omega (arith, c .before .before .before .before .before .before .before .before .before .before .before .before .before .before .before .before .before .before .before .if1 .left) in
-    vertexed-new _ _ _ _ _ _ _ _ _ _ _ (P .room) (P .point) (P .words) (c .before .before .before .before .before .before .before .before .before .before .before .before .append .ensures) _ (P .chained) (c .before .before .before .before .before .before .before .before .before .before .before .before .before .before .before .before .before .before .before .before .find .ensures) h
+    let P = c .before .before .before .before .before .before .before .before .before .before .before .before .before .before .before .before .before .before .before .before .before .before .before .before .before .before .before .before .before .before .before .before .before .before .pre in
+    vertexed-new _ _ _ _ _ _ _ _ _ _ _ (P .room) (P .point) (P .words) (c .before .before .before .before .before .before .before .before .before .before .before .before .append .ensures) (P .chained) (sym (c .before .before .before .before .before .before .before .before .before .before .before .before .before .before .before .before .before .before .before .before .before .find .ensures) ∙ c .before .before .before .before .before .before .before .before .before .before .before .before .before .before .before .before .before .before .before .enum-told .given .1)
 
 pub vertex-spec : {M : Type 1} → statement M
 vertex-spec =
     tie.close
     (tie.spec
     find-requires
-    sub-t25
+    enum-known-known
     same-length
     same-length-2
     same-length-3
     same-length-4
     same-length-5
     returns
+    enum-told
     append-requires
     same-length-6
     same-length-7
