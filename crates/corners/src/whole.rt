@@ -87,9 +87,9 @@ pub fn all_vertices<'a>(
 {
     fill(work, t.heads, t.spots, 0);
     let mut n = VertexNumber(0);
-    let mut c = 0;
-    while c < t.count {
-        let key = key_of(block, coord, a, floats, work, t, CornerNumber(c));
+    let mut c = CornerNumber(0);
+    while c.0 < t.count {
+        let key = key_of(block, coord, a, floats, work, t, c);
         n = number_corner(
             sources,
             positions,
@@ -100,10 +100,10 @@ pub fn all_vertices<'a>(
             w,
             t,
             n,
-            CornerNumber(c),
+            c,
             &key,
         );
-        c += 1;
+        c = CornerNumber(c.0 + 1);
     }
     n
 }

@@ -8,11 +8,11 @@ use Rattle.corners.proofs.whole.all_vertices.Tie as tie
 abbrev Inv-loop : tie.InvT-loop
 Inv-loop block coord a floats sources₀ positions₀ normals₀ colours₀ textures₀ work₀ w t n₀ c₀ sources positions normals colours textures work n c =
     Turning (record { block = block; coord = coord; floats = floats }) a w t
-    (record { sources = sources₀; normals = normals₀; colours = colours₀; textures = textures₀ }) positions₀ work₀ c (n .0)
+    (record { sources = sources₀; normals = normals₀; colours = colours₀; textures = textures₀ }) positions₀ work₀ (c .0) (n .0)
     (record { sources = sources; normals = normals; colours = colours; textures = textures }) positions work
 
 abbrev μ-loop : tie.MeasureT-loop
-μ-loop block coord a floats sources₀ positions₀ normals₀ colours₀ textures₀ work₀ w t n₀ c₀ sources positions normals colours textures work n c = t .count - c
+μ-loop block coord a floats sources₀ positions₀ normals₀ colours₀ textures₀ work₀ w t n₀ c₀ sources positions normals colours textures work n c = t .count - c .0
 
 fill-requires : tie.Need-fill-requires Inv-loop μ-loop
 fill-requires c κs = let Q = c .before .before .before .before .before .before .before .before .before .before .pre .laid in omega arith
@@ -21,43 +21,43 @@ loop-holds : tie.Need-loop-holds Inv-loop μ-loop
 loop-holds c = turned-start
 
 key-of-requires : tie.Need-key-of-requires Inv-loop μ-loop
-key-of-requires c κs = (turned-laid (c .before .before .before .loop .inv _ (c .before .before .before .before .before .before .fill .ensures) (c .before .before .before .before .before .before .before .before .before .before .before .before .before .before .before .before .before .pre)), c .before .if1 .taken, c .before .before .before .before .before .before .before .before .before .before .before .before .before .before .before .before .before .pre .floats)
+key-of-requires c κs = (turned-laid (c .before .before .before .before .loop .inv _ (c .before .before .before .before .before .before .before .fill .ensures) (c .before .before .before .before .before .before .before .before .before .before .before .before .before .before .before .before .before .before .pre)), c .before .if1 .taken, c .before .before .before .before .before .before .before .before .before .before .before .before .before .before .before .before .before .before .pre .floats)
 
 slice-aggregate-number-corner : tie.Need-slice-aggregate-number-corner Inv-loop μ-loop
 slice-aggregate-number-corner c = search needs
 
 number-corner-requires : tie.Need-number-corner-requires Inv-loop μ-loop
-number-corner-requires c κs = let U = c .before .before .before .before .before .before .before .before .before .before .before .loop .inv _ (c .before .before .before .before .before .before .before .before .before .before .before .before .before .before .fill .ensures) (c .before .before .before .before .before .before .before .before .before .before .before .before .before .before .before .before .before .before .before .before .before .before .before .before .before .pre) in (turned-ready U (c .before .before .before .before .before .before .before .before .before .if1 .taken) _ (search needs), turned-laid U, c .before .before .before .before .before .before .before .before .before .if1 .taken)
+number-corner-requires c κs = let U = c .before .before .before .before .before .before .before .before .before .before .before .before .loop .inv _ (c .before .before .before .before .before .before .before .before .before .before .before .before .before .before .before .fill .ensures) (c .before .before .before .before .before .before .before .before .before .before .before .before .before .before .before .before .before .before .before .before .before .before .before .before .before .before .pre) in (turned-ready U (c .before .before .before .before .before .before .before .before .before .if1 .taken) _ (search needs), turned-laid U, c .before .before .before .before .before .before .before .before .before .if1 .taken)
 
-add-c : tie.Need-add-c Inv-loop μ-loop
-add-c c = search needs
+add-t37 : tie.Need-add-t37 Inv-loop μ-loop
+add-t37 c = search needs
 
 loop-less : tie.Need-loop-less Inv-loop μ-loop
 loop-less c = search needs
 
 loop-again : tie.Need-loop-again Inv-loop μ-loop
-loop-again c = λ l F R. turned-next (c .before .before .before .before .before .before .before .before .before .before .before .before .before .before .before .before .before .before .before .before .before .before .before .before .loop .inv l F R) (c .before .before .before .before .before .before .before .before .before .before .before .before .before .before .before .before .before .before .before .before .before .before .if1 .taken) (rw (c .before .before .before .before .before .before .before .before .before .before .before .before .before .before .before .before .before .before .before .before .key-of .ensures) at (c .before .before .before .before .before .before .before .before .before .before .before .before .number-corner .ensures))
+loop-again c = λ l F R. turned-next (c .before .before .before .before .before .before .before .before .before .before .before .before .before .before .before .before .before .before .before .before .before .before .before .before .before .before .loop .inv l F R) (c .before .before .before .before .before .before .before .before .before .before .before .before .before .before .before .before .before .before .before .before .before .before .before .if1 .taken) (rw (c .before .before .before .before .before .before .before .before .before .before .before .before .before .before .before .before .before .before .before .before .before .key-of .ensures) at (c .before .before .before .before .before .before .before .before .before .before .before .before .before .number-corner .ensures))
 
 same-length : tie.Need-same-length Inv-loop μ-loop
-same-length c = turned-lengths (c .before .before .loop .inv _ (c .before .before .before .before .before .fill .ensures) (c .before .before .before .before .before .before .before .before .before .before .before .before .before .before .before .before .pre)) .sources
+same-length c = turned-lengths (c .before .before .before .loop .inv _ (c .before .before .before .before .before .before .fill .ensures) (c .before .before .before .before .before .before .before .before .before .before .before .before .before .before .before .before .before .pre)) .sources
 
 same-length-2 : tie.Need-same-length-2 Inv-loop μ-loop
-same-length-2 c = turned-lengths (c .before .before .loop .inv _ (c .before .before .before .before .before .fill .ensures) (c .before .before .before .before .before .before .before .before .before .before .before .before .before .before .before .before .pre)) .positions
+same-length-2 c = turned-lengths (c .before .before .before .loop .inv _ (c .before .before .before .before .before .before .fill .ensures) (c .before .before .before .before .before .before .before .before .before .before .before .before .before .before .before .before .before .pre)) .positions
 
 same-length-3 : tie.Need-same-length-3 Inv-loop μ-loop
-same-length-3 c = turned-lengths (c .before .before .loop .inv _ (c .before .before .before .before .before .fill .ensures) (c .before .before .before .before .before .before .before .before .before .before .before .before .before .before .before .before .pre)) .normals
+same-length-3 c = turned-lengths (c .before .before .before .loop .inv _ (c .before .before .before .before .before .before .fill .ensures) (c .before .before .before .before .before .before .before .before .before .before .before .before .before .before .before .before .before .pre)) .normals
 
 same-length-4 : tie.Need-same-length-4 Inv-loop μ-loop
-same-length-4 c = turned-lengths (c .before .before .loop .inv _ (c .before .before .before .before .before .fill .ensures) (c .before .before .before .before .before .before .before .before .before .before .before .before .before .before .before .before .pre)) .colours
+same-length-4 c = turned-lengths (c .before .before .before .loop .inv _ (c .before .before .before .before .before .before .fill .ensures) (c .before .before .before .before .before .before .before .before .before .before .before .before .before .before .before .before .before .pre)) .colours
 
 same-length-5 : tie.Need-same-length-5 Inv-loop μ-loop
-same-length-5 c = turned-lengths (c .before .before .loop .inv _ (c .before .before .before .before .before .fill .ensures) (c .before .before .before .before .before .before .before .before .before .before .before .before .before .before .before .before .pre)) .textures
+same-length-5 c = turned-lengths (c .before .before .before .loop .inv _ (c .before .before .before .before .before .before .fill .ensures) (c .before .before .before .before .before .before .before .before .before .before .before .before .before .before .before .before .before .pre)) .textures
 
 same-length-6 : tie.Need-same-length-6 Inv-loop μ-loop
-same-length-6 c = (c .before .before .loop .inv _ (c .before .before .before .before .before .fill .ensures) (c .before .before .before .before .before .before .before .before .before .before .before .before .before .before .before .before .pre)) .made .len
+same-length-6 c = (c .before .before .before .loop .inv _ (c .before .before .before .before .before .before .fill .ensures) (c .before .before .before .before .before .before .before .before .before .before .before .before .before .before .before .before .before .pre)) .made .len
 
 returns : tie.Need-returns Inv-loop μ-loop
-returns c = turned-all (c .before .before .loop .inv _ (c .before .before .before .before .before .fill .ensures) (c .before .before .before .before .before .before .before .before .before .before .before .before .before .before .before .before .pre)) (omega (arith, c .if1 .left))
+returns c = turned-all (c .before .before .before .loop .inv _ (c .before .before .before .before .before .before .fill .ensures) (c .before .before .before .before .before .before .before .before .before .before .before .before .before .before .before .before .before .pre)) (omega (arith, c .if1 .left))
 
 pub all-vertices-spec : {M : Type 1} → statement M
 all-vertices-spec =
@@ -70,7 +70,7 @@ all-vertices-spec =
     key-of-requires
     slice-aggregate-number-corner
     number-corner-requires
-    add-c
+    add-t37
     loop-less
     loop-again
     same-length
