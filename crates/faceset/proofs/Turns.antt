@@ -41,17 +41,17 @@ module _ {w : List ℕ} {t : Plan} {ls : List Listing} {g c : ℕ} (M : ListedTo
   corner-below : (j i : ℕ) → j < g → i < length (usesAt ls j) → startIn w t j + i < c
   corner-below j i h b = let q : suc j + (g - suc j) ≡ g = omega arith in omega (arith, M .starts j h, start-below (g - suc j) (suc j) q)
 
-module _ {t : Plan} {p : Progress} {es w w′ : List ℕ} {ls : List Listing} (M : ListedTo w t ls (p .faces) (p .corners)) (A : FaceAdded t p es w w′)
+module _ {t : Plan} {p : Progress} {es w w′ : List ℕ} {ls : List Listing} (M : ListedTo w t ls (p .faces) (p .corner .0)) (A : FaceAdded t p es w w′)
     (here : getD ls (p .faces) noListing ≡ listingOf (p .runs) (runOf (p .start) es)) (points : (k : ℕ) → k < length es → getD es k 0 < t .spots) where
   start-old : (j : ℕ) → j < suc (p .faces) → startIn w′ t j ≡ startIn w t j
   unfolding startIn
   start-old j h = A .starts .old .at j h
 
-  start-new : startIn w′ t (suc (p .faces)) ≡ p .corners + length es
+  start-new : startIn w′ t (suc (p .faces)) ≡ p .corner .0 + length es
   unfolding startIn
   start-new = one-more (A .starts)
 
-  start-here : startIn w′ t (p .faces) ≡ p .corners
+  start-here : startIn w′ t (p .faces) ≡ p .corner .0
   start-here = start-old (p .faces) (omega arith) ∙ M .last
 
   number-old : (j : ℕ) → j < p .faces → numberIn w′ t j ≡ numberIn w t j
@@ -62,19 +62,19 @@ module _ {t : Plan} {p : Progress} {es w w′ : List ℕ} {ls : List Listing} (M
   unfolding numberIn
   number-new = one-more (A .numbers)
 
-  point-old : (k : ℕ) → k < p .corners → pointIn w′ t k ≡ pointIn w t k
+  point-old : (k : ℕ) → k < p .corner .0 → pointIn w′ t k ≡ pointIn w t k
   unfolding pointIn
   point-old k h = A .points .old .at k h
 
-  point-new : (i : ℕ) → i < length es → pointIn w′ t (p .corners + i) ≡ getD es i 0
+  point-new : (i : ℕ) → i < length es → pointIn w′ t (p .corner .0 + i) ≡ getD es i 0
   unfolding pointIn
   point-new i h = more-at (A .points) i h
 
-  place-old : (k : ℕ) → k < p .corners → placeIn w′ t k ≡ placeIn w t k
+  place-old : (k : ℕ) → k < p .corner .0 → placeIn w′ t k ≡ placeIn w t k
   unfolding placeIn
   place-old k h = A .places .old .at k h
 
-  place-new : (i : ℕ) → i < length es → placeIn w′ t (p .corners + i) ≡ p .start + i
+  place-new : (i : ℕ) → i < length es → placeIn w′ t (p .corner .0 + i) ≡ p .start + i
   unfolding placeIn
   place-new i h = more-at (A .places) i h
 
@@ -87,21 +87,21 @@ module _ {t : Plan} {p : Progress} {es w w′ : List ℕ} {ls : List Listing} (M
   use-here : (i : ℕ) → i < length es → getD (usesAt ls (p .faces)) i noUse ≡ useOf (p .start + i) (getD es i 0)
   use-here i h = ap (λ (l : List Use). getD l i noUse) uses-here ∙ getD-mapN useOf (p .start) es i noUse 0 h
 
-  point-within : (k : ℕ) → k < p .corners + length es → pointIn w′ t k < t .spots
-  point-within k h = go (ltb k (p .corners)) refl
+  point-within : (k : ℕ) → k < p .corner .0 + length es → pointIn w′ t k < t .spots
+  point-within k h = go (ltb k (p .corner .0)) refl
     where
-      go : (b : Bool) → ltb k (p .corners) ≡ b → pointIn w′ t k < t .spots
-      go true q = let l = ltb-true k (p .corners) q in rw (point-old k l) (M .within k l)
+      go : (b : Bool) → ltb k (p .corner .0) ≡ b → pointIn w′ t k < t .spots
+      go true q = let l = ltb-true k (p .corner .0) q in rw (point-old k l) (M .within k l)
       go false q =
-          let l = ltb-false k (p .corners) q in
-          let b : k - p .corners < length es = omega arith in
-          let e : p .corners + (k - p .corners) ≡ k = omega arith in
-          subst (λ (m : ℕ). m < t .spots) (sym (point-new (k - p .corners) b) ∙ ap (pointIn w′ t) e) (points (k - p .corners) b)
+          let l = ltb-false k (p .corner .0) q in
+          let b : k - p .corner .0 < length es = omega arith in
+          let e : p .corner .0 + (k - p .corner .0) ≡ k = omega arith in
+          subst (λ (m : ℕ). m < t .spots) (sym (point-new (k - p .corner .0) b) ∙ ap (pointIn w′ t) e) (points (k - p .corner .0) b)
 
   -- a table of the corners: as it is read, in w and in w′, and the part of a use that it holds
   values-more : (read read′ : ℕ → ℕ) (value : Use → ℕ)
-      → ((k : ℕ) → k < p .corners → read′ k ≡ read k)
-      → ((i : ℕ) → i < length es → read′ (p .corners + i) ≡ value (useOf (p .start + i) (getD es i 0)))
+      → ((k : ℕ) → k < p .corner .0 → read′ k ≡ read k)
+      → ((i : ℕ) → i < length es → read′ (p .corner .0 + i) ≡ value (useOf (p .start + i) (getD es i 0)))
       → ((j i : ℕ) → j < p .faces → i < length (usesAt ls j) → read (startIn w t j + i) ≡ value (getD (usesAt ls j) i noUse))
       → (j i : ℕ) → j < p .faces + 1 → i < length (usesAt ls j) → read′ (startIn w′ t j + i) ≡ value (getD (usesAt ls j) i noUse)
   values-more read read′ value old new all j i h b =
@@ -111,7 +111,7 @@ module _ {t : Plan} {p : Progress} {es w w′ : List ℕ} {ls : List Listing} (M
       let q : i < length es = omega (arith, count-here) in
       ap (λ (a : ℕ). read′ (a + i)) start-here ∙ new i q ∙ sym (ap value (use-here i q))) j h i b
 
-  listed-more : ListedTo w′ t ls (p .faces + 1) (p .corners + length es)
+  listed-more : ListedTo w′ t ls (p .faces + 1) (p .corner .0 + length es)
   listed-more = record {
     first = start-old 0 (omega arith) ∙ M .first;
     starts = below-more _ (p .faces)
@@ -137,7 +137,7 @@ module _ {points : ℕ} {bs w : List ℕ} {t : Plan} {p : Progress} (L : Planned
   left-turn : drop (p .faces) (listingsOf points (entries bs)) ≡ joinN (listed points) (p .runs) (runOf (p .start) (entries r) ∷ runsLeft (entries bs) n)
   left-turn = U .left ∙ runs-turn bs (p .start) r (B .items) n q h (joinN (listed points) (p .runs))
 
-  pub turn-lost : kept points (entries r) ≡ false → Turned points bs w w t p (record { start = n; runs = p .runs + 1; faces = p .faces; corners = p .corners })
+  pub turn-lost : kept points (entries r) ≡ false → Turned points bs w w t p (record { start = n; runs = p .runs + 1; faces = p .faces; corner = p .corner })
   turn-lost e =
       let f = face-lost points (entries r) e in
       let b = B .within in
@@ -177,7 +177,7 @@ module _ {points : ℕ} {bs w : List ℕ} {t : Plan} {p : Progress} (L : Planned
         (omega (arith, ap length left-kept, length-drop (p .faces) (listingsOf points (entries bs))))
 
     pub turn-kept : {w′ : List ℕ} → FaceAdded t p (entries r) w w′
-        → Turned points bs w w′ t p (record { start = n; runs = p .runs + 1; faces = p .faces + 1; corners = p .corners + length r / 4 })
+        → Turned points bs w w′ t p (record { start = n; runs = p .runs + 1; faces = p .faces + 1; corner = record { 0 = p .corner .0 + length r / 4 } })
     turn-kept A =
         let f = face-kept points (entries r) e in
         let l = entries-length r in
@@ -211,7 +211,7 @@ module _ {points : ℕ} {bs : List ℕ} (w : List ℕ) {t : Plan} (L : Planned p
   unfolding startIn
   first-start = let R = L .room in set-hit w (t .starts) 0 (t .starts + 0) (omega arith) (omega arith)
 
-  pub pass-start : Underway points bs (set w (t .starts) 0) t (record { start = 0; runs = 0; faces = 0; corners = 0 })
+  pub pass-start : Underway points bs (set w (t .starts) 0) t (record { start = 0; runs = 0; faces = 0; corner = record { 0 = 0 } })
   unfolding listingsOf
   pass-start = record {
     start = omega arith;
@@ -234,7 +234,7 @@ module _ {points : ℕ} {bs : List ℕ} (w : List ℕ) {t : Plan} (L : Planned p
   unfolding listingsOf
   pass-end {w′} {p} K U h =
       let g = sum-ended (faces points) bs (p .start) (p .faces) (t .faces) h (U .faces) in
-      let c = sum-ended (corners points) bs (p .start) (p .corners) (t .count) h (U .corners) in
+      let c = sum-ended (corners points) bs (p .start) (p .corner .0) (t .count) h (U .corners) in
       let M : ListedTo w′ t (listingsOf points (entries bs)) (t .faces) (t .count) = rw (g, c) at (U .made) in
       record {
         listed = record {

@@ -58,13 +58,6 @@ module _ {a n : ℕ} {xs w w′ : List ℕ} where
         above = W .above;
       }
 
-  pub written-of : Copied a n xs w w′ → Written a n (λ i. getD xs i 0) w w′
-  written-of C = record {
-    kept = C .kept;
-    words = record { at = λ i q. sym (seg-at w′ a n i q) ∙ ap (λ (l : List ℕ). getD l i 0) (C .words) ∙ getD-take n xs i 0 q };
-    above = C .above;
-  }
-
 pub written-one : (w : List ℕ) (a v : ℕ) → a < length w → Written a 1 (λ i. v) w (set w a v)
 written-one w a v h = record {
   kept = kept-set a v kept-all (omega arith);
@@ -117,32 +110,31 @@ one-more {a} {m} {f} {w} {w′} M = ap (λ (i : ℕ). getD w′ (a + i) 0) (sym 
 -- ---- one face: its points, its places, its number, and the first corner after it
 
 module _ (t : Plan) (p : Progress) (r : List ℕ) {u v w : List ℕ} (F : Fits (length u) t p (length r / 4))
-    (C : Copied (t .corners + p .corners) (length r / 4) (entries r) u v)
-    (P : Written (t .places + p .corners) (length r / 4) (λ i. p .start + i) v w) where
-  row-added : FaceAdded t p (entries r) u (set (set w (t .numbers + p .faces) (p .runs)) (t .starts + suc (p .faces)) (p .corners + length r / 4))
+    (W : Written (t .corners + p .corner .0) (length r / 4) (λ i. getD (entries r) i 0) u v)
+    (P : Written (t .places + p .corner .0) (length r / 4) (λ i. p .start + i) v w) where
+  row-added : FaceAdded t p (entries r) u (set (set w (t .numbers + p .faces) (p .runs)) (t .starts + suc (p .faces)) (p .corner .0 + length r / 4))
   row-added =
       let R = F .room in
       let fc = F .corners in
       let ff = F .face in
       let n = length r / 4 in
       let l : length (entries r) ≡ n = entries-length r in
-      let lv = C .kept .len in
+      let lv = W .kept .len in
       let lw = P .kept .len in
-      let W = written-of C in
       let N = written-one w (t .numbers + p .faces) (p .runs) (omega arith) in
       let ln = N .kept .len in
-      let S = written-one (set w (t .numbers + p .faces) (p .runs)) (t .starts + suc (p .faces)) (p .corners + n) (omega arith) in
+      let S = written-one (set w (t .numbers + p .faces) (p .runs)) (t .starts + suc (p .faces)) (p .corner .0 + n) (omega arith) in
       record {
         kept = kept-then (kept-then (kept-then (kept-less (W .kept) (omega arith)) (P .kept) (omega arith)) (N .kept) (omega arith)) (S .kept) (omega arith);
-        points = rw l (more-before (more-before (more-before (more-of W) (below P (t .corners) (p .corners + n) (omega arith)))
-            (below N (t .corners) (p .corners + n) (omega arith))) (below S (t .corners) (p .corners + n) (omega arith)));
-        places = rw l (more-after (beyond W (t .places) (p .corners) (omega arith)) (more-before (more-before (more-of P)
-            (below N (t .places) (p .corners + n) (omega arith))) (beyond S (t .places) (p .corners + n) (omega arith))));
+        points = rw l (more-before (more-before (more-before (more-of W) (below P (t .corners) (p .corner .0 + n) (omega arith)))
+            (below N (t .corners) (p .corner .0 + n) (omega arith))) (below S (t .corners) (p .corner .0 + n) (omega arith)));
+        places = rw l (more-after (beyond W (t .places) (p .corner .0) (omega arith)) (more-before (more-before (more-of P)
+            (below N (t .places) (p .corner .0 + n) (omega arith))) (beyond S (t .places) (p .corner .0 + n) (omega arith))));
         numbers = more-after (beyond W (t .numbers) (p .faces) (omega arith)) (more-after (beyond P (t .numbers) (p .faces) (omega arith))
             (more-before (more-of N) (beyond S (t .numbers) (p .faces + 1) (omega arith))));
         starts = rw l (more-after (beyond W (t .starts) (suc (p .faces)) (omega arith)) (more-after (below P (t .starts) (suc (p .faces)) (omega arith))
             (more-after (below N (t .starts) (suc (p .faces)) (omega arith)) (more-of S))));
       }
 
-  pub face-added : {x : List ℕ} → x ≡ set (set w (t .numbers + p .faces) (p .runs)) (t .starts + (p .faces + 1)) (p .corners + length r / 4) → FaceAdded t p (entries r) u x
+  pub face-added : {x : List ℕ} → x ≡ set (set w (t .numbers + p .faces) (p .runs)) (t .starts + (p .faces + 1)) (p .corner .0 + length r / 4) → FaceAdded t p (entries r) u x
   face-added q = rw (q, add-one) row-added

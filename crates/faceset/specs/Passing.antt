@@ -28,17 +28,17 @@ pub record Planned (points : ℕ) (bs : List ℕ) (len : ℕ) (t : Plan) : Type 
 pub record Fits (len : ℕ) (t : Plan) (p : Progress) (n : ℕ) : Type 0 where
   pub room : Room len t
   pub face : p .faces < t .faces
-  pub corners : p .corners + n ≤ t .count
+  pub corners : p .corner .0 + n ≤ t .count
   pub places : p .start + n ≤ most
   pub number : p .runs ≤ most
 
 -- one more face, of the entries es: each table has its words more
 pub record FaceAdded (t : Plan) (p : Progress) (es w w′ : List ℕ) : Type 0 where
   pub kept : Kept (t .corners) w w′
-  pub points : More w w′ (t .corners) (p .corners) (length es) (λ i. getD es i 0)
-  pub places : More w w′ (t .places) (p .corners) (length es) (λ i. p .start + i)
+  pub points : More w w′ (t .corners) (p .corner .0) (length es) (λ i. getD es i 0)
+  pub places : More w w′ (t .places) (p .corner .0) (length es) (λ i. p .start + i)
   pub numbers : More w w′ (t .numbers) (p .faces) 1 (λ i. p .runs)
-  pub starts : More w w′ (t .starts) (suc (p .faces)) 1 (λ i. p .corners + length es)
+  pub starts : More w w′ (t .starts) (suc (p .faces)) 1 (λ i. p .corner .0 + length es)
 
 -- the first g of the faces ls are listed, with their c corners: Listed, as far as it has come
 pub record ListedTo (w : List ℕ) (t : Plan) (ls : List Listing) (g c : ℕ) : Type 0 where
@@ -55,9 +55,9 @@ pub record Underway (points : ℕ) (bs w : List ℕ) (t : Plan) (p : Progress) :
   pub start : p .start ≤ length bs / 4 + 1
   pub runs : p .runs ≤ p .start
   pub faces : p .faces + sumOver (faces points) (runsLeft (entries bs) (p .start)) ≡ t .faces
-  pub corners : p .corners + sumOver (corners points) (runsLeft (entries bs) (p .start)) ≡ t .count
+  pub corners : p .corner .0 + sumOver (corners points) (runsLeft (entries bs) (p .start)) ≡ t .count
   pub left : drop (p .faces) (listingsOf points (entries bs)) ≡ joinN (listed points) (p .runs) (runsLeft (entries bs) (p .start))
-  pub made : ListedTo w t (listingsOf points (entries bs)) (p .faces) (p .corners)
+  pub made : ListedTo w t (listingsOf points (entries bs)) (p .faces) (p .corner .0)
 
 -- one run more
 pub record Turned (points : ℕ) (bs w w′ : List ℕ) (t : Plan) (p r : Progress) : Type 0 where

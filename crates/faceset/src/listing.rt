@@ -1,31 +1,50 @@
 // The kept faces of a face set, listed in one pass over the runs of coordIndex (FORMAT 6.1, 6.2; split_runs, indexed_face_set).
 ghost use mathlib.Core.Path.{_≡_};
+ghost use mathlib.Core.Bool.{true};
 ghost use Prim.Native.Nat.{_+_, _/_, _≤_, _<_};
-ghost use lib.ListN.{length, set};
+ghost use lib.ListN.{length, getD, set};
 ghost use Rattle.bits.specs.Bits.{entries};
+ghost use Rattle.block.specs.Runs.{kept};
 ghost use Rattle.tables.specs.Layout.{most, Room};
 ghost use Rattle.faceset.specs.Written.{Written};
 ghost use Rattle.faceset.specs.Passing.{Fits, FaceAdded, Planned, Underway, Turned, FacesListed};
-use crate::points::put_points;
+use block::CornerNumber;
 use block::is_kept;
 use block::next_start;
+use block::point_at;
 use block::run_at;
 use tables::Plan;
 use tables::narrow;
 
-// The start of the next run, and how many runs were passed, and faces and corners listed, before it.
+// The start of the next run, how many runs were passed and faces listed before it, and the next corner.
 pub struct Progress {
     pub start: usize,
     pub runs: usize,
     pub faces: usize,
-    pub corners: usize,
+    pub corner: CornerNumber,
 }
 
-// The n places from `start` on, to the words from `at` on.
-fn put_places(work: &mut [u32], at: usize, start: usize, n: usize)
-    requires { ⌜ (at + n ≤ length (now work)) × (start + n ≤ most) ⌝ }
-    ensures { λ _. ⌜ Written at n (λ i. start + i) (now (work .entry)) (now (work .exit)) ⌝ }
+// The points that a kept run names, of the corners from `from` on.
+fn put_corners(run: &[u8], work: &mut [u32], t: Plan, from: CornerNumber)
+    requires { ⌜ Room (length (now work)) t × (from .0 + length (now run) / 4 ≤ t .count) × (kept (t .spots) (entries (now run)) ≡ true) ⌝ }
+    ensures { λ _. ⌜ Written (t .corners + from .0) (length (now (run .entry)) / 4) (λ i. getD (entries (now (run .entry))) i 0) (now (work .entry)) (now (work .exit)) ⌝ }
 {
+    let n = run.len() / 4;
+    let at = t.corners + from.0;
+    let mut i = 0;
+    while i < n {
+        let p = point_at(run, i);
+        work[at + i] = narrow(p.0);
+        i += 1;
+    }
+}
+
+// The n places from `start` on, of the corners from `from` on.
+fn put_places(work: &mut [u32], t: Plan, from: CornerNumber, start: usize, n: usize)
+    requires { ⌜ Room (length (now work)) t × (from .0 + n ≤ t .count) × (start + n ≤ most) ⌝ }
+    ensures { λ _. ⌜ Written (t .places + from .0) n (λ i. start + i) (now (work .entry)) (now (work .exit)) ⌝ }
+{
+    let at = t.places + from.0;
     let mut i = 0;
     while i < n {
         work[at + i] = narrow(start + i);
@@ -33,24 +52,26 @@ fn put_places(work: &mut [u32], at: usize, start: usize, n: usize)
     }
 }
 
-// The number of kept face `face`, and how many corners there are up to its last.
-fn put_row(work: &mut [u32], t: Plan, face: usize, number: usize, corners: usize)
-    requires { ⌜ Room (length (now work)) t × (face < t .faces) × (number ≤ most) × (corners ≤ most) ⌝ }
-    ensures { λ _. ⌜ now (work .exit) ≡ set (set (now (work .entry)) (t .numbers + face) number) (t .starts + (face + 1)) corners ⌝ }
+// The number of kept face `face`, and the first corner after it.
+fn put_row(work: &mut [u32], t: Plan, face: usize, number: usize, next: CornerNumber)
+    requires { ⌜ Room (length (now work)) t × (face < t .faces) × (number ≤ most) × (next .0 ≤ most) ⌝ }
+    ensures { λ _. ⌜ now (work .exit) ≡ set (set (now (work .entry)) (t .numbers + face) number) (t .starts + (face + 1)) (next .0) ⌝ }
 {
     work[t.numbers + face] = narrow(number);
-    work[t.starts + (face + 1)] = narrow(corners);
+    work[t.starts + (face + 1)] = narrow(next.0);
 }
 
 // A kept run, listed as the next face.
 fn put_face(run: &[u8], work: &mut [u32], t: Plan, p: Progress)
-    requires { ⌜ Fits (length (now work)) t p (length (now run) / 4) ⌝ }
+    requires { ⌜ Fits (length (now work)) t p (length (now run) / 4) × (kept (t .spots) (entries (now run)) ≡ true) ⌝ }
     ensures { λ _. ⌜ FaceAdded t p (entries (now (run .entry))) (now (work .entry)) (now (work .exit)) ⌝ }
 {
     let n = run.len() / 4;
-    put_points(run, work, t.corners + p.corners, n);
-    put_places(work, t.places + p.corners, p.start, n);
-    put_row(work, t, p.faces, p.runs, p.corners + n);
+    let from = p.corner;
+    let next = CornerNumber(from.0 + n);
+    put_corners(run, work, t, from);
+    put_places(work, t, from, p.start, n);
+    put_row(work, t, p.faces, p.runs, next);
 }
 
 // One run: listed if it is kept.
@@ -60,20 +81,21 @@ fn pass_run(coord: &[u8], points: u32, work: &mut [u32], t: Plan, p: Progress) -
 {
     let run = run_at(coord, p.start);
     let start = next_start(p.start, run);
+    let corner = p.corner;
     if is_kept(run, points) {
         put_face(run, work, t, p);
         return Progress {
             start,
             runs: p.runs + 1,
             faces: p.faces + 1,
-            corners: p.corners + run.len() / 4,
+            corner: CornerNumber(corner.0 + run.len() / 4),
         };
     }
     Progress {
         start,
         runs: p.runs + 1,
         faces: p.faces,
-        corners: p.corners,
+        corner,
     }
 }
 
@@ -88,7 +110,7 @@ pub fn list_faces(coord: &[u8], points: u32, work: &mut [u32], t: Plan)
         start: 0,
         runs: 0,
         faces: 0,
-        corners: 0,
+        corner: CornerNumber(0),
     };
     while p.start < coord.len() / 4 {
         p = pass_run(coord, points, work, t, p);

@@ -6,10 +6,13 @@ use Rattle.faceset.proofs.listing.put_places.Statement.{statement}
 use Rattle.faceset.proofs.listing.put_places.Tie as tie
 
 abbrev Inv-loop : tie.InvT-loop
-Inv-loop work₀ at start n i₀ work i = Writing at n (λ k. start + k) work₀ work i
+Inv-loop work₀ start n at i₀ work i = Writing at n (λ k. start + k) work₀ work i
 
 abbrev μ-loop : tie.MeasureT-loop
-μ-loop work₀ at start n i₀ work i = n - i
+μ-loop work₀ start n at i₀ work i = n - i
+
+add-at : tie.Need-add-at Inv-loop μ-loop
+add-at c = search needs
 
 loop-holds : tie.Need-loop-holds Inv-loop μ-loop
 loop-holds c = writing-none
@@ -27,7 +30,7 @@ mul-work : tie.Need-mul-work Inv-loop μ-loop
 mul-work c = search needs
 
 slice-write-work : tie.Need-slice-write-work Inv-loop μ-loop
-slice-write-work c = omega (arith, c .before .before .loop .inv .kept .len)
+slice-write-work c = omega (arith, c .before .before .before .before .before .before .pre, c .before .before .loop .inv .kept .len)
 
 add-i : tie.Need-add-i Inv-loop μ-loop
 add-i c = search needs
@@ -36,7 +39,7 @@ loop-less : tie.Need-loop-less Inv-loop μ-loop
 loop-less c = search needs
 
 loop-again : tie.Need-loop-again Inv-loop μ-loop
-loop-again c = writing-more _ (c .before .before .before .before .pre .0) (c .before .before .loop .inv) (c .before .loop-test .taken) (c .narrow .ensures)
+loop-again c = writing-more _ (omega (arith, c .before .before .before .before .before .before .pre)) (c .before .before .loop .inv) (c .before .loop-test .taken) (c .narrow .ensures)
 
 same-length : tie.Need-same-length Inv-loop μ-loop
 same-length c = c .before .loop .inv .kept .len
@@ -50,6 +53,7 @@ put-places-spec =
     (tie.spec
     Inv-loop
     μ-loop
+    add-at
     loop-holds
     add-narrow
     narrow-requires

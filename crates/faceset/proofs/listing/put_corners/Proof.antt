@@ -1,0 +1,75 @@
+use mathlib.Core.Path.{_∙_}
+use native.Mathlib.Omega.{arith}
+use Prim.Native.Nat.{_-_}
+use lib.ListN.{getD}
+use Rattle.bits.specs.Bits.{entries}
+use Rattle.bits.proofs.Entries.{entries-length}
+use Rattle.block.proofs.RunLaws.{kept-below}
+use Rattle.faceset.proofs.Writing.{Writing, writing-none, writing-more, writing-end}
+use borrow.Author.Needs.{needs}
+use Rattle.faceset.proofs.listing.put_corners.Statement.{statement}
+use Rattle.faceset.proofs.listing.put_corners.Tie as tie
+
+abbrev Inv-loop : tie.InvT-loop
+Inv-loop run work₀ n at i₀ work i = Writing at n (λ k. getD (entries run) k 0) work₀ work i
+
+abbrev μ-loop : tie.MeasureT-loop
+μ-loop run work₀ n at i₀ work i = n - i
+
+add-at : tie.Need-add-at Inv-loop μ-loop
+add-at c = search needs
+
+loop-holds : tie.Need-loop-holds Inv-loop μ-loop
+loop-holds c = writing-none
+
+point-at-requires : tie.Need-point-at-requires Inv-loop μ-loop
+point-at-requires c κs = search needs
+
+narrow-requires : tie.Need-narrow-requires Inv-loop μ-loop
+narrow-requires c κs =
+    let P = c .before .before .before .before .before .before .before .pre in
+    let r = c .before .before .before .before .before .before .before .args .run .now in
+    omega (arith, c .point-at .ensures, kept-below _ (entries r) (P .2) (c .before .before .loop .i) (omega (arith, entries-length r, c .before .loop-test .taken)), P .0 .some)
+
+add-work : tie.Need-add-work Inv-loop μ-loop
+add-work c = search needs
+
+mul-work : tie.Need-mul-work Inv-loop μ-loop
+mul-work c = search needs
+
+slice-write-work : tie.Need-slice-write-work Inv-loop μ-loop
+slice-write-work c = omega (arith, c .before .before .before .before .before .before .before .before .pre .0, c .before .before .before .before .before .before .before .before .pre .1, c .before .before .before .loop .inv .kept .len)
+
+add-i : tie.Need-add-i Inv-loop μ-loop
+add-i c = search needs
+
+loop-less : tie.Need-loop-less Inv-loop μ-loop
+loop-less c = search needs
+
+loop-again : tie.Need-loop-again Inv-loop μ-loop
+loop-again c = writing-more _ (omega (arith, c .before .before .before .before .before .before .before .before .pre .0, c .before .before .before .before .before .before .before .before .pre .1)) (c .before .before .before .loop .inv) (c .before .before .loop-test .taken) (c .narrow .ensures ∙ c .before .point-at .ensures)
+
+same-length : tie.Need-same-length Inv-loop μ-loop
+same-length c = c .before .loop .inv .kept .len
+
+returns : tie.Need-returns Inv-loop μ-loop
+returns c = writing-end (c .before .loop .inv) (c .loop-test .left)
+
+pub put-corners-spec : {M : Type 1} → statement M
+put-corners-spec =
+    tie.close
+    (tie.spec
+    Inv-loop
+    μ-loop
+    add-at
+    loop-holds
+    point-at-requires
+    narrow-requires
+    add-work
+    mul-work
+    slice-write-work
+    add-i
+    loop-less
+    loop-again
+    same-length
+    returns)
