@@ -1,5 +1,5 @@
 #!/usr/bin/env bash
-# Tries the converter's archive (rt staticlib host) from C and, where rustc is there, from Rust, on the stored examples.
+# Tries the converter's archive (rt staticlib host) from C and Rust, on the stored examples.
 # The last line is 'N passed, M failed'.
 set -u
 cd "$(dirname "$0")/.." || exit 1
@@ -11,12 +11,10 @@ mkdir -p "$out"
 cc -O2 -Wall -Wextra -Werror hosts/call.c "$archive" -o "$out/call_c"
 tally 'hosts/call.c compiles' $?
 rust=0
-if [ -n "$(command -v rustc)" ]; then
+if have 'the Rust wrapper' rustc; then
     rust=1
     rustc --edition 2021 -O hosts/call.rs -C "link-arg=$archive" -o "$out/call_rs"
     tally 'hosts/call.rs compiles' $?
-else
-    printf 'hosts: rustc is not here, so the Rust wrapper is not tried\n'
 fi
 
 for block in examples/*.block tools/cases/*.block; do

@@ -50,13 +50,11 @@ for name in "${site[@]}"; do
     tally "examples/$name fits what sitemesh lends" $?
 done
 
-if [ -x "$program" ]; then
+if have 'meshes made again' "$program"; then
     for mesh in examples/*.mesh tools/cases/*.mesh; do
         "$program" < "${mesh%.mesh}.block" | cmp - "$mesh"
         tally "sitemesh prints $mesh" $?
     done
-else
-    printf 'without %s: meshes are not made again\n' "$program"
 fi
 
 python3 tools/mesh.py obj tools/cases/{full,lines,grid}.mesh | cmp - tools/cases/three.obj
