@@ -116,8 +116,8 @@ fn row(name: &str, shape: &Shape, maker: &Maker, slices: &mut Slices) -> bool {
     let sizes = block.sizes().expect("a shape");
     let scene = Scene::new(given(&block, &maker.angles).expect("angles of the host"));
     let (theirs, made) = best(|| scene.convert());
-    slices.lend(&lengths(sizes), 5, 1);
-    let (mine, number) = best(|| ours::convert(&bytes, slices));
+    slices.lend(&bytes, &lengths(sizes), 5, 0);
+    let (mine, number) = best(|| ours::convert(slices));
     let ratio = mine.as_secs_f64() / theirs.as_secs_f64();
     let ms = |d: Duration| d.as_secs_f64() * 1000.0;
     println!("| {name} | {} | {:.3} | {:.3} | {ratio:.2} |", sizes.corners, ms(theirs), ms(mine));

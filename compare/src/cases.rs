@@ -69,7 +69,8 @@ fn reshape(maker: &mut Maker, shape: &mut Shape) {
     refit(maker, shape);
 }
 
-fn damage(maker: &mut Maker, block: &mut Vec<u8>) {
+/// Bytes changed, cut off or added.
+pub fn damage(maker: &mut Maker, block: &mut Vec<u8>) {
     let rng = &mut maker.rng;
     let part = match rng.below(6) {
         0 => 0..20,

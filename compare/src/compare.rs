@@ -47,8 +47,8 @@ impl Run {
         if self.trace {
             println!("{name}, {} bytes, lent {lent:?}, result {result}", block.len());
         }
-        self.slices.lend(lent, result, self.calls as u32);
-        let number = ours::convert(block, &mut self.slices);
+        self.slices.lend(block, lent, result, self.calls as u32);
+        let number = ours::convert(&mut self.slices);
         if let Err(what) = judge(want, number, &self.slices) {
             self.differ += 1;
             if self.differ <= MOST_SHOWN {

@@ -4,21 +4,12 @@ use std::collections::HashMap;
 
 use crate::angles::Angles;
 use crate::follow::given;
-use crate::format::{Block, EXTRUSION, FACES, LINES, Sizes, accept, flag};
+use crate::format::{Block, EXTRUSION, FACES, accept, flag};
+use crate::outline::{Outline, outline};
 use reference::scene::{Mesh, Scene};
 
 const NAN: u32 = 0x7fc0_0000;
 const MINUS_ZERO: u32 = 0x8000_0000;
-
-/// What is known of an accepted block's mesh where the reference cannot be asked.
-pub struct Outline {
-    pub indices: usize,
-    pub solid: bool,
-    pub unlit: bool,
-    pub has_colors: bool,
-    pub normals: bool,
-    pub texture: bool,
-}
 
 pub enum Expected {
     Refused(u32),
@@ -120,18 +111,6 @@ fn could_merge(mesh: &Mesh, raw: &Option<Vec<u32>>) -> bool {
         let bits = part::<2>(raw, v);
         *met.entry((source, colour, texture)).or_insert(bits) != bits
     })
-}
-
-fn outline(block: &Block, sizes: Sizes) -> Outline {
-    let lines = block.kind == LINES;
-    Outline {
-        indices: sizes.indices,
-        solid: lines || block.flag(flag::SOLID),
-        unlit: lines,
-        has_colors: block.makes_colours(),
-        normals: !lines,
-        texture: block.makes_texture(),
-    }
 }
 
 /// The reference's mesh of an accepted block, or none where it cannot be followed.

@@ -1,71 +1,87 @@
 //! The project's converter, called through its C interface, and the slices lent to it.
 
-/// Names of the lent slices, in the order of the call.
+use crate::pages::Pages;
+
+/// Names of the lent slices, in the order of the call. The result slice has numbers of the machine's size, two words each.
 pub const NAMES: [&str; 9] =
     ["positions", "normals", "colours", "texture", "sources", "indices", "working numbers", "working floats", "result"];
+pub const SOURCES: usize = 4;
 pub const INDICES: usize = 5;
 pub const RESULT: usize = 8;
 
-/// Words that stand before and after each slice and may never change.
-const GUARD: usize = 16;
-
-/// One lent slice between its guards.
+/// One lent slice, at the start or at the end of its pages: there the next byte outside may not be touched at all, and
+/// what is left of the pages may not change.
 #[derive(Default)]
 pub struct Lent {
-    words: Vec<u32>,
-    len: usize,
-    salt: u32,
-}
-
-/// What place k of the memory held before the call.
-fn filler(salt: u32, k: usize) -> u32 {
-    (k as u32).wrapping_mul(0x9e37_79b1) ^ salt
+    pages: Pages,
+    /// In bytes, from the start of the pages.
+    first: usize,
+    bytes: usize,
+    /// Whether it is empty and has no place at all.
+    nowhere: bool,
+    /// What the pages held before the call.
+    before: Vec<u32>,
 }
 
 impl Lent {
-    /// Makes a slice of so many elements, filled afresh.
-    pub fn lend(&mut self, len: usize, salt: u32) {
-        self.len = len;
-        self.salt = salt;
-        self.words.clear();
-        self.words.extend((0..len + 2 * GUARD).map(|k| filler(salt, k)));
+    /// Makes a slice of so many bytes; all its pages are filled by the salt, and what it is to hold is put into it.
+    fn lend(&mut self, bytes: usize, salt: u32, at_end: bool, held: &[u8]) {
+        self.pages.fit(bytes);
+        self.bytes = bytes;
+        self.nowhere = bytes == 0 && !at_end;
+        self.first = if at_end { self.pages.bytes() - bytes } else { 0 };
+        let words = self.pages.words_mut().iter_mut().enumerate();
+        words.for_each(|(k, word)| *word = (k as u32).wrapping_mul(0x9e37_79b1) ^ salt);
+        self.pages.bytes_mut()[self.first..][..held.len()].copy_from_slice(held);
+        self.before.clear();
+        self.before.extend_from_slice(self.pages.words());
     }
 
+    /// The number of words.
     pub fn len(&self) -> usize {
-        self.len
+        self.bytes / 4
     }
 
     pub fn elements(&self) -> &[u32] {
-        &self.words[GUARD..GUARD + self.len]
+        &self.pages.words()[self.first / 4..][..self.len()]
     }
 
     #[cfg(ours)]
-    fn pointer(&mut self) -> *mut u32 {
-        self.words[GUARD..].as_mut_ptr()
+    fn pointer<T>(&self) -> *mut T {
+        if self.nowhere { std::ptr::null_mut() } else { self.pages.start().wrapping_add(self.first).cast() }
     }
 
     /// The first element from `from` on that is not as lent.
     pub fn changed(&self, from: usize) -> Option<usize> {
-        (from..self.len).find(|&k| self.elements()[k] != filler(self.salt, GUARD + k))
+        let before = &self.before[self.first / 4..];
+        (from..self.len()).find(|&k| self.elements()[k] != before[k])
     }
 
-    /// Whether a guard changed.
+    /// Whether something of the pages beside the slice changed.
     pub fn overrun(&self) -> bool {
-        let outside = (0..GUARD).chain(GUARD + self.len..self.words.len());
-        outside.into_iter().any(|k| self.words[k] != filler(self.salt, k))
+        let (now, end) = (self.pages.words(), self.first / 4 + self.len());
+        now[..self.first / 4] != self.before[..self.first / 4] || now[end..] != self.before[end..]
     }
 }
 
-/// The nine slices of a call.
+/// The nine slices of a call, and its block.
 #[derive(Default)]
-pub struct Slices(pub [Lent; 9]);
+pub struct Slices(pub [Lent; 9], Lent);
 
 impl Slices {
-    pub fn lend(&mut self, lengths: &[usize; 8], result: usize, salt: u32) {
-        let all = lengths.iter().copied().chain([result]);
+    /// Lends memory for a block and slices of these lengths. The bits of the salt say which stand at the end of their
+    /// pages, and it parts what they hold.
+    pub fn lend(&mut self, block: &[u8], lengths: &[usize; 8], result: usize, salt: u32) {
+        let all = lengths.iter().copied().chain([2 * result]);
         for (k, (slice, len)) in self.0.iter_mut().zip(all).enumerate() {
-            slice.lend(len, salt.wrapping_add(0x1357_9bdf * k as u32));
+            slice.lend(4 * len, salt.wrapping_add(0x1357_9bdf * k as u32), salt >> k & 1 == 1, &[]);
         }
+        self.1.lend(block.len(), salt, salt >> 9 & 1 == 1, block);
+    }
+
+    /// Whether the block is what it was.
+    pub fn block_stays(&self) -> bool {
+        self.1.pages.words() == self.1.before
     }
 }
 
@@ -100,42 +116,39 @@ pub fn present() -> bool {
     cfg!(ours)
 }
 
-/// One call: the refusal's number, or 0. The result slice has numbers of the machine's size, which are copied out and in.
+/// One call: the refusal's number, or 0.
 #[cfg(ours)]
-pub fn convert(block: &[u8], slices: &mut Slices) -> u32 {
-    let n: [usize; 9] = std::array::from_fn(|k| slices.0[k].len());
-    let mut result: Vec<usize> = slices.0[RESULT].words.iter().map(|&word| word as usize).collect();
-    let p = slices.0.each_mut().map(|slice| slice.pointer());
-    // SAFETY: each pointer and length is a live vector's part; no two vectors overlap.
-    let number = unsafe {
+pub fn convert(slices: &mut Slices) -> u32 {
+    let Slices(lent, block) = slices;
+    let n: [usize; 9] = std::array::from_fn(|k| lent[k].len());
+    // SAFETY: each pointer and length is of pages that nothing else uses; the result slice has two words to a number.
+    unsafe {
         sitemesh_convert(
-            block.as_ptr(),
-            block.len(),
-            p[0],
+            block.pointer(),
+            block.bytes,
+            lent[0].pointer(),
             n[0],
-            p[1],
+            lent[1].pointer(),
             n[1],
-            p[2],
+            lent[2].pointer(),
             n[2],
-            p[3],
+            lent[3].pointer(),
             n[3],
-            p[4],
+            lent[4].pointer(),
             n[4],
-            p[5],
+            lent[5].pointer(),
             n[5],
-            p[6],
+            lent[6].pointer(),
             n[6],
-            p[7].cast(),
+            lent[7].pointer(),
             n[7],
-            result[GUARD..].as_mut_ptr(),
-            n[8],
+            lent[8].pointer(),
+            n[8] / 2,
         )
-    };
-    slices.0[RESULT].words = result.into_iter().map(|x| u32::try_from(x).expect("a count of 32 bits")).collect();
-    number
+    }
 }
 
 #[cfg(not(ours))]
-pub fn convert(_: &[u8], _: &mut Slices) -> u32 {
+pub fn convert(_: &mut Slices) -> u32 {
     unreachable!("there is no archive to call")
 }
