@@ -46,8 +46,8 @@ fn main() {
             println!("mesh {} {} {} {} {}", m.vertices, m.indices, m.solid as u8, m.unlit as u8, m.has_colors as u8);
             (m.vertices, m.indices, 4104)
         }
-        Err(number) => {
-            println!("no {number}");
+        Err(refusal) => {
+            println!("no {}", refusal as u32);
             (0, 0, 0)
         }
     };

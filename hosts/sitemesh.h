@@ -1,19 +1,70 @@
-/* The converter for C (docs/FORMAT.md 15): link target/staticlib/libhost.a. */
+/*
+ * The converter for C and C++ (docs/FORMAT.md 15): link target/staticlib/libhost.a, on x86-64 Linux. Of the host's C
+ * library it uses memcpy and memset. hosts/example.c is a program that calls it.
+ *
+ * What is promised (docs/PROMISES.md) is proved of a host that keeps to this:
+ *
+ * - Slices. Each is a pointer and a number of elements that are there, aligned as its type; where the number is 0 the
+ *   pointer may be null. No two of the nine overlap, none overlaps the block, and nothing else writes to the block or
+ *   touches a slice during the call. Otherwise nothing is promised, not even that the call stays inside or ends.
+ * - Floats. The calling thread rounds to nearest, has exceptions masked, and neither flushes results to zero nor takes
+ *   denormals for zero, as a Linux program starts (MXCSR 1f80). Linking a program with gcc's or clang's -ffast-math
+ *   changes that for the whole program, and so does, with gcc before 13, a shared library linked with it. Then the mesh
+ *   may be another: a duct whose cross-section is (0, 0), (1, 0), (1, 1), (0, 1), (1e-40, 0) lost two of its fourteen
+ *   triangles. A host that cannot be sure puts _mm_setcsr(0x1f80) before the call and its own mode back after it.
+ * - Stack. Some 3 KiB: 2,968 bytes were the most in 1.3 million fuzzed calls, arguments included, and there is no
+ *   recursion. Leave 8 KiB, which is all that the fuzzing gives a call (compare/README.md).
+ *
+ * There is no state outside the arguments, so threads may call at the same time, each with slices of its own; they may
+ * share a block. Nothing is allocated.
+ */
 #ifndef SITEMESH_H
 #define SITEMESH_H
 
 #include <stddef.h>
 #include <stdint.h>
 
+#ifdef __cplusplus
+extern "C" {
+#endif
+
+/* What a call returns: SITEMESH_OK, or why the block is refused (docs/FORMAT.md 3). */
+enum {
+    SITEMESH_OK = 0,
+    SITEMESH_STUB = 1,
+    SITEMESH_EDITION = 2,
+    SITEMESH_KIND = 3,
+    SITEMESH_LIST_LIMIT = 4,
+    SITEMESH_LENGTH = 5,
+    SITEMESH_NO_SHAPE = 6,
+    SITEMESH_CORNERS = 7,
+    SITEMESH_BUFFER = 8
+};
+
 /* What `result` holds after success. */
 enum { SITEMESH_VERTICES, SITEMESH_INDICES, SITEMESH_SOLID, SITEMESH_UNLIT, SITEMESH_HAS_COLORS, SITEMESH_RESULT };
 
 /*
- * Converts the block into the lent slices, each a pointer and its length in elements. Returns 0 and puts the counts and
- * bits above into `result`, as far as it goes; or the number of the refusal (docs/FORMAT.md 3), and then every lent
- * element is what it was. The lengths asked for are in docs/FORMAT.md 4.
- *
- * A pointer may be null where its length is 0. No two lent slices may overlap, and each is aligned as its type.
+ * Lengths that serve every block: those of docs/FORMAT.md 4 for the most corners and points, C = P = 8,192. Faces of n
+ * corners have 3 (n - 2) indices each, so that one face of all corners has the most; lines have 2 for each corner but
+ * the first. The longest block has 68 bytes and eight full lists, of 16 words in all.
+ */
+enum {
+    SITEMESH_MOST_POSITIONS = 3 * 8192,
+    SITEMESH_MOST_NORMALS = 3 * 8192,
+    SITEMESH_MOST_COLOURS = 4 * 8192,
+    SITEMESH_MOST_TEXTURES = 2 * 8192,
+    SITEMESH_MOST_SOURCES = 8192,
+    SITEMESH_MOST_INDICES = 3 * (8192 - 2),
+    SITEMESH_MOST_WORDS = 8 * (8192 + 8192) + 8,
+    SITEMESH_MOST_FLOATS = 8 * (8192 + 8192) + 8,
+    SITEMESH_MOST_BLOCK = 68 + 4 * 16 * 8192
+};
+
+/*
+ * Converts the block into the lent slices, each a pointer and its length in elements. Returns SITEMESH_OK and puts the
+ * counts and bits above into `result`, as far as it goes; or returns the refusal, and then every lent element is what
+ * it was. The lengths asked for are in docs/FORMAT.md 4.
  */
 uint32_t sitemesh_convert(const uint8_t *block, size_t block_length,
                           float *positions, size_t positions_length,
@@ -25,5 +76,9 @@ uint32_t sitemesh_convert(const uint8_t *block, size_t block_length,
                           uint32_t *words, size_t words_length,
                           float *floats, size_t floats_length,
                           size_t *result, size_t result_length);
+
+#ifdef __cplusplus
+}
+#endif
 
 #endif

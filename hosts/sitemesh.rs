@@ -1,4 +1,47 @@
-//! The converter for Rust (docs/FORMAT.md 15): link target/staticlib/libhost.a.
+//! The converter for Rust (docs/FORMAT.md 15; rustc 1.82 or later, any edition): link target/staticlib/libhost.a, on x86-64 Linux.
+//! hosts/example.rs is a program that calls it. Borrows keep the slices apart; what hosts/sitemesh.h says of floats,
+//! stack and threads holds here too.
+#![allow(dead_code)] // a program need not use all of it
+
+/// Lengths that serve every block; hosts/sitemesh.h says how they come about.
+pub const MOST_POSITIONS: usize = 3 * 8192;
+pub const MOST_NORMALS: usize = 3 * 8192;
+pub const MOST_COLOURS: usize = 4 * 8192;
+pub const MOST_TEXTURES: usize = 2 * 8192;
+pub const MOST_SOURCES: usize = 8192;
+pub const MOST_INDICES: usize = 3 * (8192 - 2);
+pub const MOST_WORDS: usize = 8 * (8192 + 8192) + 8;
+pub const MOST_FLOATS: usize = 8 * (8192 + 8192) + 8;
+pub const MOST_BLOCK: usize = 68 + 4 * 16 * 8192;
+
+/// Why a block is refused (docs/FORMAT.md 3).
+#[derive(Clone, Copy, Debug, PartialEq, Eq)]
+pub enum Refusal {
+    Stub = 1,
+    Edition = 2,
+    Kind = 3,
+    ListLimit = 4,
+    Length = 5,
+    NoShape = 6,
+    Corners = 7,
+    Buffer = 8,
+}
+
+impl Refusal {
+    fn of(number: u32) -> Self {
+        match number {
+            1 => Self::Stub,
+            2 => Self::Edition,
+            3 => Self::Kind,
+            4 => Self::ListLimit,
+            5 => Self::Length,
+            6 => Self::NoShape,
+            7 => Self::Corners,
+            8 => Self::Buffer,
+            _ => unreachable!("the converter answers 0 to 8"),
+        }
+    }
+}
 
 /// The slices that a call is lent; docs/FORMAT.md 4 has the lengths asked for.
 pub struct Lent<'a> {
@@ -23,7 +66,7 @@ pub struct Mesh {
 }
 
 // A slice is handed over as a pointer and a length, two arguments each.
-extern "C" {
+unsafe extern "C" {
     fn sitemesh_convert(
         block: *const u8, block_length: usize,
         positions: *mut f32, positions_length: usize,
@@ -38,10 +81,10 @@ extern "C" {
     ) -> u32;
 }
 
-/// Converts a block into the lent slices, or gives the number of the refusal and leaves every lent element as it was.
-pub fn convert(block: &[u8], lent: Lent) -> Result<Mesh, u32> {
+/// Converts a block into the lent slices, or says why it is refused and leaves every lent element as it was.
+pub fn convert(block: &[u8], lent: Lent) -> Result<Mesh, Refusal> {
     let mut result = [0usize; 5];
-    // The slices are of distinct borrows, so none overlaps another.
+    // SAFETY: the slices are of distinct borrows, so none overlaps another or the block.
     let number = unsafe {
         sitemesh_convert(
             block.as_ptr(), block.len(),
@@ -57,7 +100,7 @@ pub fn convert(block: &[u8], lent: Lent) -> Result<Mesh, u32> {
         )
     };
     if number != 0 {
-        return Err(number);
+        return Err(Refusal::of(number));
     }
     let [vertices, indices, solid, unlit, has_colors] = result;
     Ok(Mesh { vertices, indices, solid: solid != 0, unlit: unlit != 0, has_colors: has_colors != 0 })
