@@ -1,27 +1,35 @@
 #!/usr/bin/env python3
 """Turns what sitemesh prints (docs/FORMAT.md 14) into Wavefront OBJ or into a picture:
 
-    python3 tools/mesh.py obj < ground.mesh > ground.obj
-    python3 tools/mesh.py svg ground.mesh hospital.mesh duct.mesh > site.svg
+    target/bin/sitemesh < duct.block | python3 tools/mesh.py obj > duct.obj
+    python3 tools/mesh.py svg ground.mesh hospital.mesh duct.mesh --turn 60 --tilt 20 > site.svg
 
 NOT PROVED: this tool is plain Python for people. Nothing of the converter depends on it.
 
-Without files it reads standard input; several files make one object file or one picture. The picture is seen along
-parallel lines, from --turn degrees round the Y axis and --tilt degrees above the ground. A refusal ('no N') or 'long'
-in place of a mesh gives a message and exit status 1.
+It writes to standard output. Several meshes make one object file or one picture. The picture is seen along parallel
+lines, from --turn degrees round the Y axis and --tilt degrees above the ground; of a solid mesh only triangles that
+face the eye are drawn. An OBJ file has an object for each mesh, named after its file, with colours as three numbers
+more at each point, and without alpha.
+
+A vertex with a position that is not finite is left out, and so is each triangle or line that uses it; the rest is
+drawn, in a picture and in an OBJ file alike (where the vertices are numbered anew). A normal, colour or texture point
+that is not finite counts as missing (FORMAT 7.2). Standard error says how many of each there were; the status is 0.
+
+Errors, each a line on standard error, status 1, nothing written: a file that cannot be read (it is named), something
+that is not a mesh, a refusal ('no N') or 'long' in place of one, and meshes of which no vertex is finite.
 """
-import argparse
 import math
 import os
 import struct
 import sys
 
-REFUSALS = ['stub', 'edition', 'kind', 'list limit', 'length', 'no shape', 'corners', 'buffer']
-PARTS = {'n': 3, 'c': 4, 'u': 2}
+sys.dont_write_bytecode = True
+import files
+from files import Fault, shown
 
-
-class Fault(Exception):
-    pass
+REFUSALS = ['stub', 'edition', 'kind', 'list limit', 'length', 'no shape', 'corners',
+            'buffer: it needs more than sitemesh lends (docs/FORMAT.md 14)']
+MISSING = {'n': [0.0] * 3, 'c': [1.0] * 4, 'u': [0.0] * 2}
 
 
 # ---- reading
@@ -29,61 +37,73 @@ class Fault(Exception):
 class Mesh:
     """A mesh: vertices as lists of floats, triangles or lines as lists of vertex numbers."""
 
-    def __init__(self, name):
-        self.name = name
+    def __init__(self):
+        self.name = ''
         self.solid = self.unlit = False
         self.points, self.parts, self.shapes = [], {'n': [], 'c': [], 'u': []}, []
+        self.lacking = 0  # normals, colours and texture points that are not finite
 
 
 def floats(words, count):
     """So many words of eight hexadecimal digits, as floats."""
     if len(words) != count or any(len(word) != 8 for word in words):
         raise ValueError
-    values = [struct.unpack('>f', bytes.fromhex(word))[0] for word in words]
-    if not all(map(math.isfinite, values)):
-        raise Fault('a number is not finite and cannot be drawn')
-    return values
+    return [struct.unpack('>f', bytes.fromhex(word))[0] for word in words]
+
+
+def whole(word):
+    """A whole number of at most nine digits."""
+    if not (word.isascii() and word.isdigit() and len(word) < 10):
+        raise ValueError
+    return int(word)
+
+
+def is_finite(values):
+    return all(map(math.isfinite, values))
 
 
 def read_vertex(mesh, words):
-    int(words[1])
+    whole(words[1])
     mesh.points.append(floats(words[2:5], 3))
     rest = words[5:]
     while rest:
-        width = PARTS[rest[0]]
-        mesh.parts[rest[0]].append(floats(rest[1:1 + width], width))
-        rest = rest[1 + width:]
+        missing = MISSING[rest[0]]
+        values = floats(rest[1:1 + len(missing)], len(missing))
+        mesh.parts[rest[0]].append(values if is_finite(values) else missing)
+        mesh.lacking += not is_finite(values)
+        rest = rest[1 + len(missing):]
 
 
 def read_shape(mesh, words):
     """A triangle or a line."""
-    numbers = [int(word) for word in words[1:]]
-    if len(numbers) != (2 if mesh.unlit else 3) or not all(0 <= n < len(mesh.points) for n in numbers):
+    numbers = [whole(word) for word in words[1:]]
+    if len(numbers) != (2 if mesh.unlit else 3) or not all(n < len(mesh.points) for n in numbers):
         raise ValueError
     mesh.shapes.append(numbers)
 
 
 def read_head(mesh, words):
-    if words[0] == 'no' and len(words) == 2 and words[1] in '12345678':
+    if words[0] == 'no' and len(words) == 2 and words[1] in list('12345678'):
         raise Fault(f'no mesh: the block was refused, number {words[1]}, {REFUSALS[int(words[1]) - 1]}')
     if words == ['long']:
         raise Fault('no mesh: the block was longer than sitemesh reads')
     if words[0] != 'mesh' or len(words) != 6:
         raise Fault('this is not what sitemesh prints')
     mesh.solid, mesh.unlit = words[3] == '1', words[4] == '1'
-    return int(words[1]), int(words[2])
+    return whole(words[1]), whole(words[2])
 
 
 def check_counts(mesh, vertices, indices):
     lengths = [len(part) for part in mesh.parts.values()]
-    whole = all(length in (0, vertices) for length in lengths)
-    if len(mesh.points) != vertices or sum(map(len, mesh.shapes)) != indices or not whole:
+    is_whole = all(length in (0, vertices) for length in lengths)
+    if len(mesh.points) != vertices or sum(map(len, mesh.shapes)) != indices or not is_whole:
         raise Fault('the mesh does not have the vertices and indices that its first line says')
 
 
-def read(name, text):
-    mesh = Mesh(name)
-    lines = [line.split() for line in text.splitlines()] or [[]]
+def read(lines):
+    """The mesh of what sitemesh printed."""
+    mesh = Mesh()
+    lines = [line.split() for line in lines] or [[]]
     try:
         vertices, indices = read_head(mesh, lines[0] or [''])
     except ValueError:
@@ -93,10 +113,33 @@ def read(name, text):
             {'v': read_vertex, 'l' if mesh.unlit else 't': read_shape}[words[0]](mesh, words)
         except (ValueError, KeyError, IndexError):
             raise Fault(f'line {at}: not a line of a mesh') from None
-        except Fault as fault:
-            raise Fault(f'line {at}: {fault}') from None
     check_counts(mesh, vertices, indices)
     return mesh
+
+
+# ---- what cannot be drawn
+
+def finite_part(mesh):
+    """The mesh without the vertices that are not finite, and without the triangles or lines that use them."""
+    kept = [v for v, point in enumerate(mesh.points) if is_finite(point)]
+    places = {v: place for place, v in enumerate(kept)}
+    part = Mesh()
+    part.name, part.solid, part.unlit = mesh.name, mesh.solid, mesh.unlit
+    part.points = [mesh.points[v] for v in kept]
+    part.parts = {mark: [values[v] for v in kept] if values else [] for mark, values in mesh.parts.items()}
+    part.shapes = [[places[v] for v in shape] for shape in mesh.shapes if all(v in places for v in shape)]
+    return part
+
+
+def left_out(mesh, part):
+    """What is said of the part, line by line."""
+    vertices, shapes = len(mesh.points) - len(part.points), len(mesh.shapes) - len(part.shapes)
+    kind = 'lines' if mesh.unlit else 'triangles'
+    if vertices:
+        yield (f'left out {vertices} of {len(mesh.points)} vertices, which are not finite, '
+               f'and with them {shapes} of {len(mesh.shapes)} {kind}')
+    if mesh.lacking:
+        yield f'{mesh.lacking} normals, colours or texture points are not finite and count as missing'
 
 
 # ---- Wavefront OBJ
@@ -128,7 +171,7 @@ def obj_corner(mesh, vertex, first):
 def obj(meshes):
     first = {'v': 0, 'u': 0, 'n': 0}
     for mesh in meshes:
-        yield f'o {mesh.name}'
+        yield f"o {'_'.join(mesh.name.split())}"
         yield from obj_vertices(mesh)
         for shape in mesh.shapes:
             yield ('l ' if mesh.unlit else 'f ') + ' '.join(obj_corner(mesh, v, first) for v in shape)
@@ -271,25 +314,28 @@ def cut(piece, found):
     return tuple(piece.part([p for p, _ in side], [e for _, e in side]) for side in sides)
 
 
-def best_plane(group, near):
-    """Of some planes the one that cuts the fewest pieces and parts the group well."""
-    planes = [piece.plane for piece in group if piece.plane]
-    step = max(1, len(planes) // TRIED)
+def best_cutter(group, near):
+    """Of some pieces the one whose plane cuts the fewest others and parts the group well."""
+    flat = [piece for piece in group if piece.plane]
+    step = max(1, len(flat) // TRIED)
 
-    def cost(plane):
-        found = [heights(piece, plane, near) for piece in group]
+    def cost(cutter):
+        found = [heights(piece, cutter.plane, near) for piece in group]
         below = sum(max(f) <= 0 for f in found)
         above = sum(min(f) >= 0 for f in found)
         return 8 * sum(map(is_cut, found)) + abs(below - above)
-    return min(planes[::step], key=cost)
+    return min(flat[::step], key=cost)
 
 
-def parted(group, plane, near):
-    """The pieces below the plane, on it and above it."""
+def parted(group, cutter, near):
+    """The pieces below the cutter's plane, on it and above it. The cutter is on it, however its heights are rounded:
+    so each part has fewer pieces than the group."""
     below, on, above = [], [], []
     for piece in group:
-        found = heights(piece, plane, near)
-        if is_cut(found):
+        found = heights(piece, cutter.plane, near)
+        if piece is cutter:
+            on.append(piece)
+        elif is_cut(found):
             low, high = cut(piece, found)
             below.append(low)
             above.append(high)
@@ -314,7 +360,7 @@ def painted(group, near):
         if ready:
             order.extend(group)
         elif any(piece.plane for piece in group):
-            below, on, above = parted(group, best_plane(group, near), near)
+            below, on, above = parted(group, best_cutter(group, near), near)
             waiting += [(above, False), (on, True), (below, False)]
         else:
             order.extend(sorted(group, key=depth))
@@ -367,6 +413,8 @@ def svg_piece(piece, frame):
 
 def svg(meshes, turn, tilt):
     group = pieces(meshes, axes(turn, tilt))
+    if not group:
+        files.tell('mesh.py', 'the picture is empty: no line, and no triangle that faces the eye')
     frame = Frame(group)
     near = 1e-3 / frame.scale
     size = f'{frame.width:.0f} {frame.height:.0f}'
@@ -381,40 +429,52 @@ def svg(meshes, turn, tilt):
 
 # ---- the command line
 
-def inputs(files):
-    if not files:
-        yield 'mesh', sys.stdin.read()
-    for file in files:
-        with open(file, encoding='ascii') as opened:
-            yield os.path.splitext(os.path.basename(file))[0], opened.read()
+def object_name(file):
+    return 'mesh' if file == '-' else os.path.splitext(os.path.basename(file))[0]
 
 
-def read_all(files):
-    meshes = []
-    for name, text in inputs(files):
-        try:
-            meshes.append(read(name, text))
-        except Fault as fault:
-            raise Fault(f'{name}: {fault}') from None
-    return meshes
+def read_all(names):
+    """The meshes of these files, as far as they can be drawn."""
+    meshes, parts = [], []
+    for name in names:
+        mesh = files.read(name, read)
+        mesh.name = object_name(name)
+        part = finite_part(mesh)
+        for what in left_out(mesh, part):
+            files.tell('mesh.py', f'{files.source_name(name)}: {what}')
+        meshes.append(mesh)
+        parts.append(part)
+    if any(mesh.points for mesh in meshes) and not any(part.points for part in parts):
+        raise Fault('nothing is left to draw')
+    return parts
 
 
-def main():
-    parser = argparse.ArgumentParser(description='A mesh of sitemesh as OBJ or as a picture. Not proved.')
-    parser.add_argument('form', choices=['obj', 'svg'])
-    parser.add_argument('files', nargs='*', metavar='MESH')
-    parser.add_argument('--turn', type=float, default=30, help='degrees round the Y axis (30)')
-    parser.add_argument('--tilt', type=float, default=30, help='degrees above the ground (30)')
-    choice = parser.parse_intermixed_args()
+def degrees(option, word):
     try:
-        meshes = read_all(choice.files)
-    except (Fault, OSError, UnicodeDecodeError) as fault:
-        print(f'mesh.py: {fault}', file=sys.stderr)
-        return 1
-    lines = obj(meshes) if choice.form == 'obj' else svg(meshes, choice.turn, choice.tilt)
-    print('\n'.join(lines))
+        value = float(word)
+    except ValueError:
+        value = math.nan
+    if not math.isfinite(value):
+        raise Fault(f"{option}: '{shown(word)}' is not a number of degrees")
+    return value
+
+
+def work():
+    parser = files.Parser('mesh.py', __doc__)
+    parser.add_argument('form', choices=['obj', 'svg'], help='Wavefront OBJ, or a picture')
+    parser.add_argument('files', nargs='*', metavar='MESH',
+                        help="a file with what sitemesh printed; '-', or no file, is standard input")
+    parser.add_argument('--turn', default='30', metavar='DEGREES', help='where the eye is, round the Y axis (30)')
+    parser.add_argument('--tilt', default='30', metavar='DEGREES', help='where the eye is, above the ground (30)')
+    choice = parser.parse_intermixed_args()
+    turn, tilt = degrees('--turn', choice.turn), degrees('--tilt', choice.tilt)
+    if choice.files.count('-') > 1:
+        raise Fault('standard input is named twice')
+    meshes = read_all(choice.files or ['-'])
+    lines = obj(meshes) if choice.form == 'obj' else svg(meshes, turn, tilt)
+    files.write('-', ''.join(line + '\n' for line in lines).encode(errors='surrogateescape'))
     return 0
 
 
 if __name__ == '__main__':
-    sys.exit(main())
+    sys.exit(files.status('mesh.py', work))

@@ -6,6 +6,8 @@ the triangles there, found by their heights alone.
 """
 import sys
 
+sys.dont_write_bytecode = True
+import files
 import mesh
 
 VIEWS = [(30, 30), (200, 40), (115, 15)]
@@ -43,6 +45,8 @@ def spread(pieces):
 
 def wrong_places(meshes, view):
     pieces = [turned_left(p) for p in mesh.pieces(meshes, mesh.axes(*view)) if p.plane]
+    if not pieces:
+        return 0, 0
     near = 1e-3 / mesh.Frame(pieces).scale
     order = [turned_left(p) for p in mesh.painted(pieces, near)]
     looked, wrong = 0, 0
@@ -64,4 +68,4 @@ def main(files):
 
 
 if __name__ == '__main__':
-    sys.exit(main(sys.argv[1:]))
+    sys.exit(files.status('painter.py', lambda: main(sys.argv[1:])))

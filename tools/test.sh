@@ -1,6 +1,6 @@
 #!/usr/bin/env bash
-# Tests of block.py and mesh.py on the examples and on tools/cases. The last line is the tally, 'N passed, M failed';
-# the exit status is 0 only where nothing failed.
+# Tests of block.py and mesh.py on the examples, on tools/cases and on texts written here. The last line is the tally,
+# 'N passed, M failed'; the exit status is 0 only where nothing failed.
 set -u
 cd "$(dirname "$0")/.." || exit 1
 program=${SITEMESH:-target/bin/sitemesh}
@@ -14,7 +14,7 @@ source tests/tally.sh
 
 # The block of a text is the stored one.
 stored_block() {
-    python3 tools/block.py "$1.txt" "$work/made.block" && cmp "$work/made.block" "$1.block"
+    python3 tools/block.py "$1.txt" "$work/made.block" 2> "$work/said" && cmp "$work/made.block" "$1.block"
 }
 
 # The text is refused, the message has the line and the words, and nothing is written.
@@ -26,11 +26,40 @@ faulty() { # text, line, words
     tally "refused text, line $2: $3" $?
 }
 
+# The command has status 1, writes nothing to standard output and one line, with the words, to standard error.
+fails() { # name, words, then the command
+    local name=$1 words=$2
+    shift 2
+    "$@" > "$work/out" 2> "$work/said"
+    [ $? -eq 1 ] && [ "$(wc -l < "$work/said")" -eq 1 ] && grep -q "$words" "$work/said" && [ ! -s "$work/out" ]
+    tally "one line: $name" $?
+}
+
+# The same of a command whose output nobody reads.
+fails_unread() { # name, then the command
+    local name=$1
+    shift
+    (sleep 0.2; "$@" 2> "$work/said"; printf '%s' $? > "$work/status") | true
+    [ "$(cat "$work/status")" -eq 1 ] && [ "$(wc -l < "$work/said")" -eq 1 ] && grep -q 'Broken pipe' "$work/said"
+    tally "one line: $name" $?
+}
+
+# The help has each of the words.
+helps() { # tool, words
+    local tool=$1 word
+    shift
+    python3 "tools/$tool" --help > "$work/help"
+    for word in "$@"; do
+        grep -q -e "$word" "$work/help"
+        tally "$tool --help has $word" $?
+    done
+}
+
 # Something that is no mesh gives the words on standard error, status 1 and nothing else.
 no_mesh() { # text, words
     for form in obj svg; do
         printf "$1" | python3 tools/mesh.py "$form" > "$work/out" 2> "$work/said"
-        [ $? -eq 1 ] && grep -q "^mesh.py: mesh: .*$2" "$work/said" && [ ! -s "$work/out" ]
+        [ $? -eq 1 ] && grep -q "^mesh.py: standard input: .*$2" "$work/said" && [ ! -s "$work/out" ]
         tally "$form: $2" $?
     done
 }
@@ -88,7 +117,61 @@ faulty 'shape ElevationGrid\ncreaseAngle 1\ncreaseAngle 2\n' 3 'given twice'
 faulty 'shape ElevationGrid\ncolor 1 1 1\ncolorRGBA 1 1 1 1\n' 3 'one of the two'
 faulty "shape ElevationGrid\nheight\n$(yes 0 | head -n 8192 | tr '\n' ' ')\n 0\n" 4 'more than 8192'
 
+nines=$(printf '9%.0s' {1..5000})
+
+# Files that cannot be read or written.
+fails_unread 'mesh.py, output unread' python3 tools/mesh.py svg examples/mast.mesh
+for form in obj svg; do
+    for bad in none.mesh examples examples/mast.block examples/mast.txt; do
+        fails "$form, $bad in the middle" "^mesh.py: $bad: " \
+            python3 tools/mesh.py "$form" examples/mast.mesh "$bad" examples/duct.mesh
+    done
+done
+for angle in 1e400 nan -inf abc "$nines"; do
+    fails "--tilt ${angle:0:8}" 'not a number of degrees' python3 tools/mesh.py svg "--tilt=$angle" examples/mast.mesh
+    fails "--turn ${angle:0:8}" 'not a number of degrees' python3 tools/mesh.py svg "--turn=$angle" examples/mast.mesh
+done
+fails 'standard input twice' 'named twice' python3 tools/mesh.py obj - -
+fails "painter's order of no mesh" 'none.mesh: No such file' python3 tools/painter.py none.mesh
+
+# Standard input and output, help, and a wrong command line.
+python3 tools/mesh.py obj - < examples/mast.mesh > "$work/named"
+python3 tools/mesh.py obj < examples/mast.mesh | cmp - "$work/named" && grep -q '^o mesh' "$work/named"
+tally 'mesh.py from standard input' $?
+helps mesh.py obj svg MESH --turn --tilt 'standard input' 'standard output' 'python3 tools/mesh.py'
+python3 tools/mesh.py one.txt 2> "$work/said"
+[ $? -eq 2 ] && [ "$(wc -l < "$work/said")" -eq 1 ]
+tally 'a wrong command line has status 2' $?
+
+# A vertex that is not finite: the rest is drawn.
+zero='00000000 00000000'
+printf 'mesh 5 6 0 0 1\n' > "$work/torn.mesh"
+for x in 00000000 7fc00000 3f800000 40000000 ff800000; do
+    printf 'v 0 %s 00000000 %s c 3f800000 %s 3f800000\n' "$x" "$x" "$zero" >> "$work/torn.mesh"
+done
+sed -i -e '4s/\(v 0 3f800000\) 00000000/\1 40000000/' -e '5s/c 3f800000/c 7f800000/' "$work/torn.mesh"
+printf 't 0 1 2\nt 0 2 3\n' >> "$work/torn.mesh"
+for form in obj svg; do
+    python3 tools/mesh.py "$form" "$work/torn.mesh" > "$work/torn.$form" 2> "$work/said" &&
+        grep -q 'torn.mesh: left out 2 of 5 vertices, .* and with them 1 of 2 triangles' "$work/said" &&
+        grep -q 'torn.mesh: 1 normals, colours or texture points are not finite' "$work/said"
+    tally "$form: the rest of a torn mesh, and what is left out" $?
+done
+printf 'o torn\nv 0 0 0 1 0 0\nv 1 2 1 1 0 0\nv 2 0 2 1 1 1\nf 1 2 3\n' | cmp - "$work/torn.obj"
+tally 'OBJ of a torn mesh' $?
+[ "$(grep -c 'd="M.*z"' "$work/torn.svg")" -eq 1 ]
+tally 'picture of a torn mesh' $?
+
+# A long thin triangle whose corners, rounded, are off its own plane: the order is still found.
+printf '%s\n' 'mesh 3 3 0 0 0' 'v 0 4cbebc20 00000000 bf800000' 'v 1 3a83126f ba83126f 7f61b1e6' \
+    'v 2 3a83126f 4cbebc20 7149f2ca' 't 0 1 2' > "$work/thin.mesh"
+timeout 20 python3 tools/mesh.py svg "$work/thin.mesh" | grep -q 'd="M.*z"'
+tally 'picture of a thin triangle' $?
+
 no_mesh 'no 6\n' 'refused, number 6, no shape'
+no_mesh 'no 12\n' 'not what sitemesh prints'
+no_mesh '' 'not what sitemesh prints'
+no_mesh "mesh $nines 0 1 0 0\n" 'counts are wanted'
 no_mesh 'long\n' 'longer than sitemesh reads'
 no_mesh 'hello\n' 'not what sitemesh prints'
 no_mesh 'mesh 1 0 1 0 0\nv 0 00000000 00000000\n' 'line 2'
