@@ -1,10 +1,13 @@
 #!/usr/bin/env python3
-"""Writes a block (docs/FORMAT.md 2) from a text file: python3 tools/block.py FILE.txt OUT.block
+"""Writes a block (docs/FORMAT.md 2) from a text file:
+
+    python3 tools/block.py examples/duct.txt duct.block
+    python3 tools/block.py - - < wall.txt | target/bin/sitemesh > wall.mesh
 
 NOT PROVED: this tool is plain Python for people. Nothing of the converter depends on it.
 
 A line names a field and its values; a line that begins with a number goes on with the list above it.
-Names and defaults are those of VRML97. '#' begins a comment, commas count as spaces.
+Names and defaults are those of VRML97. '#' begins a comment. The text is UTF-8.
 
     shape IndexedFaceSet      # or IndexedLineSet, ElevationGrid, Extrusion: the first field
     convex FALSE
@@ -16,16 +19,37 @@ Names and defaults are those of VRML97. '#' begins a comment, commas count as sp
 
 A list that is named without values is present and empty. Beyond VRML97's names: 'texture TRUE' asks for texture
 (need_uvs), and one of textureCenter, textureRotation, textureScale, textureTranslation makes the transform present.
+
+Commas count as spaces, as in VRML97. But a number with a fraction is written with a point: '0,5' alone between
+spaces is an error where fractions may stand, unless its comma parts two entries, as in '0 0 0,1 0 0'.
+
+Warnings, each a line on standard error with the line of the text; the block is written, and the status is 0:
+  - a run of coordIndex that is not drawn or, in a line set, is broken (FORMAT 6);
+  - a run, point or quad that is drawn without its colour, normal or texture point (FORMAT 7);
+  - a shape that draws nothing, a cap that is asked for and not drawn, a list that is not read or is too short.
+Runs, points and values are numbered from 0; an empty run counts and is not warned of.
+
+Errors, each a line on standard error, status 1, nothing written: a text that is not understood, and a block that
+would be refused for what it says (FORMAT 3, rows 4, 6 and 7: list limit, no shape, corners).
 """
 import math
+import os
 import re
 import struct
 import sys
+import textwrap
+
+sys.dont_write_bytecode = True
+import files
+import losses
+from files import Fault, shown
+from losses import DIMENSIONS
 
 LIST_LIMIT = 8192
 TOO_LARGE = 2.0**128 - 2.0**103  # from here on the nearest f32 is infinite
 NUMBER = re.compile(r'[+-]?(\d+\.?\d*|\.\d+)([eE][+-]?\d+)?', re.ASCII)
 WHOLE = re.compile(r'[+-]?\d+', re.ASCII)
+LONE_COMMA = re.compile(r'[+-]?\d+,\d+([eE][+-]?\d+)?(deg)?', re.ASCII)
 KINDS = ['IndexedFaceSet', 'IndexedLineSet', 'ElevationGrid', 'Extrusion']
 
 # The fields of each kind.
@@ -60,7 +84,6 @@ WIDTH = {
     'point': 3, 'color': 3, 'colorRGBA': 4, 'normal': 3, 'texCoord': 2, 'height': 1,
     'spine': 3, 'crossSection': 2, 'scale': 2, 'orientation': 4,
 }
-DIMENSIONS = ('xDimension', 'zDimension')
 DEFAULTS = {
     'creaseAngle': [0.0], 'xSpacing': [1.0], 'zSpacing': [1.0], 'textureCenter': [0.0, 0.0],
     'textureRotation': [0.0], 'textureScale': [1.0, 1.0], 'textureTranslation': [0.0, 0.0],
@@ -71,11 +94,36 @@ DEFAULTS = {
 FALSE_BY_DEFAULT = ('texture',)
 
 
-class Fault(Exception):
+class LineFault(Fault):
     """A fault of the text, with the number of its line."""
 
     def __init__(self, line, what):
-        super().__init__(f'line {line}: {what}')
+        super().__init__(f'line {line.at}: {what}')
+
+
+class Line:
+    """A line of the text: its number, its words, and which of them are followed by a comma as in '0,5'."""
+
+    def __init__(self, at, content):
+        self.at, self.words, self.commas = at, [], {}
+        for chunk in content.split('#')[0].split():
+            chunk = chunk.strip(',')
+            if LONE_COMMA.fullmatch(chunk):
+                self.commas[len(self.words)] = chunk
+            self.words += [word for word in chunk.split(',') if word]
+
+    def take_name(self):
+        """Takes the first word off."""
+        self.commas = {place - 1: chunk for place, chunk in self.commas.items()}
+        return self.words.pop(0)
+
+    def refuse_decimal_comma(self, width):
+        """Refuses '0,5', but for a comma between two entries of a line of whole entries."""
+        for place, chunk in self.commas.items():
+            if width == 1 or (place + 1) % width or len(self.words) % width:
+                point = shown(chunk.replace(',', '.'))
+                raise LineFault(self, f"'{shown(chunk)}' looks like a decimal comma: write a point ({point}), "
+                                'or a space after a comma that parts two numbers')
 
 
 def f32(x):
@@ -86,10 +134,10 @@ def f32(x):
 def number(word, line, unit=1.0):
     """The f32 nearest to the number, times the unit."""
     if not NUMBER.fullmatch(word):
-        raise Fault(line, f"'{word}' is not a number")
+        raise LineFault(line, f"'{shown(word)}' is not a number")
     value = float(word) * unit
     if abs(value) >= TOO_LARGE:
-        raise Fault(line, f'{word} is too large for f32')
+        raise LineFault(line, f'{shown(word)} is too large for f32')
     return f32(value)
 
 
@@ -102,103 +150,132 @@ def angle(word, line):
 
 def whole(word, line, least, most):
     if not WHOLE.fullmatch(word):
-        raise Fault(line, f"'{word}' is not a whole number")
-    if not least <= int(word) <= most:
-        raise Fault(line, f'{word} is not between {least} and {most}')
-    return int(word)
+        raise LineFault(line, f"'{shown(word)}' is not a whole number")
+    digits = word.lstrip('+-').lstrip('0')[:12] or '0'  # twelve are too large already, and Python reads 4,300 at most
+    value = -int(digits) if word[0] == '-' else int(digits)
+    if not least <= value <= most:
+        raise LineFault(line, f'{shown(word)} is not between {least} and {most}')
+    return value
 
 
-def flag(words, line):
-    if words not in (['TRUE'], ['FALSE']):
-        raise Fault(line, 'TRUE or FALSE is wanted')
-    return words == ['TRUE']
+def flag(line):
+    if line.words not in (['TRUE'], ['FALSE']):
+        raise LineFault(line, 'TRUE or FALSE is wanted')
+    return line.words == ['TRUE']
 
 
-def single(name, words, line):
+def single(name, line):
     count, is_angle = SINGLE[name]
-    if len(words) != count:
-        raise Fault(line, f'{name} has {count} value' + 's' * (count > 1))
-    return [(angle if is_angle else number)(w, line) for w in words]
+    line.refuse_decimal_comma(count)
+    if len(line.words) != count:
+        raise LineFault(line, f'{name} has {count} value' + 's' * (count > 1))
+    return [(angle if is_angle else number)(w, line) for w in line.words]
 
 
-def entries(name, words, line):
+def dimension(name, line):
+    if len(line.words) != 1:
+        raise LineFault(line, f'{name} has 1 value')
+    return whole(line.words[0], line, 0, LIST_LIMIT)
+
+
+def entries(name, line):
     """One line of a list: whole entries."""
     if name.endswith('Index'):
-        return [whole(w, line, -2**31, 2**31 - 1) for w in words]
+        return [whole(w, line, -2**31, 2**31 - 1) for w in line.words]
     width = WIDTH[name]
-    if len(words) % width:
-        raise Fault(line, f'an entry of {name} has {width} numbers, and a line holds whole entries')
-    is_angle = [name == 'orientation' and k % 4 == 3 for k in range(len(words))]
-    return [(angle if a else number)(w, line) for w, a in zip(words, is_angle)]
+    line.refuse_decimal_comma(width)
+    is_angle = [name == 'orientation' and k % 4 == 3 for k in range(len(line.words))]
+    values = [(angle if a else number)(w, line) for w, a in zip(line.words, is_angle)]
+    if len(values) % width:
+        raise LineFault(line, f'an entry of {name} has {width} numbers, and a line holds whole entries')
+    return values
 
 
 class Text:
     """The fields of a text file, read line by line."""
 
-    def __init__(self):
+    def __init__(self, lines):
         self.kind = None
         self.fields = {}
+        self.line_numbers = {}
+        self.entry_lines = {}  # of each value of a list
         self.open_list = None
-
-    def read(self, text):
-        line = 0
-        for line, content in enumerate(text.splitlines(), 1):
-            words = content.split('#')[0].replace(',', ' ').split()
-            if words:
-                self.line(words, line)
+        line = Line(1, '')
+        for at, content in enumerate(lines, 1):
+            line = Line(at, content)
+            if line.words:
+                self.line(line)
         if self.kind is None:
-            raise Fault(max(line, 1), "no shape is named: 'shape IndexedFaceSet', for one")
+            raise LineFault(line, "no shape is named: 'shape IndexedFaceSet', for one")
 
-    def line(self, words, line):
-        if words[0][0].isalpha():
+    def line(self, line):
+        if line.words[0][0].isalpha():
             self.open_list = None
-            self.field(words[0], words[1:], line)
+            self.field(line.take_name(), line)
         elif self.open_list:
-            self.add(self.open_list, words, line)
+            self.add(self.open_list, line)
         else:
-            raise Fault(line, f"'{words[0]}' belongs to no list")
+            raise LineFault(line, f"'{shown(line.words[0])}' belongs to no list")
 
-    def field(self, name, words, line):
+    def field(self, name, line):
         if name == 'shape':
-            return self.shape(words, line)
+            return self.shape(line)
         if self.kind is None:
-            raise Fault(line, "the first field is 'shape'")
+            raise LineFault(line, "the first field is 'shape'")
         if name in self.fields:
-            raise Fault(line, f'{name} is given twice')
+            raise LineFault(line, f'{name} is given twice')
+        self.line_numbers[name] = line.at
         if name in FLAGS[self.kind].split():
-            self.fields[name] = flag(words, line)
+            self.fields[name] = flag(line)
         elif name in SINGLES[self.kind].split():
-            self.fields[name] = single(name, words, line)
+            self.fields[name] = single(name, line)
         else:
-            self.list(name, words, line)
+            self.list(name, line)
 
-    def shape(self, words, line):
+    def shape(self, line):
         if self.kind is not None:
-            raise Fault(line, 'shape is given twice')
-        if len(words) != 1 or words[0] not in KINDS:
-            raise Fault(line, 'shape is one of ' + ', '.join(KINDS))
-        self.kind = words[0]
+            raise LineFault(line, 'shape is given twice')
+        if len(line.words) != 1 or line.words[0] not in KINDS:
+            raise LineFault(line, 'shape is one of ' + ', '.join(KINDS))
+        self.kind = line.words[0]
+        self.line_numbers['shape'] = line.at
 
-    def list(self, name, words, line):
+    def list(self, name, line):
         plain = 'color' if name == 'colorRGBA' else name
         if plain not in LISTS[self.kind]:
-            raise Fault(line, f'{self.kind} has no field {name}')
+            raise LineFault(line, f'{self.kind} has no field {shown(name)}')
         if plain == 'color' and {'color', 'colorRGBA'} & set(self.fields):
-            raise Fault(line, 'color and colorRGBA: one of the two')
+            raise LineFault(line, 'color and colorRGBA: one of the two')
         if name in DIMENSIONS:
-            if len(words) != 1:
-                raise Fault(line, f'{name} has 1 value')
-            self.fields[name] = whole(words[0], line, 0, LIST_LIMIT)
+            self.fields[name] = dimension(name, line)
             return
         self.fields[name] = []
+        self.entry_lines[name] = []
         self.open_list = name
-        self.add(name, words, line)
+        self.add(name, line)
 
-    def add(self, name, words, line):
+    def add(self, name, line):
         values = self.fields[name]
-        values.extend(entries(name, words, line))
+        values.extend(entries(name, line))
+        self.entry_lines[name].extend([line.at] * len(line.words))
         if len(values) > LIST_LIMIT * WIDTH.get(name, 1):
-            raise Fault(line, f'{name} has more than {LIST_LIMIT} entries')
+            raise LineFault(line, f'{name} has more than {LIST_LIMIT} entries')
+
+    def name(self, name):
+        """The name that the text uses for a field."""
+        return 'colorRGBA' if name == 'color' and 'colorRGBA' in self.fields else name
+
+    def values(self, name):
+        """The values of a list, or the standard's where it is not given."""
+        return self.fields.get(self.name(name), DEFAULTS.get(name, []))
+
+    def count(self, name):
+        """How many entries a list has."""
+        return len(self.values(name)) // WIDTH.get(self.name(name), 1)
+
+    def line_number(self, name):
+        """Where a field stands; of a field that is not given, where the shape is named."""
+        return self.line_numbers.get(self.name(name), self.line_numbers['shape'])
 
 
 class Bits:
@@ -259,40 +336,60 @@ def list_bytes(text, name):
     """The count of a list and its bytes."""
     if name in DIMENSIONS:
         return text.fields.get(name, 0), b''
-    if name == 'color' and 'colorRGBA' in text.fields:
-        name = 'colorRGBA'
-    values = text.fields.get(name, DEFAULTS.get(name, []))
+    values = text.values(name)
     if name.endswith('Index'):
         return len(values), struct.pack(f'>{len(values)}i', *values)
-    count = len(values) // WIDTH.get(name, 1)
     if name == 'orientation':
         values = turned(values)
-    return count, struct.pack(f'>{len(values)}f', *values)
+    return text.count(name), struct.pack(f'>{len(values)}f', *values)
 
 
-def block(source):
+def block(text):
     """The block of a text."""
-    text = Text()
-    text.read(source)
     lists = [list_bytes(text, name) for name in LISTS[text.kind]]
     return header(text, [count for count, _ in lists]) + twelve(text) + b''.join(part for _, part in lists)
 
 
-def main(arguments):
-    if len(arguments) != 2:
-        print('block.py FILE.txt OUT.block', file=sys.stderr)
-        return 2
-    source, target = arguments
-    try:
-        with open(source, encoding='utf-8') as file:
-            made = block(file.read())
-        with open(target, 'wb') as file:
-            file.write(made)
-    except (Fault, OSError, UnicodeDecodeError) as fault:
-        print(f'{source}: {fault}', file=sys.stderr)
+def accepted(lines):
+    """The text of these lines, if its block is not refused for what it says."""
+    text = Text(lines)
+    refusal = losses.refusal(text, LIST_LIMIT)
+    if refusal:
+        raise Fault('line {}: {}: there would be no mesh'.format(*refusal))
+    return text
+
+
+def refuse_same_file(source, target):
+    if '-' not in (source, target) and os.path.exists(target) and os.path.samefile(source, target):
+        raise Fault(f'{files.source_name(source)}: the block would be written over its own text')
+
+
+def fields_help():
+    """The fields of each kind."""
+    def listed(kind):
+        names = ' '.join(FLAGS[kind].split() + SINGLES[kind].split() + [name for name in LISTS[kind] if name])
+        names = names.replace('color ', 'color (or colorRGBA) ')
+        return textwrap.fill(f'{kind}: {names}', 110, initial_indent='  ', subsequent_indent='    ')
+    return '\n'.join(['fields of each shape:'] + [listed(kind) for kind in KINDS])
+
+
+def work():
+    parser = files.Parser('block.py', __doc__, fields_help())
+    parser.add_argument('text', metavar='FILE.txt', help="the text that is read; '-' is standard input")
+    parser.add_argument('block', metavar='OUT.block', help="the block that is written; '-' is standard output")
+    parser.add_argument('--strict', action='store_true', help='every warning is an error: nothing is written, status 1')
+    choice = parser.parse_args()
+    text = files.read(choice.text, accepted)
+    refuse_same_file(choice.text, choice.block)
+    found = losses.warnings(text)
+    for line, what in found:
+        mark = '' if choice.strict else 'warning: '
+        files.tell('block.py', f'{files.source_name(choice.text)}: line {line}: {mark}{what}')
+    if found and choice.strict:
         return 1
+    files.write(choice.block, block(text))
     return 0
 
 
 if __name__ == '__main__':
-    sys.exit(main(sys.argv[1:]))
+    sys.exit(files.status('block.py', work))

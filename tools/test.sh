@@ -26,6 +26,28 @@ faulty() { # text, line, words
     tally "refused text, line $2: $3" $?
 }
 
+# The text gives a block and one warning, with the line and the words; with --strict it gives an error and no block.
+warned() { # text, line, words
+    printf "$1" > "$work/faulty.txt"
+    rm -f "$work/strict.block"
+    python3 tools/block.py "$work/faulty.txt" "$work/faulty.block" 2> "$work/said" &&
+        [ "$(wc -l < "$work/said")" -eq 1 ] && grep -q "faulty.txt: line $2: warning: .*$3" "$work/said" &&
+        [ -s "$work/faulty.block" ]
+    tally "warning, line $2: $3" $?
+    python3 tools/block.py --strict "$work/faulty.txt" "$work/strict.block" 2> "$work/said"
+    [ $? -eq 1 ] && grep -q "faulty.txt: line $2: .*$3" "$work/said" && [ ! -e "$work/strict.block" ] &&
+        ! grep -q 'warning: ' "$work/said"
+    tally "--strict, line $2: $3" $?
+}
+
+# The text gives a block, here of so many bytes, and no warning.
+silent() { # name, text, bytes
+    printf "$2" > "$work/silent.txt"
+    python3 tools/block.py --strict "$work/silent.txt" "$work/silent.block" 2> "$work/said" &&
+        [ ! -s "$work/said" ] && [ "$(wc -c < "$work/silent.block")" -eq "$3" ]
+    tally "no warning: $1" $?
+}
+
 # The command has status 1, writes nothing to standard output and one line, with the words, to standard error.
 fails() { # name, words, then the command
     local name=$1 words=$2
@@ -74,6 +96,11 @@ for text in examples/*.txt tools/cases/*.txt; do
     tally "block of $text" $?
 done
 
+for text in examples/*.txt; do
+    python3 tools/block.py --strict "$text" "$work/made.block"
+    tally "no warning: $text" $?
+done
+
 for name in "${site[@]}"; do
     [ "$(wc -c < "examples/$name.block")" -le 8192 ] && grep -q '^mesh ' "examples/$name.mesh"
     tally "examples/$name fits what sitemesh lends" $?
@@ -84,6 +111,8 @@ if have 'meshes made again' "$program"; then
         "$program" < "${mesh%.mesh}.block" | cmp - "$mesh"
         tally "sitemesh prints $mesh" $?
     done
+    python3 tools/drawn.py "$program"
+    tally 'sitemesh draws what block.py does not warn of' $?
 fi
 
 python3 tools/mesh.py obj tools/cases/{full,lines,grid}.mesh | cmp - tools/cases/three.obj
@@ -117,10 +146,51 @@ faulty 'shape ElevationGrid\ncreaseAngle 1\ncreaseAngle 2\n' 3 'given twice'
 faulty 'shape ElevationGrid\ncolor 1 1 1\ncolorRGBA 1 1 1 1\n' 3 'one of the two'
 faulty "shape ElevationGrid\nheight\n$(yes 0 | head -n 8192 | tr '\n' ' ')\n 0\n" 4 'more than 8192'
 
+# Commas: between numbers they are spaces, in a number they are an error.
+faulty 'shape IndexedFaceSet\npoint 0,5 1,5\n' 2 'decimal comma: write a point'
+faulty 'shape IndexedFaceSet\npoint 0 0 0\n  0,5 1,5 2,0\n' 3 "'0,5' looks like a decimal comma"
+faulty 'shape IndexedFaceSet\npoint 0 0 0,5\n' 2 'decimal comma'
+faulty 'shape IndexedFaceSet\npoint 0 0 0,5, 0 0 0,5, 0 0 0,5\n' 2 'decimal comma'
+faulty 'shape ElevationGrid\nheight 0 0 0 -1,5e1\n' 2 'decimal comma'
+faulty 'shape ElevationGrid\ncreaseAngle 30,5deg\n' 2 'decimal comma'
+faulty 'shape ElevationGrid\ntextureCenter 0,5 0,5\n' 2 'decimal comma'
+silent 'commas between numbers' \
+    'shape IndexedFaceSet\npoint 0 0 0,1 0 0 , 1,1,0 0.5,1,0\ncoordIndex 0,1,2,-1,0,2 3,\ncreaseAngle,1\n' 144
+silent 'a byte-order mark and line ends of other systems' \
+    '\xef\xbb\xbfshape IndexedLineSet\r\npoint 0 0 0, 1 0 0\rcoordIndex 0 1\r\n' 100
+
+faulty 'shape IndexedFaceSet\npoint [ 0 0 0, 1 0 0 ]\n' 2 "'\[' is not a number"
+
+# Numbers that are too long, and what is no text.
 nines=$(printf '9%.0s' {1..5000})
+faulty "shape IndexedLineSet\ncoordIndex 0 $nines\n" 2 '(5000 characters) is not between'
+faulty "shape IndexedLineSet\ncoordIndex -$nines\n" 2 'is not between'
+faulty "shape ElevationGrid\nheight $nines\n" 2 '(5000 characters) is too large'
+faulty "shape ElevationGrid\nxDimension $nines\n" 2 'is not between'
+silent 'a whole number of 5,000 digits that is small' \
+    "shape IndexedLineSet\npoint 0 0 0, 0 1 0\ncoordIndex 0 ${nines//9/0}1\n" 100
+faulty '' 1 'no shape is named'
+faulty '\xff\xfes\x00' 1 'not text in UTF-8 (byte ff)'
+faulty 'shape ElevationGrid\n# Stra\xdfe\n' 2 'not text in UTF-8 (byte df)'
+faulty '\x1b[2J\n' 1 "'?\[2J' belongs to no list"
 
 # Files that cannot be read or written.
+good=examples/mast.txt
+fails 'a folder as text' 'examples: Is a directory' python3 tools/block.py examples "$work/o"
+fails 'no such text' 'none.txt: No such file' python3 tools/block.py none.txt "$work/o"
+fails 'a block as text' 'mast.block: line 1: .*not text' python3 tools/block.py examples/mast.block "$work/o"
+fails 'no folder for the block' 'none/o: No such file' python3 tools/block.py "$good" "$work/none/o"
+fails 'a folder as block' ': Is a directory' python3 tools/block.py "$good" "$work"
+cp "$good" "$work/own.txt"
+fails 'a block over its text' 'over its own text' python3 tools/block.py "$work/own.txt" "$work/own.txt"
+cmp "$good" "$work/own.txt"
+tally 'the text is still there' $?
+fails_unread 'block.py, output unread' python3 tools/block.py "$good" -
+fails_unread 'block.py --help, output unread' python3 tools/block.py --help
 fails_unread 'mesh.py, output unread' python3 tools/mesh.py svg examples/mast.mesh
+if [ -c /dev/full ]; then
+    fails 'block.py, full output' 'No space left' python3 tools/block.py "$good" /dev/full
+fi
 for form in obj svg; do
     for bad in none.mesh examples examples/mast.block examples/mast.txt; do
         fails "$form, $bad in the middle" "^mesh.py: $bad: " \
@@ -135,13 +205,65 @@ fails 'standard input twice' 'named twice' python3 tools/mesh.py obj - -
 fails "painter's order of no mesh" 'none.mesh: No such file' python3 tools/painter.py none.mesh
 
 # Standard input and output, help, and a wrong command line.
+python3 tools/block.py - - < "$good" | cmp - examples/mast.block
+tally 'block.py from standard input to standard output' $?
 python3 tools/mesh.py obj - < examples/mast.mesh > "$work/named"
 python3 tools/mesh.py obj < examples/mast.mesh | cmp - "$work/named" && grep -q '^o mesh' "$work/named"
 tally 'mesh.py from standard input' $?
+helps block.py FILE.txt OUT.block --strict 'standard input' 'standard output' 'python3 tools/block.py' textureScale
 helps mesh.py obj svg MESH --turn --tilt 'standard input' 'standard output' 'python3 tools/mesh.py'
-python3 tools/mesh.py one.txt 2> "$work/said"
+python3 tools/block.py one.txt 2> "$work/said"
 [ $? -eq 2 ] && [ "$(wc -l < "$work/said")" -eq 1 ]
 tally 'a wrong command line has status 2' $?
+
+# What would be refused (FORMAT 3).
+faulty 'shape ElevationGrid\nxDimension 3\nzDimension 3\nheight 0 0 0\n 0 0 0, 0 0\n' 4 'height has 8 entries, .*has 9'
+faulty 'shape ElevationGrid\nxDimension 2\nzDimension 1\nheight 0 0\n' 3 'zDimension is 1'
+faulty 'shape ElevationGrid\nzDimension 2\nheight 0 0\n' 1 'xDimension is not given'
+zeros=$(yes 0 | head -n 2500 | tr '\n' ' ')
+faulty "shape ElevationGrid\nzDimension 50\nxDimension 50\nheight $zeros" 3 '9604 corners'
+faulty 'shape Extrusion\nspine 0 0 0\n' 2 'spine has 1 entry'
+faulty 'shape Extrusion\nendCap TRUE\ncrossSection\n' 3 'crossSection has no entries'
+
+# What would not be drawn (FORMAT 6).
+faces='shape IndexedFaceSet\npoint 0 0 0, 1 0 0\n  1 1 0, 0 1 0\n'
+warned "${faces}coordIndex 0 1 2 -1\n0\n1 4 -1\n" 5 'run 1 is not drawn: 4 names no point (there are 4'
+warned "${faces}coordIndex 0 1 2 -1 -1 -7\n0 1 -1\n" 5 'run 3 is not drawn: a face has 3 .*, and it has 2'
+warned "${faces}coordIndex 0 1 2 -1\n\n0" 6 'run 1 is not drawn: .* it has 1'
+warned "${faces}coordIndex -1 -1\n" 4 'nothing is drawn'
+warned "$faces" 1 'nothing is drawn'
+warned 'shape IndexedFaceSet\npoint\ncoordIndex 0 1 2 3 4 -1\n' 3 'run 0 is not drawn: 0, 1, 2, 3 .. name no point'
+lines='shape IndexedLineSet\npoint 0 0 0, 1 0 0, 1 1 0\n'
+warned "${lines}coordIndex 0 1 -1\n0 1\n3 2 -1\n" 4 'run 1 is broken: 3 names no point'
+warned "${lines}coordIndex 0 1 -1\n0 3 2 -1\n" 4 'run 1 is not drawn: 3 names no point'
+warned "${lines}coordIndex 0 1 -1\n -1 2\n" 4 'run 2 is not drawn: a line has 2'
+silent 'empty runs' "${faces}coordIndex -1 -7 0 1 2 -1 -1 0 2 3 -1 -1\n" 164
+
+# What would be drawn without its colour, normal or texture point (FORMAT 7).
+two="${faces}coordIndex 0 1 2 -1\n0 2 3 -1\n"
+red='color 1 0 0'
+each='colorPerVertex FALSE\n'
+warned "${two}$red, 1 0 0, 1 0 0\n" 5 'run 1 has no color at 1 of its 3 entries: 3 names no color (there are 3'
+warned "${two}$red\ncolorIndex 0 0 0 -1 0 0\n" 5 'run 1 has no color at 1 of its 3 .*: colorIndex has 6 entries'
+warned "${two}$red\ncolorIndex 0 0 1 -1 0 0 0\n" 4 'run 0 has no color .*: 1 names no color (color has 1 entry)'
+warned "${two}normal 0 0 1\nnormalIndex 0 0 0 0 0 -1 0\n" 5 'run 1 has no normal at 1 .*: normalIndex has -1 there'
+warned "${two}texCoord 0 0, 1 0\ntexCoordIndex 0 0 1 -1 0 1 2\n" 5 'run 1 has no texCoord at 1 .*: 2 names no texCoord'
+warned "${two}$each$red\n" 5 'run 1 has no color of its own: color has 1 entry'
+warned "${two}$each$red\ncolorIndex 0\n" 5 'run 1 has no color of its own: colorIndex has 1 entry, too few'
+warned "${two}$each$red\ncolorIndex 0 -1 0\n" 5 'run 1 has no color of its own: colorIndex has -1 there'
+warned "${two}${each}colorRGBA 1 0 0 1\ncolorIndex 7 0\n" 4 'run 0 has no color of its own: 7 names no color'
+warned "${two}colorIndex 0 0 0 -1 0 0 0 -1\n" 6 'colorIndex is not read'
+warned "${lines}coordIndex 0 1 -1 1 2\n$each$red\n" 3 'run 1 has no color of its own'
+silent 'a value for each face, empty runs counted' "${faces}coordIndex -1 0 1 2 -1\n$each$red, 0 0 1\n" 160
+silent 'values that nothing needs' "${two}$red\ncolorIndex 0 0 0 9 0 0 0 9 9\n" 196
+grid='shape ElevationGrid\nxDimension 2\nzDimension 3\nheight 0 0 0 0 0 0\n'
+warned "${grid}$red\n" 5 'color has 1 entry for the 6 points of the grid'
+warned "${grid}${each}colorRGBA 1 0 0 1\n" 6 'colorRGBA has 1 entry for the 2 quads of the grid'
+warned "${grid}texCoord 0 0, 1 0\n" 5 'texCoord has 2 entries for the 6 points'
+silent 'a value for each quad' "${grid}${each}$red, 0 0 1\n" 116
+warned 'shape Extrusion\nspine 0 0 0, 0 1 0, 0 2 0\nscale 1 1, 2 2\n' 3 'scale has 2 entries for 3 spine points'
+warned 'shape Extrusion\ncrossSection 0 0, 1 0, 0 0\nendCap TRUE\n' 3 'endCap is not drawn'
+silent 'a ribbon without caps' 'shape Extrusion\ncrossSection 0 0, 1 0\n' 136
 
 # A vertex that is not finite: the rest is drawn.
 zero='00000000 00000000'

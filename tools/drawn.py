@@ -1,0 +1,87 @@
+#!/usr/bin/env python3
+"""Tests the warnings of block.py against the program, NOT PROVED: python3 tools/drawn.py target/bin/sitemesh
+
+Of face sets and line sets made up at random, sitemesh has to draw the whole of each run that is not warned of and
+nothing of one that is said not to be drawn, and to give white, the missing colour, just where a warning says so.
+"""
+import random
+import re
+import subprocess
+import sys
+
+sys.dont_write_bytecode = True
+import block
+import files
+import losses
+import mesh
+
+TEXTS = 400
+WARNING = re.compile(r'run (\d+) (is not drawn|is broken|has no color)')
+chance = random.Random(14)
+
+
+def indices(count, names):
+    """An index list with ends of runs, and with names beyond the last."""
+    def entry():
+        kind = chance.random()
+        return -chance.choice((1, 1, 7)) if kind < 0.2 else chance.randrange(names + (2 if kind > 0.9 else 0))
+    return [entry() for _ in range(count)]
+
+
+def some_text():
+    """The lines of a text; none of its colours is white."""
+    points, colours, entries = chance.randrange(1, 9), chance.randrange(1, 11), chance.randrange(24)
+    coordinates, numbers = indices(entries, points), []
+    if chance.random() < 0.6:
+        numbers = indices(chance.randrange(entries + 2), colours)
+    lines = ['shape ' + chance.choice(('IndexedFaceSet', 'IndexedLineSet')), 'point']
+    lines += [f'{k} {k * k} {k * k * k}' for k in range(points)]
+    lines += ['coordIndex'] + [str(entry) for entry in coordinates] + ['color'] + ['0.5 0.5 0.5'] * colours
+    return lines + ['colorPerVertex ' + chance.choice(('TRUE', 'FALSE')), 'colorIndex ' + ' '.join(map(str, numbers))]
+
+
+def printed(program, made):
+    try:
+        answer = subprocess.run([program], input=made, stdout=subprocess.PIPE, check=True).stdout
+    except OSError as fault:
+        raise files.Fault(f'{program}: {fault.strerror}') from None
+    return mesh.read(answer.decode().splitlines())
+
+
+def drawn_count(text, run, said):
+    """How many triangles or lines the run has, by the warnings."""
+    if 'is not drawn' in said:
+        return 0
+    if 'is broken' in said:
+        return sum(max(pair) < text.count('point') for pair in zip(run.entries, run.entries[1:]))
+    return len(run.entries) - (2 if text.kind == 'IndexedFaceSet' else 1)
+
+
+def is_right(text, found):
+    """Whether the mesh is what the warnings say."""
+    said = [WARNING.match(what) for _, what in losses.warnings(text)]
+    said = {(int(match[1]), match[2]) for match in said if match}
+    start, right = 0, True
+    for run in losses.runs(text):
+        of_run = {what for number, what in said if number == run.number}
+        shapes = found.shapes[start:start + drawn_count(text, run, of_run)]
+        start += drawn_count(text, run, of_run)
+        white = any(found.parts['c'][v] == mesh.MISSING['c'] for shape in shapes for v in shape)
+        # What is broken off a line may lack a colour too, and is not seen.
+        right_colour = white == ('has no color' in of_run) or (not white and 'is broken' in of_run)
+        right = right and right_colour and bool(shapes) == ('is not drawn' not in of_run)
+    return right and start == len(found.shapes)
+
+
+def main(program='target/bin/sitemesh'):
+    for _ in range(TEXTS):
+        lines = some_text()
+        text = block.Text(lines)
+        if not is_right(text, printed(program, block.block(text))):
+            print('not what is drawn:', *losses.warnings(text), *lines, sep='\n')
+            return 1
+    return 0
+
+
+if __name__ == '__main__':
+    sys.exit(files.status('drawn.py', lambda: main(*sys.argv[1:])))

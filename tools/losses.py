@@ -1,0 +1,201 @@
+"""What a block would not show: refusals and warnings for block.py. NOT PROVED.
+
+A text here is a `Text` of block.py. What is found is a line number of the text and words.
+"""
+DIMENSIONS = ('xDimension', 'zDimension')
+ATTRIBUTES = ('color', 'normal', 'texCoord')
+
+
+# ---- refusals 6 and 7 (FORMAT 3); 4 is found while the text is read
+
+def refusal(text, limit):
+    """Why the block would be refused; none where it would not be."""
+    find = {'ElevationGrid': grid_refusal, 'Extrusion': extrusion_refusal}.get(text.kind)
+    return find(text, limit) if find else None
+
+
+def entries_of(name, count):
+    return f"{name} has {count or 'no'} {'entry' if count == 1 else 'entries'}"
+
+
+def sides(text):
+    return [text.fields.get(name, 0) for name in DIMENSIONS]
+
+
+def grid_refusal(text, limit):
+    for name, side in zip(DIMENSIONS, sides(text)):
+        if side < 2:
+            given = side if name in text.fields else 'not given'
+            return text.line_number(name), f'{name} is {given}, and a grid has 2 or more'
+    x, z = sides(text)
+    if text.count('height') < x * z:
+        has = entries_of('height', text.count('height'))
+        return text.line_number('height'), f'{has}, and a grid of {x} by {z} has {x * z}'
+    return too_large(text, 'xDimension', x * z, 4 * (x - 1) * (z - 1), limit)
+
+
+def extrusion_refusal(text, limit):
+    for name in ('spine', 'crossSection'):
+        if text.count(name) < 2:
+            has = entries_of(name, text.count(name))
+            return text.line_number(name), f'{has}, and 2 or more are wanted'
+    rings, places = text.count('spine'), text.count('crossSection')
+    caps = sum(text.fields.get(name, True) for name in ('beginCap', 'endCap'))
+    corners = 4 * (rings - 1) * (places - 1) + caps * cap_corners(text)
+    return too_large(text, 'spine', rings * places, corners, limit)
+
+
+def too_large(text, name, points, corners, limit):
+    if max(points, corners) <= limit:
+        return None
+    return text.line_number(name), f'{points} points and {corners} corners, and {limit} of each are the most'
+
+
+def cap_corners(text):
+    """The corners of a cap (FORMAT 8.4); 0 where it is not drawn."""
+    values, count = text.values('crossSection'), text.count('crossSection')
+    if count > 2 and values[:2] == values[-2:]:
+        count -= 1
+    return count if count > 2 else 0
+
+
+# ---- warnings
+
+def warnings(text):
+    """What the mesh would lack, by line."""
+    find = {'ElevationGrid': grid_losses, 'Extrusion': extrusion_losses}.get(text.kind, set_losses)
+    return sorted(find(text), key=lambda found: found[0])
+
+
+class Run:
+    """A run of coordIndex: its number, the line on which it starts, the place of its first entry, its entries."""
+
+    def __init__(self, number, line, start, entries):
+        self.number, self.line, self.start, self.entries = number, line, start, entries
+
+
+def runs(text):
+    """The runs that are not empty; empty ones count in the numbers (FORMAT 6.1)."""
+    entries, lines = text.values('coordIndex'), text.entry_lines.get('coordIndex', [])
+    found, number, start = [], 0, 0
+    for place in range(len(entries) + 1):
+        if place == len(entries) or entries[place] < 0:
+            if start < place:
+                found.append(Run(number, lines[start], start, entries[start:place]))
+            number, start = number + 1, place + 1
+    return found
+
+
+def listed(name, count):
+    return f'there are {count}, numbered from 0' if count > 1 else entries_of(name, count)
+
+
+def set_losses(text):
+    """Of a face set or a line set."""
+    points, found = text.count('point'), runs(text)
+    is_face_set = text.kind == 'IndexedFaceSet'
+    fault = face_fault if is_face_set else line_fault
+    for run in found:
+        what = fault(run, points)
+        if what:
+            yield run.line, f'run {run.number} {what}'
+    if not found:
+        yield text.line_number('coordIndex'), 'nothing is drawn: coordIndex has no run'
+    drawn = [run for run in found if (is_kept if is_face_set else has_line)(run, points)]
+    for name in ATTRIBUTES:
+        yield from attribute_losses(text, name, drawn)
+
+
+def is_kept(run, points):
+    """FORMAT 6.2."""
+    return len(run.entries) > 2 and max(run.entries) < points
+
+
+def has_line(run, points):
+    """Whether two entries in a row name points (FORMAT 8.2)."""
+    return any(max(pair) < points for pair in zip(run.entries, run.entries[1:]))
+
+
+def beyond(run, points):
+    """The entries that name no point, for a message; '' where there are none."""
+    found = [str(entry) for entry in run.entries if entry >= points]
+    names = f"{', '.join(found[:4])}{' ..' * (len(found) > 4)} name{'s' * (len(found) == 1)} no point"
+    return f"{names} ({listed('point', points)})" if found else ''
+
+
+def face_fault(run, points):
+    """Why a face is not drawn; '' where it is."""
+    if len(run.entries) < 3:
+        return f'is not drawn: a face has 3 entries or more, and it has {len(run.entries)}'
+    return beyond(run, points) and f'is not drawn: {beyond(run, points)}'
+
+
+def line_fault(run, points):
+    """Why a line is not drawn or not whole; '' where it is."""
+    if len(run.entries) < 2:
+        return 'is not drawn: a line has 2 entries or more, and it has 1'
+    lost = 'is broken' if has_line(run, points) else 'is not drawn'
+    return beyond(run, points) and f'{lost}: {beyond(run, points)}'
+
+
+def attribute_losses(text, name, drawn):
+    """Drawn runs that lack a value of an attribute (FORMAT 7.1, 7.2)."""
+    own = name + 'Index'
+    if text.name(name) not in text.fields:
+        if text.values(own):
+            yield text.line_number(own), f'{own} is not read: {name} is not given'
+        return
+    per_vertex = text.fields.get(name + 'PerVertex', True)  # texCoord has no such field
+    for run in drawn:
+        lost = [why for why in (vertices_lack if per_vertex else face_lacks)(text, name, run) if why]
+        if lost:
+            where = f'at {len(lost)} of its {len(run.entries)} entries' if per_vertex else 'of its own'
+            yield run.line, f'run {run.number} has no {name} {where}: {lost[0]}'
+
+
+def vertices_lack(text, name, run):
+    """Of each entry that names a point, why its value is missing; '' where it is there."""
+    index = name + 'Index' if text.values(name + 'Index') else 'coordIndex'
+    points = text.count('point')
+    places = [run.start + k for k, entry in enumerate(run.entries) if entry < points]
+    return [index_lacks(text, name, index, place) for place in places]
+
+
+def face_lacks(text, name, run):
+    """The same of the run itself."""
+    if text.values(name + 'Index'):
+        return [index_lacks(text, name, name + 'Index', run.number)]
+    count = text.count(name)
+    return ['' if run.number < count else f'{entries_of(name, count)}, and runs are numbered from 0']
+
+
+def index_lacks(text, name, index, place):
+    entries = text.values(index)
+    if place >= len(entries):
+        return f'{entries_of(index, len(entries))}, too few'
+    if entries[place] < 0:
+        return f'{index} has {entries[place]} there'
+    count = text.count(name)
+    return '' if entries[place] < count else f'{entries[place]} names no {name} ({listed(name, count)})'
+
+
+def grid_losses(text):
+    x, z = sides(text)
+    for name in ATTRIBUTES:
+        per_vertex = text.fields.get(name + 'PerVertex', True)
+        needed = x * z if per_vertex else (x - 1) * (z - 1)
+        count = text.count(name)
+        if text.name(name) in text.fields and count < needed:
+            what = 'points' if per_vertex else 'quads'
+            yield text.line_number(name), f'{entries_of(text.name(name), count)} for the {needed} {what} of the grid'
+
+
+def extrusion_losses(text):
+    rings = text.count('spine')
+    for name in ('scale', 'orientation'):
+        if 1 < text.count(name) < rings:
+            has = entries_of(name, text.count(name))
+            yield text.line_number(name), f'{has} for {rings} spine points: the first serves for the rest'
+    for name in ('beginCap', 'endCap'):
+        if text.fields.get(name) and cap_corners(text) == 0:
+            yield text.line_number(name), f'{name} is not drawn: crossSection has fewer than 3 corners'
