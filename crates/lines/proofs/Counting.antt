@@ -1,4 +1,4 @@
--- The loop that counts: what is counted, and what is left.
+-- The loop over a run that counts: what is counted, and what is left.
 use mathlib.Core.Path.{_≡_, refl, sym, ap, _∙_}
 use mathlib.Core.Bool.{Bool, true, false, cond}
 use mathlib.Core.List.{List, [], _∷_}
@@ -8,6 +8,7 @@ use native.Mathlib.Omega.{arith}
 use lib.Dec.{ltb}
 use lib.ListN.{length, getD, drop, drop-of-length-le}
 use Rattle.mesh.specs.Sizes.{named, linesAfter}
+use Rattle.lines.specs.Totals.{Counted}
 use Rattle.lines.proofs.Passes.{drop-next, carry}
 
 -- the first k entries are counted; `after` says whether the last of them names a point
@@ -52,8 +53,14 @@ module _ {p : ℕ} {es : List ℕ} where
         move2 true b n m = carry b n m
         move2 false b n m = refl
 
-    pub counting-end : length es ≤ k → (corners ≡ named p es) × (lines ≡ linesAfter p false es)
+    pub counting-end : length es ≤ k → Counted p es (record { corners = corners; lines = lines })
     unfolding named linesAfter
     counting-end h =
         let d : drop k es ≡ [] = drop-of-length-le es h in
-        (omega (arith, C .corners, ap (named p) d), omega (arith, C .lines, ap (linesAfter p after) d))
+        let f = C .few in
+        let w = C .within in
+        record {
+          corners = omega (arith, C .corners, ap (named p) d);
+          lines = omega (arith, C .lines, ap (linesAfter p after) d);
+          few = (omega arith, omega arith);
+        }

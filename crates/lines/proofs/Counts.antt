@@ -1,4 +1,4 @@
--- FORMAT 2.2: a count has 14 bits, so a block lists few points and few entries: what `line_totals` and `list_entries` ask holds of every line set.
+-- FORMAT 2.2: a count has 14 bits, so a block lists few entries: what `list_entries` asks of their number holds of every line set.
 use mathlib.Core.Path.{_≡_}
 use mathlib.Core.List.{List}
 use Prim.Native.Nat.{ℕ, _*_, _/_, _^_, _≤_, _<_}
@@ -8,13 +8,9 @@ use Rattle.bits.proofs.Fields.{field-lt}
 use Rattle.block.specs.Header.{countsOf, headerOf}
 use Rattle.block.specs.Lists.{setWidths, listSize, placeOf}
 use Rattle.block.proofs.ListLaws.{widths-set, size-by, place-len}
-use Rattle.mesh.specs.FaceSet.{restOf, coordIn, pointCount}
+use Rattle.mesh.specs.FaceSet.{coordIn}
 
 module _ (bs : List ℕ) where
-  pub points-few : pointCount (restOf bs) ≤ 0x8000_0000
-  unfolding restOf headerOf countsOf
-  points-few = omega (arith, field-lt bs 20 14)
-
   entries-few : getD (headerOf bs .counts) 1 0 < 2 ^ 14
   unfolding headerOf countsOf
   entries-few = field-lt bs 34 14

@@ -1,187 +1,182 @@
--- The loop that lists the corners: the tables hold those of the entries before place k, and what is left of the corners is that of the entries from k on.
+-- The loops that list the corners, over the entries of a run and over the runs; and what the tables then hold.
 use mathlib.Core.Path.{_≡_, refl, sym, ap, _∙_}
-use mathlib.Core.Bool.{Bool, true, false, cond}
-use mathlib.Core.Option.{none, some}
 use mathlib.Core.List.{List, [], _∷_, _++_}
-use Prim.Native.Nat.{ℕ, zero, suc, _+_, _≤_, _<_}
-use native.Mathlib.Nat.{zero-add}
+use Prim.Native.Nat.{ℕ, suc, _+_, _/_, _≤_, _<_}
+use native.Mathlib.Nat.{add-zero, suc-add, add-suc}
 use native.Mathlib.Numerals.{add-one}
 use native.Mathlib.Omega.{arith}
-use lib.Dec.{ltb}
 use lib.ListN.{length, getD, set, drop, drop-of-length-le, length-set}
-use Rattle.block.specs.Runs.{endsRun}
-use Rattle.mesh.specs.Lines.{these, somes, flatItems}
+use Rattle.bits.specs.Bits.{entries}
+use Rattle.block.specs.Runs.{runOf, runs, runsLeft, RunPart, nextStart, sumOver}
+use Rattle.block.proofs.RunLaws.{runs-turn, runs-over}
+use Rattle.mesh.specs.Lists.{mapN, joinN}
+use Rattle.mesh.specs.Lines.{these, somes}
 use Rattle.mesh.specs.Sizes.{named}
+use Rattle.mesh.proofs.Lists.{All-getD}
 use Rattle.tables.specs.Kept.{Kept, TableOf}
 use Rattle.tables.proofs.Keep.{kept-all, kept-set, set-miss, table-none, table-more}
 use Rattle.corners.specs.declared.laid.CornerTables.{CornerTables}
 use Rattle.corners.specs.Laid.{Laid}
 use Rattle.corners.specs.Corner.{pointAt, placeAt, numberAt}
-use Rattle.lines.specs.Uses.{LineUse, noUse, useOf, lineUses, listedAt, Listed}
-use Rattle.lines.proofs.Passes.{drop-next}
-use Rattle.lines.proofs.Usage.{uses-below}
+use Rattle.lines.specs.Uses.{LineUse, noUse, useOf, runUses, lineUses, listedAt, listed, Listed}
+use Rattle.lines.specs.Added.{Added}
+use Rattle.lines.proofs.Passes.{drop-next, head-left}
+use Rattle.lines.proofs.Putting.{Split, Way, Left, left-all, left-here, left-next, left-end}
+use Rattle.lines.proofs.Usage.{use-here, length-uses, uses-below}
+
+-- ---- corners listed one after another
+
+module _ (t : CornerTables) where
+  length-listed : (w : List ℕ) (c : ℕ) (us : List LineUse) → length (listed t w c us) ≡ length w
+  unfolding listed listedAt
+  length-listed w c [] = refl
+  length-listed w c (u ∷ us) = length-listed (listedAt t w c u) (suc c) us ∙ simp length-set
+
+  listed-append : (w : List ℕ) (c : ℕ) (us vs : List LineUse) → listed t w c (us ++ vs) ≡ listed t (listed t w c us) (c + length us) vs
+  unfolding listed
+  listed-append w c [] vs = ap (λ (n : ℕ). listed t w n vs) (sym (add-zero c))
+  listed-append w c (u ∷ us) vs =
+      listed-append (listedAt t w c u) (suc c) us vs ∙ ap (λ (n : ℕ). listed t (listed t (listedAt t w c u) (suc c) us) n vs) (suc-add c (length us) ∙ sym (add-suc c (length us)))
+
+  listing : Way (listed t)
+  unfolding listed
+  listing = record { none = λ o a. refl; joins = listed-append; keeps = length-listed }
+
+-- ---- the entries of a run
+
+-- the first k entries es of the run at s, line `num`, are passed, since the next corner was c₀ and the words were w₀
+pub record RunListing (p num s : ℕ) (es : List ℕ) (t : CornerTables) (c₀ : ℕ) (w₀ : List ℕ) (k c : ℕ) (w : List ℕ) : Type 0 where
+  pub left : Left (listed t) (runUses p num (runOf s es)) c₀ w₀ (somes (mapN (useOf p num) (s + k) (drop k es))) c w
+
+pub run-start : {p num s : ℕ} {es : List ℕ} {t : CornerTables} {c : ℕ} {w : List ℕ} → RunListing p num s es t c w 0 c w
+unfolding runUses
+run-start {t = t} = record { left = rw add-zero (left-all (listed t)) }
+
+module _ {p num s : ℕ} {es : List ℕ} {t : CornerTables} {c₀ : ℕ} {w₀ : List ℕ} {k c : ℕ} {w : List ℕ} (L : RunListing p num s es t c₀ w₀ k c w) where
+  module _ (h : k < length es) where
+    next-entry : Split (somes (mapN (useOf p num) (s + k) (drop k es))) (these (useOf p num (s + k) (getD es k 0))) (somes (mapN (useOf p num) (s + (k + 1)) (drop (k + 1) es)))
+    unfolding somes mapN
+    next-entry =
+        let e : suc (s + k) ≡ s + (k + 1) = omega arith in
+        record {
+          is = ap (λ (l : List ℕ). somes (mapN (useOf p num) (s + k) l)) (drop-next es k h)
+              ∙ ap (λ (n : ℕ). these (useOf p num (s + k) (getD es k 0)) ++ somes (mapN (useOf p num) n (drop (k + 1) es))) e;
+        }
+
+    -- an entry that names a point is one of the corners
+    pub entry-here : c₀ + length (runUses p num (runOf s es)) ≤ t .count → getD es k 0 < p → c < t .count
+    entry-here q b = omega (arith, left-here (L .left) next-entry, ap length (use-here num (s + k) b))
+
+    pub entry-next : {c′ : ℕ} {w′ : List ℕ} → Added (listed t) (these (useOf p num (s + k) (getD es k 0))) c w c′ w′ → RunListing p num s es t c₀ w₀ (k + 1) c′ w′
+    entry-next A = record { left = left-next (L .left) next-entry (listing t) A }
+
+  pub run-end : length es ≤ k → Added (listed t) (runUses p num (runOf s es)) c₀ w₀ c w
+  unfolding somes mapN
+  run-end h = left-end (L .left) (listing t) (ap (λ (l : List ℕ). somes (mapN (useOf p num) (s + k) l)) (drop-of-length-le es h))
+
+-- ---- the runs
+
+-- the runs before entry s, `num` of them, are passed, since the words were w₀; their list is bs
+pub record Listing (p : ℕ) (bs : List ℕ) (t : CornerTables) (w₀ : List ℕ) (num s c : ℕ) (w : List ℕ) : Type 0 where
+  pub left : Left (listed t) (lineUses p (entries bs)) 0 w₀ (joinN (runUses p) num (runsLeft (entries bs) s)) c w
+
+pub listing-start : {p : ℕ} {bs : List ℕ} {t : CornerTables} {w : List ℕ} → Listing p bs t w 0 0 0 w
+unfolding lineUses
+listing-start {t = t} = record { left = left-all (listed t) }
+
+module _ {p : ℕ} {bs : List ℕ} {t : CornerTables} {w₀ : List ℕ} {num s c : ℕ} {w : List ℕ} (L : Listing p bs t w₀ num s c w) where
+  module _ {r : List ℕ} (B : RunPart bs s r) {n : ℕ} (q : n ≡ nextStart s r) (h : s < length bs / 4) where
+    next-run : Split (joinN (runUses p) num (runsLeft (entries bs) s)) (runUses p num (runOf s (entries r))) (joinN (runUses p) (num + 1) (runsLeft (entries bs) n))
+    unfolding joinN
+    next-run = record { is = rw add-one (runs-turn bs s r (B .items) n q h (joinN (runUses p) num)) }
+
+    pub listing-here : t .count ≡ sumOver (named p) (runs (entries bs)) → c + length (runUses p num (runOf s (entries r))) ≤ t .count
+    listing-here e = omega (arith, left-here (L .left) next-run, length-uses p (entries bs))
+
+    pub listing-next : {c′ : ℕ} {w′ : List ℕ} → Added (listed t) (runUses p num (runOf s (entries r))) c w c′ w′ → Listing p bs t w₀ (num + 1) n c′ w′
+    listing-next A = record { left = left-next (L .left) next-run (listing t) A }
+
+-- ---- the tables
 
 -- a store outside a table
 table-miss : {f : ℕ → ℕ} (w : List ℕ) (a n i v : ℕ) → ((j : ℕ) → j < n → a + j ≡ i → ⊥) → TableOf w a n f → TableOf (set w i v) a n f
 table-miss w a n i v h T = record { at = λ j b. set-miss w i v (a + j) (h j b) ∙ T .at j b }
 
--- the head of what is left
-head-left : {A : Type 0} (l : List A) (c : ℕ) (x : A) (r : List A) (d : A) → drop c l ≡ x ∷ r → (getD l c d ≡ x) × (drop (c + 1) l ≡ r)
-head-left [] zero x r d h = let z : _≡_ {A = ℕ} 0 1 = cc in absurd (omega arith)
-head-left [] (suc c) x r d h = let z : _≡_ {A = ℕ} 0 1 = cc in absurd (omega arith)
-head-left (y ∷ l) zero x r d h = (cc, cc)
-head-left (y ∷ l) (suc c) x r d h = let e : suc c + 1 ≡ suc (c + 1) = omega arith in rw e (head-left l c x r d h)
-
 -- corner c in the three tables
-module _ (t : CornerTables) (w : List ℕ) (c e k n : ℕ) (Q : Laid t (length w)) (l : c < t .count) where
+module _ (t : CornerTables) (w : List ℕ) (c : ℕ) (u : LineUse) (Q : Laid t (length w)) (l : c < t .count) where
   w₁ : List ℕ
-  w₁ = set w (t .corners + c) e
+  w₁ = set w (t .corners + c) (u .point)
 
   w₂ : List ℕ
-  w₂ = set w₁ (t .places + c) k
+  w₂ = set w₁ (t .places + c) (u .place)
 
   long₁ : length w₁ ≡ length w
   unfolding w₁
-  long₁ = length-set w (t .corners + c) e
+  long₁ = length-set w (t .corners + c) (u .point)
 
   long₂ : length w₂ ≡ length w
   unfolding w₂
-  long₂ = length-set w₁ (t .places + c) k ∙ long₁
+  long₂ = length-set w₁ (t .places + c) (u .place) ∙ long₁
 
-  points-more : {f : ℕ → ℕ} → e ≡ f c → TableOf w (t .corners) c f → TableOf (listedAt t c e k n w) (t .corners) (c + 1) f
+  points-more : {f : ℕ → ℕ} → u .point ≡ f c → TableOf w (t .corners) c f → TableOf (listedAt t w c u) (t .corners) (c + 1) f
   unfolding w₁ w₂ listedAt
   points-more {f} q T =
-      table-miss w₂ (t .corners) (c + 1) (t .numbers + c) n (λ j b r. omega arith)
-      (table-miss w₁ (t .corners) (c + 1) (t .places + c) k (λ j b r. omega arith) (table-more w (t .corners) c e (omega arith) q T))
+      table-miss w₂ (t .corners) (c + 1) (t .numbers + c) (u .number) (λ j b r. omega arith)
+      (table-miss w₁ (t .corners) (c + 1) (t .places + c) (u .place) (λ j b r. omega arith) (table-more w (t .corners) c (u .point) (omega arith) q T))
 
-  places-more : {f : ℕ → ℕ} → k ≡ f c → TableOf w (t .places) c f → TableOf (listedAt t c e k n w) (t .places) (c + 1) f
+  places-more : {f : ℕ → ℕ} → u .place ≡ f c → TableOf w (t .places) c f → TableOf (listedAt t w c u) (t .places) (c + 1) f
   unfolding w₁ w₂ listedAt
   places-more {f} q T =
-      table-miss w₂ (t .places) (c + 1) (t .numbers + c) n (λ j b r. omega arith)
-      (table-more w₁ (t .places) c k (omega (arith, long₁)) q (table-miss w (t .places) c (t .corners + c) e (λ j b r. omega arith) T))
+      table-miss w₂ (t .places) (c + 1) (t .numbers + c) (u .number) (λ j b r. omega arith)
+      (table-more w₁ (t .places) c (u .place) (omega (arith, long₁)) q (table-miss w (t .places) c (t .corners + c) (u .point) (λ j b r. omega arith) T))
 
-  numbers-more : {f : ℕ → ℕ} → n ≡ f c → TableOf w (t .numbers) c f → TableOf (listedAt t c e k n w) (t .numbers) (c + 1) f
+  numbers-more : {f : ℕ → ℕ} → u .number ≡ f c → TableOf w (t .numbers) c f → TableOf (listedAt t w c u) (t .numbers) (c + 1) f
   unfolding w₁ w₂ listedAt
   numbers-more {f} q T =
-      table-more w₂ (t .numbers) c n (omega (arith, long₂)) q
-      (table-miss w₁ (t .numbers) c (t .places + c) k (λ j b r. omega arith) (table-miss w (t .numbers) c (t .corners + c) e (λ j b r. omega arith) T))
+      table-more w₂ (t .numbers) c (u .number) (omega (arith, long₂)) q
+      (table-miss w₁ (t .numbers) c (t .places + c) (u .place) (λ j b r. omega arith) (table-miss w (t .numbers) c (t .corners + c) (u .point) (λ j b r. omega arith) T))
 
-  kept-more : {v : List ℕ} → Kept (t .corners) v w → Kept (t .corners) v (listedAt t c e k n w)
+  kept-more : {v : List ℕ} → Kept (t .corners) v w → Kept (t .corners) v (listedAt t w c u)
   unfolding listedAt
-  kept-more K = kept-set _ n (kept-set _ k (kept-set _ e K (omega arith)) (omega arith)) (omega arith)
+  kept-more K = kept-set _ (u .number) (kept-set _ (u .place) (kept-set _ (u .point) K (omega arith)) (omega arith)) (omega arith)
 
--- the corners of the first k entries are listed, c of them; the next is on line n
-pub record Listing (p : ℕ) (es : List ℕ) (t : CornerTables) (w w′ : List ℕ) (k c n : ℕ) : Type 0 where
-  pub within : k ≤ length es
-  pub few : n ≤ k
-  pub left : c + named p (drop k es) ≡ t .count
-  pub rest : drop c (lineUses p es) ≡ somes (flatItems (useOf p) n k (drop k es))
-  pub kept : Kept (t .corners) w w′
-  pub points : TableOf w′ (t .corners) c (λ j. getD (lineUses p es) j noUse .point)
-  pub places : TableOf w′ (t .places) c (λ j. getD (lineUses p es) j noUse .place)
-  pub numbers : TableOf w′ (t .numbers) c (λ j. getD (lineUses p es) j noUse .number)
+-- the tables hold the first c of the corners us; below them stands what stood in v
+record Holding (us : List LineUse) (t : CornerTables) (v w : List ℕ) (c : ℕ) : Type 0 where
+  pub kept : Kept (t .corners) v w
+  pub points : TableOf w (t .corners) c (λ j. getD us j noUse .point)
+  pub places : TableOf w (t .places) c (λ j. getD us j noUse .place)
+  pub numbers : TableOf w (t .numbers) c (λ j. getD us j noUse .number)
 
-module _ {p : ℕ} {es : List ℕ} {t : CornerTables} {w : List ℕ} where
-  pub listing-start : t .count ≡ named p es → Listing p es t w w 0 0 0
-  unfolding lineUses
-  listing-start h =
-      record {
-        within = omega arith;
-        few = omega arith;
-        left = zero-add _ ∙ sym h;
-        rest = refl;
-        kept = kept-all;
-        points = table-none;
-        places = table-none;
-        numbers = table-none;
-      }
+module _ (us : List LineUse) (t : CornerTables) (v : List ℕ) (Q : Laid t (length v)) where
+  holding-all : (more : List LineUse) (c : ℕ) (w : List ℕ) → drop c us ≡ more → c + length more ≡ t .count → Holding us t v w c → Holding us t v (listed t w c more) (t .count)
+  unfolding listed
+  holding-all [] c w d n H = let e : c ≡ t .count = omega arith in rw e at H
+  holding-all (u ∷ more) c w d n H =
+      let g = head-left us c u more noUse d in
+      let l : c < t .count = omega arith in
+      let q : Laid t (length w) = rw (H .kept .len) Q in
+      holding-all more (suc c) (listedAt t w c u) (g .1) (omega arith)
+      (rw (sym (add-one c)) (record {
+        kept = kept-more t w c u q l (H .kept);
+        points = points-more t w c u q l (sym (ap (λ (r : LineUse). r .point) (g .0))) (H .points);
+        places = places-more t w c u q l (sym (ap (λ (r : LineUse). r .place) (g .0))) (H .places);
+        numbers = numbers-more t w c u q l (sym (ap (λ (r : LineUse). r .number) (g .0))) (H .numbers);
+      }))
 
-  module _ {w′ : List ℕ} {k c n : ℕ} (L : Listing p es t w w′ k c n) where
-    pub listing-few : c ≤ t .count
-    listing-few = omega (arith, L .left)
+  listed-all : length us ≡ t .count → Holding us t v (listed t v 0 us) (t .count)
+  listed-all n = holding-all us 0 v refl (omega arith) (record { kept = kept-all; points = table-none; places = table-none; numbers = table-none })
 
-    module _ (h : k < length es) where
-      e : ℕ
-      e = getD es k 0
-
-      step : drop k es ≡ e ∷ drop (k + 1) es
-      unfolding e
-      step = drop-next es k h
-
-      next : ℕ
-      next = cond (endsRun e) (suc n) n
-
-      next-few : (b : Bool) → cond b (suc n) n ≤ k + 1
-      next-few true = let f = L .few in omega arith
-      next-few false = let f = L .few in omega arith
-
-      after : List LineUse
-      after = somes (flatItems (useOf p) next (k + 1) (drop (k + 1) es))
-
-      rest-next : drop c (lineUses p es) ≡ these (cond (ltb e p) (some (record { point = e; place = k; number = n })) none) ++ after
-      unfolding somes flatItems useOf after next
-      rest-next = L .rest ∙ ap (λ (l : List ℕ). somes (flatItems (useOf p) n k l)) step
-          ∙ ap (λ (j : ℕ). these (useOf p n k e) ++ somes (flatItems (useOf p) (cond (endsRun e) (suc n) n) j (drop (k + 1) es))) (sym (add-one k))
-
-      left-next : c + cond (ltb e p) (suc (named p (drop (k + 1) es))) (named p (drop (k + 1) es)) ≡ t .count
-      unfolding named
-      left-next = ap (λ (l : List ℕ). c + named p l) (sym step) ∙ L .left
-
-      -- an entry that names a point is the next corner
-      pub listing-here : ltb (getD es k 0) p ≡ true → c < t .count
-      unfolding e
-      listing-here b =
-          let m = named p (drop (k + 1) es) in
-          omega (arith, ap (λ (r : Bool). c + cond r (suc m) m) (sym b) ∙ left-next)
-
-      pub listing-next : Laid t (length w′) → (w″ : List ℕ) (c′ n′ : ℕ)
-          → w″ ≡ cond (ltb (getD es k 0) p) (listedAt t c (getD es k 0) k n w′) w′
-          → c′ ≡ cond (ltb (getD es k 0) p) (suc c) c → n′ ≡ cond (endsRun (getD es k 0)) (suc n) n → Listing p es t w w″ (k + 1) c′ n′
-      unfolding e next after
-      listing-next Q w″ c′ n′ ew ec en = go (ltb (getD es k 0) p) refl ew ec
-        where
-          go : (b : Bool) → ltb (getD es k 0) p ≡ b → w″ ≡ cond b (listedAt t c (getD es k 0) k n w′) w′ → c′ ≡ cond b (suc c) c → Listing p es t w w″ (k + 1) c′ n′
-          go false b ew ec =
-              let m = named p (drop (k + 1) es) in
-              rw (ew, ec, en) (record {
-                within = omega arith;
-                few = next-few (endsRun (getD es k 0));
-                left = ap (λ (r : Bool). c + cond r (suc m) m) (sym b) ∙ left-next;
-                rest = rest-next ∙ ap (λ (r : Bool). these (cond r (some (record { point = getD es k 0; place = k; number = n })) none) ++ after) b;
-                kept = L .kept;
-                points = L .points;
-                places = L .places;
-                numbers = L .numbers;
-              })
-          go true b ew ec =
-              let m = named p (drop (k + 1) es) in
-              let d : drop c (lineUses p es) ≡ record { point = getD es k 0; place = k; number = n } ∷ after
-              = rest-next ∙ ap (λ (r : Bool). these (cond r (some (record { point = getD es k 0; place = k; number = n })) none) ++ after) b in
-              let u = head-left (lineUses p es) c _ after noUse d in
-              let l = listing-here b in
-              let q : suc c ≡ c + 1 = sym (add-one c) in
-              let i : c + suc m ≡ t .count = ap (λ (r : Bool). c + cond r (suc m) m) (sym b) ∙ left-next in
-              rw (ew, ec, en, q) (record {
-                within = omega arith;
-                few = next-few (endsRun (getD es k 0));
-                left = omega arith;
-                rest = u .1;
-                kept = kept-more t w′ c _ k n Q l (L .kept);
-                points = points-more t w′ c _ k n Q l (sym (ap (λ (r : LineUse). r .point) (u .0))) (L .points);
-                places = places-more t w′ c _ k n Q l (sym (ap (λ (r : LineUse). r .place) (u .0))) (L .places);
-                numbers = numbers-more t w′ c _ k n Q l (sym (ap (λ (r : LineUse). r .number) (u .0))) (L .numbers);
-              })
-
-    pub listing-end : length es ≤ k → p ≡ t .spots → t .count ≡ named p es → Listed p es t w w′
-    unfolding named pointAt placeAt numberAt
-    listing-end h q m =
-        let d : drop k es ≡ [] = drop-of-length-le es h in
-        let e : c ≡ t .count = omega (arith, L .left, ap (named p) d) in
-        let P : TableOf w′ (t .corners) (t .count) (λ j. getD (lineUses p es) j noUse .point) = rw e at (L .points) in
-        record {
-          kept = L .kept;
-          points = P .at;
-          places = (rw e at (L .places)) .at;
-          numbers = (rw e at (L .numbers)) .at;
-          within = λ j b. rw (P .at j b, ← q) (uses-below p es j (rw (← m) b));
-        }
+pub listing-end : {p : ℕ} {bs : List ℕ} {t : CornerTables} {w₀ : List ℕ} {num s c : ℕ} {w : List ℕ} → Listing p bs t w₀ num s c w
+    → length bs / 4 ≤ s → Laid t (length w₀) → p ≡ t .spots → t .count ≡ sumOver (named p) (runs (entries bs)) → Listed p (entries bs) t w₀ w
+unfolding pointAt placeAt numberAt joinN
+listing-end {p} {bs} {t} {w₀} {num} {s} L h Q q n =
+    let U = lineUses p (entries bs) in
+    let l : length U ≡ t .count = length-uses p (entries bs) ∙ sym n in
+    let H = listed-all U t w₀ Q l in
+    rw (left-end (L .left) (listing t) (ap (joinN (runUses p) num) (runs-over bs s h)) .made) (record {
+      kept = H .kept;
+      points = H .points .at;
+      places = H .places .at;
+      numbers = H .numbers .at;
+      within = λ j b. rw (H .points .at j b, ← q) (All-getD (λ (u : LineUse). u .point < p) U (uses-below p (entries bs)) noUse j (omega arith));
+    })

@@ -13,6 +13,7 @@ use Rattle.bits.specs.declared.Words3.{Words3}
 use Rattle.bits.specs.declared.Words4.{Words4}
 use Rattle.block.specs.Header.{headerOf}
 use Rattle.block.specs.Lists.{placeOf, listBytes}
+use Rattle.block.specs.Runs.{runs, sumOver}
 use Rattle.block.specs.Value.{value4At}
 use Rattle.block.specs.Stream as stream
 use Rattle.block.specs.Stream.{streamOf, get4At}
@@ -98,18 +99,18 @@ module _ {missing : Words4} {bs : List ℕ} {L : Lent} {a : Attributes} {widths 
         }
 
   -- what `list_entries` leaves, from words that hold the points of the block
-  pub told-listed : {t : CornerTables} {w₀ w : List ℕ} (p : ℕ) → Listed p (entries (L .coord)) t w₀ w → pointCount (restOf bs) ≡ p → p ≤ 0x8000_0000
-      → t .count ≡ named p (entries (L .coord)) → Laid t (length w₀) → t .points + 3 * t .spots ≤ t .corners → pointsIn (chainsOf t) w₀ ≡ restOf bs .points
+  pub told-listed : {t : CornerTables} {w₀ w : List ℕ} (p : ℕ) → Listed p (entries (L .coord)) t w₀ w → pointCount (restOf bs) ≡ p
+      → t .count ≡ sumOver (named p) (runs (entries (L .coord))) → Laid t (length w₀) → t .points + 3 * t .spots ≤ t .corners → pointsIn (chainsOf t) w₀ ≡ restOf bs .points
       → Told missing (restOf bs) L a widths w t p
   unfolding pointsIn
-  told-listed {t} {w₀} {w} p E q few n Q order held =
+  told-listed {t} {w₀} {w} p E q n Q order held =
       let P = pointCount (restOf bs) in
       let es = entries (L .coord) in
       let U = lineUses P es in
       let F = keyFor missing (restOf bs) (L .coord) in
       let K = keyIn L a widths w t in
       let G : Listed P es t w₀ w = subst (λ (k : ℕ). Listed k es t w₀ w) (sym q) E in
-      let l : length U ≡ t .count = length-uses P es ∙ ap (λ (k : ℕ). named k es) q ∙ sym n in
+      let l : length U ≡ t .count = length-uses P es ∙ ap (λ (k : ℕ). sumOver (named k) (runs es)) q ∙ sym n in
       let m : length (tab K (t .count) 0) ≡ t .count = length-tab K (t .count) 0 in
       record {
         keys =
@@ -117,7 +118,7 @@ module _ {missing : Words4} {bs : List ℕ} {L : Lent} {a : Attributes} {widths 
             (λ i b.
             let b′ : i < t .count = omega (arith, m) in
             getD-tab K (t .count) 0 i noKey b′ ∙ ap K (zero-add i) ∙ key-is G i b′ ∙ sym (getD-map-lt F U i noKey noUse (omega (arith, l))))
-            ∙ sym (keys-uses missing (restOf bs) (L .coord) (rw q few));
+            ∙ sym (keys-uses missing (restOf bs) (L .coord));
         points = kept-seg (E .kept) (t .points) (3 * t .spots) order (omega arith) ∙ held;
         count = q;
       }

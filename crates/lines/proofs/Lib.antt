@@ -1,12 +1,13 @@
 -- The laws and proofs of the crate.
-pub mod Sums
 mod Passes
 mod Counting
 pub mod Usage
+mod Putting
 mod Entries
 pub mod Lengths
 mod Pairs
 pub mod UseKeys
+mod Indices
 mod Meshed
 pub mod Keyed
 pub mod Counts

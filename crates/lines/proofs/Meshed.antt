@@ -1,24 +1,22 @@
 -- FORMAT 5, 8.2: the vertices of all corners and the lines through their numbers are the mesh of the line set.
 use mathlib.Core.Path.{_≡_, refl, sym, ap, _∙_}
-use mathlib.Core.Option.{none}
 use mathlib.Core.List.{List, [], _++_, map}
-use Prim.Native.Nat.{ℕ, _+_, _*_, _≤_}
+use Prim.Native.Nat.{ℕ, _+_, _*_}
 use native.Mathlib.Nat.{add-zero, zero-add}
 use native.Mathlib.Omega.{arith}
 use lib.ListN.{length, getD, drop, length-map}
 use Rattle.polygon.proofs.Tabs.{length-tab, tab-shift, map-tab}
 use Rattle.bits.specs.Bits.{entries}
 use Rattle.bits.specs.declared.Words4.{Words4}
-use Rattle.block.specs.Runs.{runs}
+use Rattle.block.specs.Runs.{runs, sumOver}
 use Rattle.mesh.specs.Lists.{joinN, place, firsts}
 use Rattle.mesh.specs.Words.{words3, words4, pointWords}
 use Rattle.mesh.specs.Vertices.{Key, sameKey}
 use Rattle.mesh.specs.Mesh.{meshOf, slicesOf}
-use Rattle.mesh.specs.FaceSet.{Rest, pointCount}
-use Rattle.mesh.specs.Lines.{lineKeys, lineVertices, lineIndices, pairs, linesOf, lineFrame}
+use Rattle.mesh.specs.FaceSet.{Rest}
+use Rattle.mesh.specs.Lines.{lineKeys, lineVertices, lineIndices, linesOf, lineFrame}
 use Rattle.mesh.specs.Sizes.{named}
 use Rattle.mesh.proofs.Lists.{length-words}
-use Rattle.mesh.proofs.LinePass.{indices-flat}
 use Rattle.tables.specs.Kept.{seg}
 use Rattle.tables.proofs.Tabs.{seg-tab}
 use Rattle.vertices.specs.declared.places.Widths.{Widths}
@@ -30,23 +28,21 @@ use Rattle.corners.specs.declared.laid.CornerTables.{CornerTables}
 use Rattle.corners.specs.Laid.{Laid}
 use Rattle.corners.specs.Corner.{Lent, keyIn}
 use Rattle.corners.specs.Cornered.{verticesIn, Cornered}
-use Rattle.lines.specs.Steps.{Put}
+use Rattle.lines.specs.Steps.{runPairs, Put}
 use Rattle.lines.specs.Made.{Told, Lined}
 use Rattle.lines.proofs.UseKeys.{keys-count}
+use Rattle.lines.proofs.Indices.{indices-runs}
 
 -- a slice that holds what is made, and beyond it what it held
 beyond : (made z : List ℕ) (n : ℕ) {l : List ℕ} → length made ≡ n → l ≡ made ++ drop n z → l ≡ made ++ drop (length made) z
 beyond made z n e h = h ∙ ap (λ (k : ℕ). made ++ drop k z) (sym e)
 
 module _ {missing : Words4} {R : Rest} {L : Lent} {a : Attributes} {widths : Widths} {w : List ℕ} {t : CornerTables} {p : ℕ}
-    (T : Told missing R L a widths w t p) (few : p ≤ 0x8000_0000) where
-  listed : pointCount R ≤ 0x8000_0000
-  listed = rw (T .count) few
-
-  pub told-count : t .count ≡ named p (entries (L .coord))
+    (T : Told missing R L a widths w t p) where
+  pub told-count : t .count ≡ sumOver (named p) (runs (entries (L .coord)))
   told-count =
-      sym (length-tab (keyIn L a widths w t) (t .count) 0) ∙ ap length (T .keys) ∙ keys-count missing R (L .coord) listed
-      ∙ ap (λ (q : ℕ). named q (entries (L .coord))) (T .count)
+      sym (length-tab (keyIn L a widths w t) (t .count) 0) ∙ ap length (T .keys) ∙ keys-count missing R (L .coord)
+      ∙ ap (λ (q : ℕ). sumOver (named q) (runs (entries (L .coord)))) (T .count)
 
   vertices-are : verticesIn L a widths w t ≡ lineVertices missing R (L .coord)
   unfolding verticesIn madeOf lineVertices
@@ -70,18 +66,16 @@ module _ {missing : Words4} {R : Rest} {L : Lent} {a : Attributes} {widths : Wid
         ∙ sym (map-tab K (λ (k : Key). place sameKey k vs) (t .count) 0)
         ∙ ap (map (λ (k : Key). place sameKey k vs)) (T .keys)
 
-    indices-are : pairs p (seg w′ (t .named) (t .count)) 0 none (entries (L .coord)) ≡ lineIndices missing R (L .coord) vs
+    indices-are : runPairs p (seg w′ (t .named) (t .count)) 0 (runs (entries (L .coord))) ≡ lineIndices missing R (L .coord) vs
     unfolding number
     indices-are =
-        ap (λ (q : ℕ). pairs q (seg w′ (t .named) (t .count)) 0 none (entries (L .coord))) (sym (T .count))
-        ∙ ap (λ (l : List ℕ). pairs (pointCount R) l 0 none (entries (L .coord))) numbers-are
-        ∙ sym (indices-flat missing R (L .coord) listed vs)
+        (λ i. runPairs (sym (T .count) i) (numbers-are i) 0 (runs (entries (L .coord)))) ∙ sym (indices-runs missing R (L .coord) vs)
 
     holds : Holds widths (R .points) z x₀ s x vs
     unfolding vs
     holds = rw (T .points, vertices-are) at (C .holds)
 
-    pub lined-all : widths .normal ≡ 0 → widths .texture ≡ 0 → (o o′ : List ℕ) (r : ℕ) → Put (pairs p (seg w′ (t .named) (t .count)) 0 none (entries (L .coord))) r o o′
+    pub lined-all : widths .normal ≡ 0 → widths .texture ≡ 0 → (o o′ : List ℕ) (r : ℕ) → Put (runPairs p (seg w′ (t .named) (t .count)) 0 (runs (entries (L .coord)))) r o o′
         → Lined (slicesOf (linesOf missing R (L .coord))) widths z x₀ o s x o′ (record { vertices = n; indices = r })
     unfolding slicesOf meshOf linesOf lineFrame vs
     lined-all e f o o′ r P =

@@ -1,166 +1,158 @@
--- The loop that puts the lines: what is made so far, and what is left.
+-- The loops that put the lines: over the entries of a run, and over the runs.
 use mathlib.Core.Path.{_≡_, refl, sym, ap, _∙_}
-use mathlib.Core.Bool.{Bool, true, false, cond}
+use mathlib.Core.Bool.{Bool, true, false}
 use mathlib.Core.Option.{Option, none, some}
-use mathlib.Core.List.{List, [], _∷_, _++_, append-assoc, append-nil}
-use Prim.Native.Nat.{ℕ, suc, _+_, _-_, _*_, _≤_, _<_}
+use mathlib.Core.List.{List, []}
+use Prim.Native.Nat.{ℕ, _+_, _-_, _*_, _/_, _^_, _≤_, _<_}
 use native.Mathlib.Nat.{add-zero, zero-add}
 use native.Mathlib.Numerals.{add-one}
 use native.Mathlib.Omega.{arith}
 use borrow.Author.Tests.{lt-ltb, le-ltb}
 use lib.Dec.{ltb}
-use lib.ListN.{length, getD, set, take, drop, drop-of-length-le, length-append, length-drop, take-append-drop}
-use lib.Seq.{sets-eq}
-use Rattle.mesh.specs.Lines.{line, pairs}
+use lib.ListN.{length, getD, set, take, drop, drop-of-length-le}
+use lib.Seq.{sets, sets-eq, length-sets}
+use Rattle.bits.specs.Bits.{entries}
+use Rattle.block.specs.Runs.{runs, runsLeft, RunPart, nextStart, sumOver}
+use Rattle.block.proofs.RunLaws.{runs-turn, runs-over, sum-turn}
+use Rattle.mesh.specs.Lines.{line}
 use Rattle.mesh.specs.Sizes.{named, linesAfter}
-use Rattle.tables.specs.Kept.{seg, spliced}
-use Rattle.tables.proofs.Splices.{grow}
+use Rattle.mesh.proofs.Lists.{sets-append}
+use Rattle.tables.specs.Kept.{seg}
 use Rattle.lines.specs.declared.pairing.Progress.{Progress}
-use Rattle.lines.specs.Steps.{lastOf, lineAt, Stepped, Put}
+use Rattle.lines.specs.Added.{Added}
+use Rattle.lines.specs.Steps.{lastOf, vertexAt, cornerAfter, pairs, runPairs, Stepped, RunPut, Put}
 use Rattle.lines.proofs.Passes.{drop-next, carry}
-use Rattle.lines.proofs.Lengths.{length-pairs}
+use Rattle.lines.proofs.Lengths.{length-lines}
+use Rattle.lines.proofs.Putting.{Split, Way, Left, left-here, left-next, left-end}
+
+-- words put one after another
+stores : Way sets
+stores = record { none = λ o a. refl; joins = λ o a xs ys. sets-append xs ys o a; keeps = length-sets }
 
 -- ---- one line
 
-spliced-none : (l : List ℕ) (a : ℕ) → l ≡ spliced l a []
-unfolding spliced
-spliced-none l a = sym (rw (append-nil, add-zero) (take-append-drop a l))
+module _ (last next : ℕ) {after : Bool} where
+  pub line-two : after ≡ true → length (line (lastOf after last) (some next)) ≡ 2
+  unfolding lastOf
+  line-two e = rw e
 
-pub line-put : (l : List ℕ) (at last next : ℕ) (after : Bool) → after ≡ true → at + length (line (lastOf after last) (some next)) ≤ length l
-    → (at + 2 ≡ at + length (line (lastOf after last) (some next))) × (set (set l at last) (at + 1) next ≡ spliced l at (line (lastOf after last) (some next)))
-unfolding lastOf spliced
-line-put l at last next true e h = (refl, rw add-one (sets-eq (last ∷ next ∷ []) l at h))
-line-put l at last next false e h = let z : _≡_ {A = ℕ} 0 1 = cc in absurd (omega arith)
+  pub line-put : after ≡ true → (l : List ℕ) (at : ℕ) → set (set l at last) (at + 1) next ≡ sets l at (line (lastOf after last) (some next))
+  unfolding lastOf
+  line-put e l at = rw (e, add-one)
 
-pub line-left : (l : List ℕ) (at last next : ℕ) (after : Bool) → after ≡ false
-    → (at ≡ at + length (line (lastOf after last) (some next))) × (l ≡ spliced l at (line (lastOf after last) (some next)))
-unfolding lastOf
-line-left l at last next false e = (sym (add-zero at), spliced-none l at)
-line-left l at last next true e = let z : _≡_ {A = ℕ} 0 1 = cc in absurd (omega arith)
+  pub line-left : after ≡ false → (l : List ℕ) (at : ℕ) → Added sets (line (lastOf after last) (some next)) at l at l
+  unfolding lastOf
+  line-left e l at = rw e (record { next = sym (add-zero at); made = refl })
+
+pub line-none : (prev : Option ℕ) (l : List ℕ) (at : ℕ) → Added sets (line prev none) at l at l
+line-none none l at = record { next = sym (add-zero at); made = refl }
+line-none (some a) l at = record { next = sym (add-zero at); made = refl }
 
 -- ---- one entry
 
-module _ (p e : ℕ) (numbers : List ℕ) (w : Progress) (o : List ℕ) where
-  -- it names a point
-  pub step-here : (next at : ℕ) (o′ : List ℕ) → e < p → next ≡ getD numbers (w .corner) 0
-      → at ≡ w .at + length (line (lastOf (w .after) (w .last)) (some next)) → o′ ≡ spliced o (w .at) (line (lastOf (w .after) (w .last)) (some next))
-      → Stepped p e numbers w o (record { at = at; corner = w .corner + 1; after = true; last = next }) o′
-  unfolding lastOf lineAt
-  step-here next at o′ h n a q =
-      let t = lt-ltb e p h in
-      record {
-        next = rw (t, ← n) a;
-        corner = rw t (add-one (w .corner));
-        last = rw t (ap some n);
-        made = rw (t, ← n) q;
-      }
+module _ (p : ℕ) (numbers : List ℕ) (c : ℕ) {e : ℕ} where
+  pub vertex-here : e < p → vertexAt p numbers c e ≡ some (getD numbers c 0)
+  unfolding vertexAt
+  vertex-here h = rw (lt-ltb e p h)
 
-  pub step-past : p ≤ e → Stepped p e numbers w o (record { at = w .at; corner = w .corner; after = false; last = 0 }) o
-  unfolding lastOf lineAt
-  step-past h =
-      let t = le-ltb e p h in
-      record { next = rw t (sym (add-zero (w .at))); corner = rw t refl; last = rw t refl; made = rw t (spliced-none o (w .at)) }
+  pub vertex-past : p ≤ e → vertexAt p numbers c e ≡ none
+  unfolding vertexAt
+  vertex-past h = rw (le-ltb e p h)
 
-pub line-room : (p e next : ℕ) (numbers : List ℕ) (c : ℕ) (prev : Option ℕ) (at n : ℕ) → e < p → next ≡ getD numbers c 0
-    → at + length (lineAt p e numbers c prev) ≤ n → at + length (line prev (some next)) ≤ n
-unfolding lineAt
-line-room p e next numbers c prev at n h q r = rw q (rw (lt-ltb e p h) at r)
+module _ (p c : ℕ) {e : ℕ} where
+  pub corner-here : e < p → cornerAfter p c e ≡ c + 1
+  unfolding cornerAfter
+  corner-here h = rw (lt-ltb e p h, add-one)
 
--- ---- all entries
+  pub corner-past : p ≤ e → cornerAfter p c e ≡ c
+  unfolding cornerAfter
+  corner-past h = rw (le-ltb e p h)
+
+-- ---- the entries of a run
 
 -- the vertex numbers, as they are lent
 pub part-is : (w : List ℕ) (a n : ℕ) → take (a + n - a) (drop a w) ≡ seg w a n
 unfolding seg
 part-is w a n = let e : a + n - a ≡ n = omega arith in ap (λ (k : ℕ). take k (drop a w)) e
 
--- the first k entries are done since the indices were o₀; `count` corners there are
-pub record Pairing (p count : ℕ) (numbers es o₀ : List ℕ) (k : ℕ) (w : Progress) (o : List ℕ) : Type 0 where
-  pub made : List ℕ
-  pub within : k ≤ length es
-  pub left : w .corner + named p (drop k es) ≡ count
-  pub whole : made ++ pairs p numbers (w .corner) (lastOf (w .after) (w .last)) (drop k es) ≡ pairs p numbers 0 none es
-  pub size : length made ≡ w .at
-  pub is : o ≡ made ++ drop (w .at) o₀
+-- the first k entries of the run es are passed, since the progress was f and the indices were o₀
+pub record Pairing (p : ℕ) (es numbers : List ℕ) (f : Progress) (o₀ : List ℕ) (k : ℕ) (w : Progress) (o : List ℕ) : Type 0 where
+  pub fits : w .last .0 < 2 ^ 32
+  pub corners : w .corner .0 + named p (drop k es) ≡ f .corner .0 + named p es
+  pub left : Left sets (pairs p numbers (f .corner .0) none es) (f .at) o₀ (pairs p numbers (w .corner .0) (lastOf (w .after) (w .last .0)) (drop k es)) (w .at) o
 
-module _ {p count : ℕ} {numbers es o₀ : List ℕ} where
-  pub pairing-start : count ≡ named p es → Pairing p count numbers es o₀ 0 (record { at = 0; corner = 0; after = false; last = 0 }) o₀
-  unfolding lastOf
-  pairing-start h = record { made = []; within = omega arith; left = zero-add _ ∙ sym h; whole = refl; size = refl; is = refl }
-
-  module _ (room : 2 * linesAfter p false es ≤ length o₀) {k : ℕ} {w : Progress} {o : List ℕ} (P : Pairing p count numbers es o₀ k w o) where
-    rest : List ℕ
-    rest = pairs p numbers (w .corner) (lastOf (w .after) (w .last)) (drop k es)
-
-    fits : w .at + length rest ≤ length o₀
-    unfolding rest
-    fits =
-        let a = ap length (P .whole) in
-        let b = simp length-append at a in
-        omega (arith, b, P .size, length-pairs p numbers es 0 none)
-
-    pub pairing-length : length o ≡ length o₀
-    pairing-length =
-        ap length (P .is) ∙ length-append (P .made) (drop (w .at) o₀) ∙ omega (arith, P .size, length-drop (w .at) o₀, fits)
-
-    module _ (h : k < length es) where
-      e : ℕ
-      e = getD es k 0
-
-      piece : List ℕ
-      piece = lineAt p e numbers (w .corner) (lastOf (w .after) (w .last))
-
-      more : List ℕ
-      more = pairs p numbers (cond (ltb e p) (suc (w .corner)) (w .corner)) (cond (ltb e p) (some (getD numbers (w .corner) 0)) none) (drop (k + 1) es)
-
-      step : drop k es ≡ e ∷ drop (k + 1) es
-      unfolding e
-      step = drop-next es k h
-
-      rest-is : rest ≡ piece ++ more
-      unfolding rest piece more lineAt pairs
-      rest-is =
-          ap (pairs p numbers (w .corner) (lastOf (w .after) (w .last))) step ∙ go (ltb e p) (w .corner) (lastOf (w .after) (w .last)) (getD numbers (w .corner) 0) (drop (k + 1) es)
-        where
-          go : (b : Bool) (c : ℕ) (prev : Option ℕ) (n : ℕ) (r : List ℕ)
-              → cond b (line prev (some n) ++ pairs p numbers (suc c) (some n) r) (pairs p numbers c none r)
-              ≡ cond b (line prev (some n)) [] ++ pairs p numbers (cond b (suc c) c) (cond b (some n) none) r
-          go true c prev n r = refl
-          go false c prev n r = refl
-
-      left-is : w .corner + cond (ltb e p) (suc (named p (drop (k + 1) es))) (named p (drop (k + 1) es)) ≡ count
-      unfolding named
-      left-is = ap (λ (l : List ℕ). w .corner + named p l) (sym step) ∙ P .left
-
-      -- there is a number for an entry that names a point, and room for what it adds
-      pub pairing-here : getD es k 0 < p → w .corner < count
-      unfolding e
-      pairing-here l =
-          let m = named p (drop (k + 1) es) in
-          omega (arith, ap (λ (r : Bool). w .corner + cond r (suc m) m) (sym (lt-ltb (getD es k 0) p l)) ∙ left-is)
-
-      pub pairing-room : w .at + length (lineAt p (getD es k 0) numbers (w .corner) (lastOf (w .after) (w .last))) ≤ length o
-      unfolding e piece
-      pairing-room = let a = ap length rest-is in let b = simp length-append at a in omega (arith, b, fits, pairing-length)
-
-      pub pairing-next : (r : Progress) (o′ : List ℕ) → Stepped p (getD es k 0) numbers w o r o′ → Pairing p count numbers es o₀ (k + 1) r o′
-      unfolding e piece more rest
-      pairing-next r o′ S =
-          record {
-            made = P .made ++ piece;
-            within = omega arith;
-            left = ap (λ (c : ℕ). c + named p (drop (k + 1) es)) (S .corner) ∙ carry (ltb (getD es k 0) p) (w .corner) (named p (drop (k + 1) es)) ∙ left-is;
-            whole =
-                (λ i. (P .made ++ piece) ++ pairs p numbers (S .corner i) (S .last i) (drop (k + 1) es))
-                ∙ append-assoc (P .made) piece more ∙ ap (λ (l : List ℕ). P .made ++ l) (sym rest-is) ∙ P .whole;
-            size = length-append (P .made) piece ∙ ap (λ (n : ℕ). n + length piece) (P .size) ∙ sym (S .next);
-            is = S .made ∙ grow (P .made) o₀ o piece (w .at) (P .is) (P .size) ∙ ap (λ (n : ℕ). (P .made ++ piece) ++ drop n o₀) (sym (S .next));
-          }
-
-    pub pairing-end : length es ≤ k → Put (pairs p numbers 0 none es) (w .at) o₀ o
+module _ {p : ℕ} {es numbers : List ℕ} {f : Progress} {o₀ : List ℕ} {k : ℕ} {w : Progress} {o : List ℕ} (P : Pairing p es numbers f o₀ k w o) where
+  module _ (h : k < length es) where
+    next-line : Split (pairs p numbers (w .corner .0) (lastOf (w .after) (w .last .0)) (drop k es))
+        (line (lastOf (w .after) (w .last .0)) (vertexAt p numbers (w .corner .0) (getD es k 0)))
+        (pairs p numbers (cornerAfter p (w .corner .0) (getD es k 0)) (vertexAt p numbers (w .corner .0) (getD es k 0)) (drop (k + 1) es))
     unfolding pairs
-    pairing-end h =
-        let d : drop k es ≡ [] = drop-of-length-le es h in
-        let q : P .made ≡ pairs p numbers 0 none es
-        = sym (append-nil (P .made)) ∙ ap (λ (l : List ℕ). P .made ++ pairs p numbers (w .corner) (lastOf (w .after) (w .last)) l) (sym d) ∙ P .whole in
-        let n : w .at ≡ length (pairs p numbers 0 none es) = sym (P .size) ∙ ap length q in
-        record { count = n; made = P .is ∙ (λ i. q i ++ drop (n i) o₀) }
+    next-line = record { is = ap (pairs p numbers (w .corner .0) (lastOf (w .after) (w .last .0))) (drop-next es k h) }
+
+    corners-next : cornerAfter p (w .corner .0) (getD es k 0) + named p (drop (k + 1) es) ≡ f .corner .0 + named p es
+    unfolding cornerAfter named
+    corners-next =
+        carry (ltb (getD es k 0) p) (w .corner .0) (named p (drop (k + 1) es)) ∙ ap (λ (l : List ℕ). w .corner .0 + named p l) (sym (drop-next es k h)) ∙ P .corners
+
+    -- there is a number for an entry that names a point, and room for the line to it
+    pub pairing-here : f .corner .0 + named p es ≤ length numbers → getD es k 0 < p → w .corner .0 < length numbers
+    pairing-here q l = omega (arith, corner-here p (w .corner .0) l, corners-next)
+
+    pub pairing-room : f .at + length (pairs p numbers (f .corner .0) none es) ≤ length o₀
+        → w .at + length (line (lastOf (w .after) (w .last .0)) (vertexAt p numbers (w .corner .0) (getD es k 0))) ≤ length o
+    pairing-room q = omega (arith, left-here (P .left) next-line, P .left .len)
+
+    pub pairing-next : {r : Progress} {o′ : List ℕ} → Stepped p (getD es k 0) numbers w o r o′ → Pairing p es numbers f o₀ (k + 1) r o′
+    pairing-next S =
+        record {
+          fits = S .fits;
+          corners = rw (S .corner) corners-next;
+          left = rw (S .corner, S .last) (left-next (P .left) next-line stores (S .added));
+        }
+
+  pub pairing-end : length es ≤ k → RunPut p es numbers f o₀ w o
+  unfolding pairs named
+  pairing-end h =
+      let d : drop k es ≡ [] = drop-of-length-le es h in
+      record {
+        added = left-end (P .left) stores (ap (pairs p numbers (w .corner .0) (lastOf (w .after) (w .last .0))) d);
+        corner = omega (arith, P .corners, ap (named p) d);
+      }
+
+-- ---- the runs
+
+-- the runs before entry s are passed, since the indices were o₀; their list is bs
+pub record Lining (p : ℕ) (bs numbers o₀ : List ℕ) (s : ℕ) (w : Progress) (o : List ℕ) : Type 0 where
+  pub corners : w .corner .0 + sumOver (named p) (runsLeft (entries bs) s) ≡ sumOver (named p) (runs (entries bs))
+  pub left : Left sets (runPairs p numbers 0 (runs (entries bs))) 0 o₀ (runPairs p numbers (w .corner .0) (runsLeft (entries bs) s)) (w .at) o
+
+module _ {p : ℕ} {bs numbers o₀ : List ℕ} {s : ℕ} {w : Progress} {o : List ℕ} (N : Lining p bs numbers o₀ s w o) where
+  module _ {r : List ℕ} (B : RunPart bs s r) {n : ℕ} (q : n ≡ nextStart s r) (h : s < length bs / 4) where
+    run-line : Split (runPairs p numbers (w .corner .0) (runsLeft (entries bs) s)) (pairs p numbers (w .corner .0) none (entries r))
+        (runPairs p numbers (w .corner .0 + named p (entries r)) (runsLeft (entries bs) n))
+    unfolding runPairs
+    run-line = record { is = runs-turn bs s r (B .items) n q h (runPairs p numbers (w .corner .0)) }
+
+    named-turn : sumOver (named p) (runsLeft (entries bs) s) ≡ named p (entries r) + sumOver (named p) (runsLeft (entries bs) n)
+    named-turn = sum-turn bs s r (B .items) n q h (named p)
+
+    -- there are numbers for its corners, and room for its lines
+    pub lining-here : length numbers ≡ sumOver (named p) (runs (entries bs)) → w .corner .0 + named p (entries r) ≤ length numbers
+    lining-here e = omega (arith, named-turn, N .corners)
+
+    pub lining-room : 2 * sumOver (linesAfter p false) (runs (entries bs)) ≤ length o₀ → w .at + length (pairs p numbers (w .corner .0) none (entries r)) ≤ length o
+    lining-room e = omega (arith, left-here (N .left) run-line, N .left .len, length-lines p numbers (runs (entries bs)) 0)
+
+    pub lining-next : {w′ : Progress} {o′ : List ℕ} → RunPut p (entries r) numbers w o w′ o′ → Lining p bs numbers o₀ n w′ o′
+    lining-next R =
+        record {
+          corners = omega (arith, R .corner, named-turn, N .corners);
+          left = rw (R .corner) (left-next (N .left) run-line stores (R .added));
+        }
+
+  pub lining-end : 2 * sumOver (linesAfter p false) (runs (entries bs)) ≤ length o₀ → length bs / 4 ≤ s → Put (runPairs p numbers 0 (runs (entries bs))) (w .at) o₀ o
+  unfolding runPairs
+  lining-end e h =
+      let A = left-end (N .left) stores (ap (runPairs p numbers (w .corner .0)) (runs-over bs s h)) in
+      let l = length-lines p numbers (runs (entries bs)) 0 in
+      record { count = A .next ∙ zero-add _; made = A .made ∙ sets-eq (runPairs p numbers 0 (runs (entries bs))) o₀ 0 (omega arith) ∙ rw zero-add refl }

@@ -8,7 +8,7 @@ use lib.Ieee.{Float, binary32, ofBits}
 use lib.ListN.{length, drop, replicate}
 use Rattle.bits.specs.Bits.{entries}
 use Rattle.bits.specs.declared.Words4.{Words4}
-use Rattle.block.specs.Runs.{runs}
+use Rattle.block.specs.Runs.{runs, sumOver}
 use Rattle.polygon.specs.Loops.{tab}
 use Rattle.mesh.specs.Lists.{joinN}
 use Rattle.mesh.specs.Mesh.{Slices, slicesOf}
@@ -37,8 +37,7 @@ pub record Ready (L : Lent) (a : Attributes) (widths : Widths) (w : List ℕ) (t
   pub normal : widths .normal ≡ 0
   pub texture : widths .texture ≡ 0
   pub colour : (widths .colour ≡ 0) ⊎ (widths .colour ≡ 4)
-  pub few : p ≤ 0x8000_0000
-  pub room : 2 * linesAfter p false (entries (L .coord)) ≤ length o
+  pub room : 2 * sumOver (linesAfter p false) (runs (entries (L .coord))) ≤ length o
   pub missing : Words4
   pub rest : Rest
   pub told : Told missing rest L a widths w t p

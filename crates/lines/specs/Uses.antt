@@ -2,11 +2,13 @@
 use mathlib.Core.Path.{_≡_}
 use mathlib.Core.Bool.{cond}
 use mathlib.Core.Option.{Option, none, some}
-use mathlib.Core.List.{List}
-use Prim.Native.Nat.{ℕ, _+_, _<_}
+use mathlib.Core.List.{List, [], _∷_}
+use Prim.Native.Nat.{ℕ, suc, _+_, _<_}
 use lib.Dec.{ltb}
 use lib.ListN.{getD, set}
-use Rattle.mesh.specs.Lines.{somes, flatItems}
+use Rattle.block.specs.Runs.{Run, runs}
+use Rattle.mesh.specs.Lists.{mapN, joinN}
+use Rattle.mesh.specs.Lines.{somes}
 use Rattle.tables.specs.Kept.{Kept}
 use Rattle.corners.specs.declared.laid.CornerTables.{CornerTables}
 use Rattle.corners.specs.Corner.{pointAt, placeAt, numberAt}
@@ -25,13 +27,22 @@ noUse = record { point = 0; place = 0; number = 0 }
 unfoldable pub useOf : ℕ → ℕ → ℕ → ℕ → Option LineUse
 useOf p num k e = let u : LineUse = record { point = e; place = k; number = num } in cond (ltb e p) (some u) none
 
--- FORMAT 6.3: the corners, in one pass over the entries
-unfoldable pub lineUses : ℕ → List ℕ → List LineUse
-lineUses p es = somes (flatItems (useOf p) 0 0 es)
+-- FORMAT 6.3, indexed_line_set (run): the corners of run r, which is line `num`
+unfoldable pub runUses : ℕ → ℕ → Run → List LineUse
+runUses p num r = somes (mapN (useOf p num) (r .start) (r .items))
 
--- the words with corner c at point e, of place k and line `num`
-unfoldable pub listedAt : CornerTables → ℕ → ℕ → ℕ → ℕ → List ℕ → List ℕ
-listedAt t c e k num w = set (set (set w (t .corners + c) e) (t .places + c) k) (t .numbers + c) num
+-- FORMAT 6.3, indexed_line_set (split_runs, line_no): the corners, run by run; line numbers count every run
+unfoldable pub lineUses : ℕ → List ℕ → List LineUse
+lineUses p es = joinN (runUses p) 0 (runs es)
+
+-- the words w with corner c listed in the three tables
+unfoldable pub listedAt : CornerTables → List ℕ → ℕ → LineUse → List ℕ
+listedAt t w c u = set (set (set w (t .corners + c) (u .point)) (t .places + c) (u .place)) (t .numbers + c) (u .number)
+
+-- with the corners us listed, the first as number c
+unfoldable pub listed : CornerTables → List ℕ → ℕ → List LineUse → List ℕ
+listed t w c [] = w
+listed t w c (u ∷ us) = listed t (listedAt t w c u) (suc c) us
 
 -- the tables have the corners of the entries es, which name points; what stands below the corners is kept
 pub record Listed (p : ℕ) (es : List ℕ) (t : CornerTables) (w w′ : List ℕ) : Type 0 where

@@ -1,60 +1,110 @@
-// FORMAT 6.3: the lines in pairs of vertex numbers, in one pass over coordIndex.
+// FORMAT 6.3: the lines in pairs of vertex numbers, run by run.
 ghost use mathlib.Core.Path.{_≡_};
 ghost use mathlib.Core.Bool.{false};
 ghost use mathlib.Core.Option.{none, some};
-ghost use Prim.Native.Nat.{_+_, _*_, _<_, _≤_};
+ghost use Prim.Native.Nat.{_+_, _*_, _^_, _<_, _≤_};
 ghost use lib.ListN.{length};
+ghost use lib.Seq.{sets};
 ghost use Rattle.bits.specs.Bits.{entries};
-ghost use Rattle.mesh.specs.Lines.{line, pairs};
+ghost use Rattle.block.specs.Runs.{runs, sumOver};
+ghost use Rattle.mesh.specs.Lines.{line};
 ghost use Rattle.mesh.specs.Sizes as sizes;
-ghost use Rattle.tables.specs.Kept.{seg, spliced};
-ghost use Rattle.lines.specs.Steps.{lastOf, lineAt, Stepped, Put};
+ghost use Rattle.tables.specs.Kept.{seg};
+ghost use Rattle.lines.specs.Added.{Added};
+ghost use Rattle.lines.specs.Steps.{lastOf, vertexAt, pairs, runPairs, Stepped, RunPut, Put};
+use block::CornerNumber;
+use block::PointNumber;
+use block::VertexNumber;
+use block::next_start;
+use block::point_at;
+use block::run_at;
+use tables::wide;
 
 // How far the lines are put: the next place for an index, the next corner, and whether the entry before names a point, with its vertex number.
 pub struct Progress {
     pub at: usize,
-    pub corner: usize,
+    pub corner: CornerNumber,
     pub after: bool,
-    pub last: u32,
+    pub last: VertexNumber,
 }
 
 // The line from the entry before to vertex `next`, if that entry names a point. The next place.
-fn put_line(indices: &mut [u32], at: usize, after: bool, last: u32, next: u32) -> usize
-    requires { ⌜ at + length (line (lastOf after last) (some next)) ≤ length (now indices) ⌝ }
-    ensures { λ r. ⌜ (r ≡ at + length (line (lastOf after last) (some next)))
-        × (now (indices .exit) ≡ spliced (now (indices .entry)) at (line (lastOf after last) (some next))) ⌝ }
+fn put_line(
+    indices: &mut [u32],
+    at: usize,
+    after: bool,
+    last: VertexNumber,
+    next: VertexNumber,
+) -> usize
+    requires { ⌜ (at + length (line (lastOf after (last .0)) (some (next .0))) ≤ length (now indices)) × (last .0 < 2 ^ 32) × (next .0 < 2 ^ 32) ⌝ }
+    ensures { λ r. ⌜ Added sets (line (lastOf after (last .0)) (some (next .0))) at (now (indices .entry)) r (now (indices .exit)) ⌝ }
 {
     if after {
-        indices[at] = last;
-        indices[at + 1] = next;
+        indices[at] = last.0 as u32;
+        indices[at + 1] = next.0 as u32;
         return at + 2;
     }
     at
 }
 
-// One entry e. `numbers` has the vertex numbers of the corners.
-fn put_entry(e: u32, points: u32, numbers: &[u32], w: Progress, indices: &mut [u32]) -> Progress
-    requires { ⌜ (e < points → w .corner < length (now numbers))
-        × (w .at + length (lineAt points e (now numbers) (w .corner) (lastOf (w .after) (w .last))) ≤ length (now indices)) ⌝ }
-    ensures { λ r. ⌜ Stepped points e (now (numbers .entry)) w (now (indices .entry)) r (now (indices .exit)) ⌝ }
+// One entry, read as a point. `numbers` has the vertex numbers of the corners.
+fn put_entry(
+    e: PointNumber,
+    points: u32,
+    numbers: &[u32],
+    w: Progress,
+    indices: &mut [u32],
+) -> Progress
+    requires { ⌜ (e .0 < points → w .corner .0 < length (now numbers)) × (w .last .0 < 2 ^ 32)
+        × (w .at + length (line (lastOf (w .after) (w .last .0)) (vertexAt points (now numbers) (w .corner .0) (e .0))) ≤ length (now indices)) ⌝ }
+    ensures { λ r. ⌜ Stepped points (e .0) (now (numbers .entry)) w (now (indices .entry)) r (now (indices .exit)) ⌝ }
 {
-    if e < points {
-        let corner = w.corner;
-        let next = numbers[corner];
+    let corner = w.corner;
+    if e.0 < wide(points) {
+        let c = corner.0;
+        let next = VertexNumber(wide(numbers[c]));
         let at = put_line(indices, w.at, w.after, w.last, next);
         return Progress {
             at,
-            corner: corner + 1,
+            corner: CornerNumber(c + 1),
             after: true,
             last: next,
         };
     }
     Progress {
         at: w.at,
-        corner: w.corner,
+        corner,
         after: false,
-        last: 0,
+        last: VertexNumber(0),
     }
+}
+
+// The lines of one run: none comes from the run before.
+fn put_run(
+    run: &[u8],
+    points: u32,
+    numbers: &[u32],
+    from: Progress,
+    indices: &mut [u32],
+) -> Progress
+    requires { ⌜ (from .corner .0 + sizes.named points (entries (now run)) ≤ length (now numbers))
+        × (from .at + length (pairs points (now numbers) (from .corner .0) none (entries (now run))) ≤ length (now indices)) ⌝ }
+    ensures { λ r. ⌜ RunPut points (entries (now (run .entry))) (now (numbers .entry)) from (now (indices .entry)) r (now (indices .exit)) ⌝ }
+{
+    let n = run.len() / 4;
+    let corner = from.corner;
+    let mut w = Progress {
+        at: from.at,
+        corner,
+        after: false,
+        last: VertexNumber(0),
+    };
+    let mut j = 0;
+    while j < n {
+        w = put_entry(point_at(run, j), points, numbers, w, indices);
+        j += 1;
+    }
+    w
 }
 
 // All lines, through the vertex numbers that stand in `work` from `named` on, to the front of `indices`. How many indices there are.
@@ -66,23 +116,23 @@ pub fn put_lines(
     count: usize,
     indices: &mut [u32],
 ) -> usize
-    requires { ⌜ (named + count ≤ length (now work)) × (count ≡ sizes.named points (entries (now coord)))
-        × (2 * sizes.linesAfter points false (entries (now coord)) ≤ length (now indices)) ⌝ }
-    ensures { λ r. ⌜ Put (pairs points (seg (now (work .entry)) named count) 0 none (entries (now (coord .entry)))) r (now (indices .entry)) (now (indices .exit)) ⌝ }
+    requires { ⌜ (named + count ≤ length (now work)) × (count ≡ sumOver (sizes.named points) (runs (entries (now coord))))
+        × (2 * sumOver (sizes.linesAfter points false) (runs (entries (now coord))) ≤ length (now indices)) ⌝ }
+    ensures { λ r. ⌜ Put (runPairs points (seg (now (work .entry)) named count) 0 (runs (entries (now (coord .entry))))) r (now (indices .entry)) (now (indices .exit)) ⌝ }
 {
     let n = coord.len() / 4;
     let to = named + count;
     let mut w = Progress {
         at: 0,
-        corner: 0,
+        corner: CornerNumber(0),
         after: false,
-        last: 0,
+        last: VertexNumber(0),
     };
-    let mut k = 0;
-    while k < n {
-        let e = bits::entry(coord, k);
-        w = put_entry(e, points, &work[named..to], w, indices);
-        k += 1;
+    let mut start = 0;
+    while start < n {
+        let run = run_at(coord, start);
+        w = put_run(run, points, &work[named..to], w, indices);
+        start = next_start(start, run);
     }
     w.at
 }

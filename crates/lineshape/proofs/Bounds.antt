@@ -9,6 +9,7 @@ use lib.Seq.{take-all}
 use Rattle.bits.specs.Bits.{entries}
 use Rattle.block.specs.declared.header.Header.{Header}
 use Rattle.block.specs.Lists.{setWidths, listSize, listBytes}
+use Rattle.block.specs.Runs.{runs, sumOver}
 use Rattle.block.proofs.ListLaws.{widths-set, size-by, list-length, list-entries}
 use Rattle.mesh.specs.Mesh.{Slices}
 use Rattle.mesh.specs.FaceSet.{coordIn}
@@ -19,14 +20,13 @@ use Rattle.corners.specs.Laid.{Laid}
 use Rattle.block.specs.Settings.{settingsOf}
 use Rattle.lent.specs.Lent.{Asked, Enough}
 use Rattle.lent.proofs.Accepts.{sizes-low}
-use Rattle.lines.proofs.Sums.{named-runs, lines-runs}
 use Rattle.lines.proofs.Counts.{coord-short}
 use Rattle.lineshape.specs.Shape.{lineTables}
 use Rattle.lineshape.proofs.Tabling.{tables-laid}
 
--- FORMAT 6.3: the sizes of p points and the entries es, by one pass over these
-abbrev pub flatSizes : ℕ → List ℕ → Sizes
-flatSizes p es = record { points = p; corners = named p es; indices = 2 * linesAfter p false es }
+-- FORMAT 4, 6.3: the sizes of p points and the runs of the entries es
+abbrev pub sizesBy : ℕ → List ℕ → Sizes
+sizesBy p es = record { points = p; corners = sumOver (named p) (runs es); indices = 2 * sumOver (linesAfter p false) (runs es) }
 
 module _ {bs : List ℕ} {h : Header} {o : Slices} {w f : ℕ} (A : Asked 1 bs h (settingsOf bs) o w f) where
   sizes-are : sizesOf bs h ≡ lineSetSizes bs h
@@ -52,19 +52,15 @@ module _ {bs : List ℕ} {h : Header} {o : Slices} {w f : ℕ} (A : Asked 1 bs h
         take-all (3 * listedPoints h) (entries list) (omega (arith, n))
 
   module _ {coord : List ℕ} (c : coord ≡ listBytes bs h 1) where
-    sizes-flat : sizesOf bs h ≡ flatSizes (listedPoints h) (entries coord)
+    sizes-by : sizesOf bs h ≡ sizesBy (listedPoints h) (entries coord)
     unfolding lineSetSizes
-    sizes-flat =
-        let es = entries (listBytes bs h 1) in
-        let few : listedPoints h ≤ 0x8000_0000 = omega (arith, points-low) in
-        sizes-are ∙ (λ i. record { points = listedPoints h; corners = named-runs (listedPoints h) few es i; indices = 2 * lines-runs (listedPoints h) few es i })
-        ∙ ap (λ (l : List ℕ). flatSizes (listedPoints h) (entries l)) (sym c)
+    sizes-by = sizes-are ∙ ap (λ (l : List ℕ). sizesBy (listedPoints h) (entries l)) (sym c)
 
-    pub enough : Enough (flatSizes (listedPoints h) (entries coord)) o w f
-    enough = subst (λ (z : Sizes). Enough z o w f) sizes-flat (A .enough)
+    pub enough : Enough (sizesBy (listedPoints h) (entries coord)) o w f
+    enough = subst (λ (z : Sizes). Enough z o w f) sizes-by (A .enough)
 
-    pub corners-low : named (listedPoints h) (entries coord) ≤ most
-    corners-low = let p = subst (λ (z : Sizes). z .corners ≤ A .limit) sizes-flat (sizes-low (A .accepted) .1) in omega (arith, p, A .accepted .low)
+    pub corners-low : sumOver (named (listedPoints h)) (runs (entries coord)) ≤ most
+    corners-low = let p = subst (λ (z : Sizes). z .corners ≤ A .limit) sizes-by (sizes-low (A .accepted) .1) in omega (arith, p, A .accepted .low)
 
     pub laid-at : {t : CornerTables} → t ≡ lineTables (listedPoints h) (entries coord) → Laid t w
     laid-at e = subst (λ (t : CornerTables). Laid t w) (sym e) (tables-laid (listedPoints h) (entries coord) points-low corners-low w (enough .words))

@@ -3,7 +3,7 @@ use mathlib.Core.Path.{_≡_, refl, sym, ap, _∙_, subst}
 use mathlib.Core.Bool.{Bool, true, false, cond}
 use mathlib.Core.Logic.{_⊎_, inl, inr}
 use mathlib.Core.List.{List, []}
-use Prim.Native.Nat.{ℕ, _*_, _≤_}
+use Prim.Native.Nat.{ℕ, _*_}
 use native.Mathlib.Omega.{arith}
 use lib.ListN.{length, getD, take, replicate}
 use lib.Ieee.{Float}
@@ -32,7 +32,7 @@ use Rattle.lines.specs.Made.{Told, Ready, Lined, Done}
 use Rattle.lines.proofs.Keyed.{Coloured, told-listed}
 use Rattle.lineshape.specs.Shape.{lineTables, lineWidths, Tabled}
 use Rattle.lineshape.proofs.Tabling.{stand, points-before}
-use Rattle.lineshape.proofs.Bounds.{points-low, points-all, enough, corners-low, laid-at}
+use Rattle.lineshape.proofs.Bounds.{points-all, enough, corners-low, laid-at}
 
 -- FORMAT 5: a slice of an attribute that is not made, and of one that is made where b holds, by the width u
 unmade : (b : Bool) (made held : List ℕ) {l : List ℕ} → b ≡ false → l ≡ held → l ≡ over (cond b made []) held
@@ -88,7 +88,7 @@ module _ (missing : Words4) (d : List Float) {bs : List ℕ} {h : Header} {o : S
   unfolding read
   told =
       let S = stand (listedPoints h) (entries coord) e in
-      told-listed coloured (listedPoints h) (T .listed) count-is (omega (arith, points-low A)) (S .3) (subst (Laid t) (sym (T .len)) (laid-at A c e))
+      told-listed coloured (listedPoints h) (T .listed) count-is (S .3) (subst (Laid t) (sym (T .len)) (laid-at A c e))
       (points-before (listedPoints h) (entries coord) e) (T .points ∙ points-are)
 
   len : length w₁ ≡ length w
@@ -125,7 +125,6 @@ module _ (missing : Words4) (d : List Float) {bs : List ℕ} {h : Header} {o : S
         normal = coloured .normal;
         texture = coloured .texture;
         colour = subst (λ (x : Widths). (x .colour ≡ 0) ⊎ (x .colour ≡ 4)) (sym v) (wide-by (h .colors) 4);
-        few = omega (arith, points-low A);
         room = N .indices;
         missing = missing;
         rest = restOf bs;

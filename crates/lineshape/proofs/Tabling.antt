@@ -12,11 +12,10 @@ use Rattle.corners.specs.declared.laid.CornerTables.{CornerTables}
 use Rattle.corners.specs.Laid.{tablesAt, Laid}
 use Rattle.faceset.specs.Written.{Copied}
 use Rattle.lines.specs.Uses.{Listed}
-use Rattle.lines.proofs.Sums.{named-runs}
 use Rattle.lineshape.specs.Shape.{lineTables, Tabled}
 
 module _ (p : ℕ) (es : List ℕ) (few : p ≤ most) where
-  pub tables-laid : named p es ≤ most → (len : ℕ) → 8 * (named p es + p) + 8 ≤ len → Laid (lineTables p es) len
+  pub tables-laid : sumOver (named p) (runs es) ≤ most → (len : ℕ) → 8 * (sumOver (named p) (runs es) + p) + 8 ≤ len → Laid (lineTables p es) len
   unfolding lineTables tablesAt
   tables-laid low len l =
       record {
@@ -34,19 +33,16 @@ module _ (p : ℕ) (es : List ℕ) (few : p ≤ most) where
 
   -- with the count c and the points s as the code has them
   module _ {c s : ℕ} (n : c ≡ sumOver (named p) (runs es)) (q : s ≡ p) where
-    count-is : c ≡ named p es
-    count-is = n ∙ named-runs p (omega arith) es
-
-    pub tables-low : named p es ≤ most → (c ≤ most) × (s ≤ most)
-    tables-low low = (omega (arith, count-is), omega arith)
+    pub tables-low : sumOver (named p) (runs es) ≤ most → (c ≤ most) × (s ≤ most)
+    tables-low low = (omega arith, omega arith)
 
     pub tables-by : tablesAt c 0 s (3 * s) (3 * s + c) (3 * s + c + c) (3 * s + c + c + c) ≡ lineTables p es
     unfolding lineTables
-    tables-by = ap₂ (λ (c s : ℕ). tablesAt c 0 s (3 * s) (3 * s + c) (3 * s + c + c) (3 * s + c + c + c)) count-is q
+    tables-by = ap₂ (λ (c s : ℕ). tablesAt c 0 s (3 * s) (3 * s + c) (3 * s + c + c) (3 * s + c + c + c)) n q
 
 module _ (p : ℕ) (es : List ℕ) {t : CornerTables} (e : t ≡ lineTables p es) where
   -- the points are at the start, and the corners' points follow
-  pub stand : (t .points ≡ 0) × (t .spots ≡ p) × (t .corners ≡ 3 * p) × (t .count ≡ named p es)
+  pub stand : (t .points ≡ 0) × (t .spots ≡ p) × (t .corners ≡ 3 * p) × (t .count ≡ sumOver (named p) (runs es))
   unfolding lineTables tablesAt
   stand =
       (ap (λ (t : CornerTables). t .points) e, ap (λ (t : CornerTables). t .spots) e, ap (λ (t : CornerTables). t .corners) e, ap (λ (t : CornerTables). t .count) e)

@@ -5,6 +5,7 @@ use mathlib.Core.List.{List}
 use Prim.Native.Nat.{ℕ, _+_, _*_}
 use lib.ListN.{length, take}
 use Rattle.block.specs.declared.header.Header.{Header}
+use Rattle.block.specs.Runs.{runs, sumOver}
 use Rattle.mesh.specs.Mesh.{Slices}
 use Rattle.mesh.specs.Sizes.{named, sizesOf}
 use Rattle.vertices.specs.declared.places.Widths.{Widths}
@@ -13,10 +14,10 @@ use Rattle.corners.specs.declared.laid.CornerTables.{CornerTables}
 use Rattle.corners.specs.Laid.{tablesAt, chainsOf}
 use Rattle.lines.specs.Uses.{Listed}
 
--- FORMAT 4, 8.2: p points, and a corner for each of the entries es that names one
+-- FORMAT 4, 8.2: p points, and a corner for each entry that names one in the runs of the entries es
 unfoldable pub lineTables : ℕ → List ℕ → CornerTables
 lineTables p es =
-    let c = named p es in
+    let c = sumOver (named p) (runs es) in
     let at = 3 * p + c in
     tablesAt c 0 p (3 * p) at (at + c) (at + c + c)
 

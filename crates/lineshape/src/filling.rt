@@ -3,6 +3,7 @@ ghost use mathlib.Core.Path.{_≡_};
 ghost use Prim.Native.Nat.{_*_, _/_, _^_, _≤_};
 ghost use lib.ListN.{length};
 ghost use Rattle.bits.specs.Bits.{entries};
+ghost use Rattle.block.specs.Runs.{runs, sumOver};
 ghost use Rattle.mesh.specs.Sizes as sizes;
 ghost use Rattle.tables.specs.Layout.{most};
 ghost use Rattle.corners.specs.Laid.{Laid};
@@ -16,7 +17,7 @@ use tables::wide;
 
 // Where the tables stand: the points, and then a row for each entry that names one of them.
 pub fn line_tables(coord: &[u8], points: u32) -> CornerTables
-    requires { ⌜ (points ≤ most) × (sizes.named points (entries (now coord)) ≤ most) ⌝ }
+    requires { ⌜ (points ≤ most) × (sumOver (sizes.named points) (runs (entries (now coord))) ≤ most) ⌝ }
     ensures { λ r. ⌜ r ≡ lineTables points (entries (now (coord .entry))) ⌝ }
 {
     let totals = line_totals(coord, points);

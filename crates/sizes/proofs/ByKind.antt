@@ -76,7 +76,7 @@ module _ (bs : List ℕ) (h : Header) where
 -- ---- what is known of each kind
 
 module _ {bs : List ℕ} {h : Header} (K : Known bs h) where
-  pub count-few : (k : ℕ) → getD (h .counts) k 0 ≤ most
+  count-few : (k : ℕ) → getD (h .counts) k 0 ≤ most
   count-few k = omega (arith, K .taken .counts-are k, K .low)
 
   pub last-kind : (h .kind ≡ 0 → ⊥) → (h .kind ≡ 1 → ⊥) → (h .kind ≡ 2 → ⊥) → h .kind ≡ 3

@@ -41,7 +41,6 @@ fn face_set_sizes(block: &[u8], h: Header) -> Sizes
 }
 
 fn line_set_sizes(block: &[u8], h: Header) -> Sizes
-    requires { ⌜ spec.listedPoints h ≤ most ⌝ }
     ensures { λ r. ⌜ Are (spec.lineSetSizes (now (block .entry)) h) r ⌝ }
 {
     let n = h.counts;

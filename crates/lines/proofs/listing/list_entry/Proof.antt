@@ -1,68 +1,33 @@
-use lib.ListN.{length-set}
+use Prim.Native.Nat.{_≤_, _<_}
 use native.Mathlib.Omega.{arith}
-use Rattle.lines.specs.Uses.{listedAt}
+use Rattle.lines.specs.Uses.{listed}
+use Rattle.lines.proofs.Usage.{use-here, use-past}
+use mathlib.Core.Path.{refl, sym}
+use native.Mathlib.Nat.{add-zero}
 use borrow.Author.Needs.{needs}
 use Rattle.lines.proofs.listing.list_entry.Statement.{statement}
 use Rattle.lines.proofs.listing.list_entry.Tie as tie
 
-add-work : tie.Need-add-work
-add-work c = let h = c .before .before .before .pre .1 (c .before .before .if1 .taken) in omega (arith, h, c .before .before .before .pre .0)
+wide-requires : tie.Need-wide-requires
+wide-requires c κs = search needs
 
-mul-work : tie.Need-mul-work
-mul-work c = let h = c .before .before .before .pre .1 (c .before .before .if1 .taken) in omega (arith, h, c .before .before .before .pre .0)
+list-corner-requires : tie.Need-list-corner-requires
+list-corner-requires c κs = let h : c .before .before .before .before .before .args .e .0 < c .before .before .before .before .before .args .points = omega (arith, c .before .if1 .taken, c .before .before .before .wide .ensures) in (c .before .before .before .before .before .pre .0, c .before .before .before .before .before .pre .1 h, omega arith, c .before .before .before .before .before .pre .2, c .before .before .before .before .before .pre .3)
 
-slice-write-work : tie.Need-slice-write-work
-slice-write-work c = let h = c .before .before .before .pre .1 (c .before .before .if1 .taken) in omega (arith, h, c .before .before .before .pre .0)
-
-cast-work : tie.Need-cast-work
-cast-work c = omega (arith, c .before .before .before .pre .2)
-
-add-work-2 : tie.Need-add-work-2
-add-work-2 c = let h = c .before .before .before .before .before .pre .1 (c .before .before .before .before .if1 .taken) in omega (arith, h, c .before .before .before .before .before .pre .0)
-
-mul-work-2 : tie.Need-mul-work-2
-mul-work-2 c = let h = c .before .before .before .before .before .pre .1 (c .before .before .before .before .if1 .taken) in omega (arith, h, c .before .before .before .before .before .pre .0)
-
-slice-write-work-2 : tie.Need-slice-write-work-2
-slice-write-work-2 c = let h = c .before .before .before .before .before .pre .1 (c .before .before .before .before .if1 .taken) in simp length-set (omega (arith, h, c .before .before .before .before .before .pre .0))
-
-cast-work-2 : tie.Need-cast-work-2
-cast-work-2 c = omega (arith, c .before .before .before .before .before .pre .3)
-
-add-work-3 : tie.Need-add-work-3
-add-work-3 c = let h = c .before .before .before .before .before .before .before .pre .1 (c .before .before .before .before .before .before .if1 .taken) in omega (arith, h, c .before .before .before .before .before .before .before .pre .0)
-
-mul-work-3 : tie.Need-mul-work-3
-mul-work-3 c = let h = c .before .before .before .before .before .before .before .pre .1 (c .before .before .before .before .before .before .if1 .taken) in omega (arith, h, c .before .before .before .before .before .before .before .pre .0)
-
-slice-write-work-3 : tie.Need-slice-write-work-3
-slice-write-work-3 c = let h = c .before .before .before .before .before .before .before .pre .1 (c .before .before .before .before .before .before .if1 .taken) in simp length-set (omega (arith, h, c .before .before .before .before .before .before .before .pre .0))
+add-t13 : tie.Need-add-t13
+add-t13 c = let h : c .before .before .before .before .before .before .before .before .before .args .e .0 < c .before .before .before .before .before .before .before .before .before .args .points = omega (arith, c .before .before .before .before .before .if1 .taken, c .before .before .before .before .before .before .before .wide .ensures) in omega (arith, c .before .before .before .before .before .before .before .before .before .pre .1 h, c .before .before .before .before .before .before .before .before .before .pre .0)
 
 same-length : tie.Need-same-length
 same-length c = search needs
 
 returns : tie.Need-returns
-unfolding listedAt
-returns c = rw (c .before .before .before .before .before .before .if1 .taken)
+unfolding listed
+returns c = let h : c .before .before .before .before .before .before .before .before .before .args .e .0 < c .before .before .before .before .before .before .before .before .before .args .points = omega (arith, c .before .before .before .before .before .if1 .taken, c .before .before .before .before .before .before .before .wide .ensures) in rw (use-here (c .before .before .before .before .before .before .before .before .before .args .line) (c .before .before .before .before .before .before .before .before .before .args .k) h) (record { next = refl; made = c .before .before .before .list-corner .ensures })
 
 returns-2 : tie.Need-returns-2
-returns-2 c = rw (c .if1 .left)
+unfolding listed
+returns-2 c = let h : c .before .before .before .before .args .points ≤ c .before .before .before .before .args .e .0 = omega (arith, c .if1 .left, c .before .before .wide .ensures) in rw (use-past (c .before .before .before .before .args .line) (c .before .before .before .before .args .k) h) (record { next = sym (add-zero _); made = refl })
 
 pub list-entry-spec : {M : Type 1} → statement M
 list-entry-spec =
-    tie.close
-    (tie.spec
-    add-work
-    mul-work
-    slice-write-work
-    cast-work
-    add-work-2
-    mul-work-2
-    slice-write-work-2
-    cast-work-2
-    add-work-3
-    mul-work-3
-    slice-write-work-3
-    same-length
-    returns
-    returns-2)
+    tie.close (tie.spec wide-requires list-corner-requires add-t13 same-length returns returns-2)

@@ -1,60 +1,61 @@
-use Rattle.tables.proofs.Keep.{length-seg}
-use mathlib.Core.Path.{_≡_, refl}
-use Prim.Native.Nat.{_+_, _-_, _/_, _<_}
+use mathlib.Core.Path.{_≡_, refl, _∙_}
+use Prim.Native.Nat.{_+_, _-_, _/_, _≤_}
+use native.Mathlib.Nat.{zero-add}
 use native.Mathlib.Omega.{arith}
 use lib.ListN.{length}
-use Rattle.bits.specs.Bits.{entries}
-use Rattle.bits.proofs.Entries.{entries-length}
+use lib.Seq.{sets}
 use Rattle.tables.specs.Kept.{seg}
-use Rattle.lines.proofs.Pairs.{Pairing, pairing-start, pairing-length, pairing-here, pairing-room, pairing-next, pairing-end, part-is}
+use Rattle.tables.proofs.Keep.{length-seg}
+use Rattle.lines.proofs.Putting.{left-all}
+use Rattle.lines.proofs.Pairs.{Lining, lining-here, lining-room, lining-next, lining-end, part-is}
 use borrow.Author.Needs.{needs}
 use Rattle.lines.proofs.pairing.put_lines.Statement.{statement}
 use Rattle.lines.proofs.pairing.put_lines.Tie as tie
 
 abbrev Inv-loop : tie.InvT-loop
-Inv-loop coord points work named count indices₀ n to w₀ k₀ indices w k = (n ≡ length coord / 4) × (to ≡ named + count) × Pairing points count (seg work named count) (entries coord) indices₀ k w indices
+Inv-loop coord points work named count indices₀ n to w₀ start₀ indices w start = (n ≡ length coord / 4) × (to ≡ named + count) × (start ≤ n + 1) × Lining points coord (seg work named count) indices₀ start w indices
 
 abbrev μ-loop : tie.MeasureT-loop
-μ-loop coord points work named count indices₀ n to w₀ k₀ indices w k = n - k
+μ-loop coord points work named count indices₀ n to w₀ start₀ indices w start = n - start
 
 add-to : tie.Need-add-to Inv-loop μ-loop
 add-to c = search needs
 
 loop-holds : tie.Need-loop-holds Inv-loop μ-loop
-loop-holds c = (refl, refl, pairing-start (c .before .before .before .pre .1))
+loop-holds c = (refl, refl, omega arith, record { corners = zero-add _; left = left-all sets })
 
-entry-requires : tie.Need-entry-requires Inv-loop μ-loop
-entry-requires c κs = search needs
+run-at-requires : tie.Need-run-at-requires Inv-loop μ-loop
+run-at-requires c κs = search needs
 
-mul-put-entry : tie.Need-mul-put-entry Inv-loop μ-loop
-mul-put-entry c = search needs
+mul-put-run : tie.Need-mul-put-run Inv-loop μ-loop
+mul-put-run c = search needs
 
-sub-put-entry : tie.Need-sub-put-entry Inv-loop μ-loop
-sub-put-entry c = search needs
+sub-put-run : tie.Need-sub-put-run Inv-loop μ-loop
+sub-put-run c = search needs
 
-part-put-entry-start : tie.Need-part-put-entry-start Inv-loop μ-loop
-part-put-entry-start c = search needs
+part-put-run-start : tie.Need-part-put-run-start Inv-loop μ-loop
+part-put-run-start c = search needs
 
-part-put-entry-end : tie.Need-part-put-entry-end Inv-loop μ-loop
-part-put-entry-end c = search needs
+part-put-run-end : tie.Need-part-put-run-end Inv-loop μ-loop
+part-put-run-end c = search needs
 
-put-entry-requires : tie.Need-put-entry-requires Inv-loop μ-loop
-put-entry-requires c κs = let bs = c .before .before .before .before .before .before .before .before .args .coord .now in let l = entries-length bs in let P = c .before .before .before .before .loop .inv .2 in let h : c .before .before .before .before .loop .k < length (entries bs) = omega arith in let s = part-is (c .before .before .before .before .before .before .before .before .args .work .now) (c .before .before .before .before .before .before .before .before .args .named) (c .before .before .before .before .before .before .before .before .args .count) in rw (s, c .before .before .entry .ensures) ((λ b. rw (length-seg (c .before .before .before .before .before .before .before .before .args .work .now) (c .before .before .before .before .before .before .before .before .args .named) (c .before .before .before .before .before .before .before .before .args .count) (c .before .before .before .before .before .before .before .before .pre .0)) (pairing-here (c .before .before .before .before .before .before .before .before .pre .2) P h b)), pairing-room (c .before .before .before .before .before .before .before .before .pre .2) P h)
+put-run-requires : tie.Need-put-run-requires Inv-loop μ-loop
+put-run-requires c κs = let s = part-is (c .before .before .before .before .before .before .before .before .args .work .now) (c .before .before .before .before .before .before .before .before .args .named) (c .before .before .before .before .before .before .before .before .args .count) in let N = c .before .before .before .before .loop .inv .3 in rw s (lining-here N (c .before .before .run-at .ensures) refl (c .before .before .before .loop-test .taken) (length-seg (c .before .before .before .before .before .before .before .before .args .work .now) (c .before .before .before .before .before .before .before .before .args .named) (c .before .before .before .before .before .before .before .before .args .count) (c .before .before .before .before .before .before .before .before .pre .0) ∙ c .before .before .before .before .before .before .before .before .pre .1), lining-room N (c .before .before .run-at .ensures) refl (c .before .before .before .loop-test .taken) (c .before .before .before .before .before .before .before .before .pre .2))
 
-add-k : tie.Need-add-k Inv-loop μ-loop
-add-k c = search needs
+next-start-requires : tie.Need-next-start-requires Inv-loop μ-loop
+next-start-requires c κs = omega arith
 
 loop-less : tie.Need-loop-less Inv-loop μ-loop
-loop-less c = search needs
+loop-less c = omega arith
 
 loop-again : tie.Need-loop-again Inv-loop μ-loop
-loop-again c = let bs = c .before .before .before .before .before .before .before .before .before .before .before .args .coord .now in let l = entries-length bs in let P = c .before .before .before .before .before .before .before .loop .inv .2 in let h : c .before .before .before .before .before .before .before .loop .k < length (entries bs) = omega arith in let s = part-is (c .before .before .before .before .before .before .before .before .before .before .before .args .work .now) (c .before .before .before .before .before .before .before .before .before .before .before .args .named) (c .before .before .before .before .before .before .before .before .before .before .before .args .count) in (refl, refl, pairing-next (c .before .before .before .before .before .before .before .before .before .before .before .pre .2) P h _ _ (rw (s, c .before .before .before .before .before .entry .ensures) at (c .before .before .put-entry .ensures)))
+loop-again c = let s = part-is (c .before .before .before .before .before .before .before .before .before .before .before .before .args .work .now) (c .before .before .before .before .before .before .before .before .before .before .before .before .args .named) (c .before .before .before .before .before .before .before .before .before .before .before .before .args .count) in let N = c .before .before .before .before .before .before .before .before .loop .inv .3 in (c .before .before .before .before .before .before .before .before .loop .inv .0, c .before .before .before .before .before .before .before .before .loop .inv .1, omega arith, lining-next N (c .before .before .before .before .before .before .run-at .ensures) (c .next-start .ensures) (c .before .before .before .before .before .before .before .loop-test .taken) (rw s at (c .before .before .before .put-run .ensures)))
 
 same-length : tie.Need-same-length Inv-loop μ-loop
-same-length c = pairing-length (c .before .before .before .before .before .pre .2) (c .before .loop .inv .2)
+same-length c = c .before .loop .inv .3 .left .len
 
 returns : tie.Need-returns Inv-loop μ-loop
-returns c = let bs = c .before .before .before .before .before .args .coord .now in let l = entries-length bs in pairing-end (c .before .before .before .before .before .pre .2) (c .before .loop .inv .2) (omega arith)
+returns c = lining-end (c .before .loop .inv .3) (c .before .before .before .before .before .pre .2) (c .loop-test .left)
 
 pub put-lines-spec : {M : Type 1} → statement M
 put-lines-spec =
@@ -64,13 +65,13 @@ put-lines-spec =
     μ-loop
     add-to
     loop-holds
-    entry-requires
-    mul-put-entry
-    sub-put-entry
-    part-put-entry-start
-    part-put-entry-end
-    put-entry-requires
-    add-k
+    run-at-requires
+    mul-put-run
+    sub-put-run
+    part-put-run-start
+    part-put-run-end
+    put-run-requires
+    next-start-requires
     loop-less
     loop-again
     same-length

@@ -1,44 +1,60 @@
-use mathlib.Core.Path.{_≡_, refl, sym, _∙_}
-use Prim.Native.Nat.{_-_, _/_}
+use Prim.Native.Nat.{_+_, _-_, _≤_}
+use mathlib.Core.Path.{_≡_}
+use mathlib.Core.Bool.{false}
 use native.Mathlib.Omega.{arith}
-use lib.ListN.{length}
 use Rattle.bits.specs.Bits.{entries}
 use Rattle.bits.proofs.Entries.{entries-length}
-use Rattle.lines.proofs.Sums.{named-runs, lines-runs}
-use Rattle.lines.proofs.Counting.{Counting, counting-start, counting-next, counting-end}
+use Rattle.block.specs.Runs.{runs, runsLeft, sumOver}
+use Rattle.block.proofs.RunLaws.{sum-turn, sum-ended}
+use Rattle.mesh.specs.Sizes.{named, linesAfter}
 use borrow.Author.Needs.{needs}
 use Rattle.lines.proofs.totals.line_totals.Statement.{statement}
 use Rattle.lines.proofs.totals.line_totals.Tie as tie
 
 abbrev Inv-loop : tie.InvT-loop
-Inv-loop list points n corners₀ lines₀ after₀ k₀ corners lines after k = (n ≡ length list / 4) × Counting points (entries list) k after corners lines
+Inv-loop list points n start₀ corners₀ lines₀ start corners lines =
+    (start ≤ n + 1)
+    × (corners ≤ start)
+    × (lines ≤ start)
+    × (corners + sumOver (named points) (runsLeft (entries list) start) ≡ sumOver (named points) (runs (entries list)))
+    × (lines + sumOver (linesAfter points false) (runsLeft (entries list) start) ≡ sumOver (linesAfter points false) (runs (entries list)))
 
 abbrev μ-loop : tie.MeasureT-loop
-μ-loop list points n corners₀ lines₀ after₀ k₀ corners lines after k = n - k
+μ-loop list points n start₀ corners₀ lines₀ start corners lines = n - start
 
 loop-holds : tie.Need-loop-holds Inv-loop μ-loop
-loop-holds c = (refl, counting-start)
+loop-holds c = omega arith
 
-entry-requires : tie.Need-entry-requires Inv-loop μ-loop
-entry-requires c κs = search needs
+run-at-requires : tie.Need-run-at-requires Inv-loop μ-loop
+run-at-requires c κs = search needs
 
-counted-requires : tie.Need-counted-requires Inv-loop μ-loop
-counted-requires c κs = search needs
+run-totals-requires : tie.Need-run-totals-requires Inv-loop μ-loop
+run-totals-requires c κs = search needs
 
-counted-requires-2 : tie.Need-counted-requires-2 Inv-loop μ-loop
-counted-requires-2 c κs = search needs
+add-corners : tie.Need-add-corners Inv-loop μ-loop
+add-corners c = omega (arith, entries-length (c .before .before .run-at .result .now))
 
-add-k : tie.Need-add-k Inv-loop μ-loop
-add-k c = search needs
+add-lines : tie.Need-add-lines Inv-loop μ-loop
+add-lines c = omega (arith, entries-length (c .before .before .before .run-at .result .now))
+
+next-start-requires : tie.Need-next-start-requires Inv-loop μ-loop
+next-start-requires c κs = omega arith
 
 loop-less : tie.Need-loop-less Inv-loop μ-loop
-loop-less c = search needs
+loop-less c = omega arith
 
 loop-again : tie.Need-loop-again Inv-loop μ-loop
-loop-again c = let bs = c .before .before .before .before .before .before .args .list .now in let l = entries-length bs in let I = c .before .before .before .before .loop .inv in (I .0, rw (c .before .before .entry .ensures) (counting-next (I .1) _ _ (omega arith) (rw (c .before .before .entry .ensures) at (c .before .counted .ensures)) (rw (c .before .before .entry .ensures) at (c .counted2 .ensures))))
+loop-again c =
+    let run = c .before .before .before .before .run-at .result .now in
+    let l = entries-length run in
+    let turn = sum-turn (c .before .before .before .before .before .before .before .before .args .list .now) (c .before .before .before .before .before .before .loop .start) run (c .before .before .before .before .run-at .ensures .items) _ (c .next-start .ensures) (omega arith) in
+    let cs = turn (named (c .before .before .before .before .before .before .before .before .args .points)) in
+    let ls = turn (linesAfter (c .before .before .before .before .before .before .before .before .args .points) false) in
+    omega arith
 
 returns : tie.Need-returns Inv-loop μ-loop
-returns c = let bs = c .before .before .before .args .list .now in let l = entries-length bs in let I = c .before .loop .inv in let E = counting-end (I .1) (omega arith) in (E .0 ∙ sym (named-runs _ (c .before .before .before .pre) (entries bs)), E .1 ∙ sym (lines-runs _ (c .before .before .before .pre) (entries bs)))
+returns c =
+    (sum-ended _ _ (c .before .loop .start) _ _ (c .loop-test .left) (c .before .loop .inv .3), sum-ended _ _ (c .before .loop .start) _ _ (c .loop-test .left) (c .before .loop .inv .4))
 
 pub line-totals-spec : {M : Type 1} → statement M
 line-totals-spec =
@@ -47,10 +63,11 @@ line-totals-spec =
     Inv-loop
     μ-loop
     loop-holds
-    entry-requires
-    counted-requires
-    counted-requires-2
-    add-k
+    run-at-requires
+    run-totals-requires
+    add-corners
+    add-lines
+    next-start-requires
     loop-less
     loop-again
     returns)

@@ -11,7 +11,7 @@ all-vertices-requires : tie.Need-all-vertices-requires
 all-vertices-requires c κs = c .before .before .before .before .before .before .before .before .before .before .before .before .before .before .before .before .before .pre .corners
 
 put-lines-requires : tie.Need-put-lines-requires
-put-lines-requires c κs = let R = c .before .before .before .before .before .before .before .before .before .before .before .before .before .before .before .before .before .before .before .before .before .before .before .before .before .before .before .before .before .before .before .before .pre in let Q = R .corners .laid in let l = c .before .before .before .before .before .before .before .before .before .before .before .before .before .before .all-vertices .ensures .kept .len in (omega (arith, Q .named, Q .places, Q .numbers, Q .textures, Q .heads, Q .nexts, l), told-count (R .told) (R .few), R .room)
+put-lines-requires c κs = let R = c .before .before .before .before .before .before .before .before .before .before .before .before .before .before .before .before .before .before .before .before .before .before .before .before .before .before .before .before .before .before .before .before .pre in let Q = R .corners .laid in let l = c .before .before .before .before .before .before .before .before .before .before .before .before .before .before .all-vertices .ensures .kept .len in (omega (arith, Q .named, Q .places, Q .numbers, Q .textures, Q .heads, Q .nexts, l), told-count (R .told), R .room)
 
 clear-words-requires : tie.Need-clear-words-requires
 clear-words-requires c κs = search needs
@@ -44,7 +44,7 @@ same-length-8 : tie.Need-same-length-8
 same-length-8 c = search needs
 
 returns : tie.Need-returns
-returns c = let R = c .before .before .before .before .before .before .before .before .before .before .before .before .before .before .before .before .before .before .before .before .before .before .before .before .before .before .before .before .before .before .before .before .before .before .before .before .before .before .before .before .before .before .before .pre in let C = c .before .before .before .before .before .before .before .before .before .before .before .before .before .before .before .before .before .before .before .before .before .before .before .before .before .all-vertices .ensures in record { lined = λ missing rest T. lined-all T (R .few) (R .corners .laid) C (R .normal) (R .texture) _ _ _ (c .before .before .before .before .before .before .before .before .before .before .put-lines .ensures); words = c .before .before .before .before .before .before .clear-words .ensures ∙ ap (λ (n : ℕ). replicate n 0) (C .kept .len); floats = c .before .before .clear-floats .ensures }
+returns c = let R = c .before .before .before .before .before .before .before .before .before .before .before .before .before .before .before .before .before .before .before .before .before .before .before .before .before .before .before .before .before .before .before .before .before .before .before .before .before .before .before .before .before .before .before .pre in let C = c .before .before .before .before .before .before .before .before .before .before .before .before .before .before .before .before .before .before .before .before .before .before .before .before .before .all-vertices .ensures in record { lined = λ missing rest T. lined-all T (R .corners .laid) C (R .normal) (R .texture) _ _ _ (c .before .before .before .before .before .before .before .before .before .before .put-lines .ensures); words = c .before .before .before .before .before .before .clear-words .ensures ∙ ap (λ (n : ℕ). replicate n 0) (C .kept .len); floats = c .before .before .clear-floats .ensures }
 
 pub make-lines-spec : {M : Type 1} → statement M
 make-lines-spec =

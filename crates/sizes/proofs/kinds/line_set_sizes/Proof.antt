@@ -16,7 +16,7 @@ array-read-line-totals : tie.Need-array-read-line-totals
 array-read-line-totals c = search needs
 
 line-totals-requires : tie.Need-line-totals-requires
-line-totals-requires c κs = omega (arith, c .before .before .before .pre)
+line-totals-requires c κs = search needs
 
 array-read-wide : tie.Need-array-read-wide
 array-read-wide c = search needs

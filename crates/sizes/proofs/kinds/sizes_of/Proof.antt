@@ -1,4 +1,4 @@
-use Rattle.sizes.proofs.ByKind.{of-kind, count-few, last-kind, grid-sides, extrusion-given}
+use Rattle.sizes.proofs.ByKind.{of-kind, last-kind, grid-sides, extrusion-given}
 use borrow.Author.Needs.{needs}
 use Rattle.sizes.proofs.kinds.sizes_of.Statement.{statement}
 use Rattle.sizes.proofs.kinds.sizes_of.Tie as tie
@@ -10,7 +10,7 @@ returns : tie.Need-returns
 returns c = of-kind _ _ _ 0 (c .before .if1 .taken) (c .face-set-sizes .ensures)
 
 line-set-sizes-requires : tie.Need-line-set-sizes-requires
-line-set-sizes-requires c κs = count-few (c .before .before .before .before .before .pre) 0
+line-set-sizes-requires c κs = search needs
 
 returns-2 : tie.Need-returns-2
 returns-2 c = of-kind _ _ _ 1 (c .before .if2 .taken) (c .line-set-sizes .ensures)

@@ -1,0 +1,59 @@
+use mathlib.Core.Path.{_≡_, refl}
+use Prim.Native.Nat.{_-_, _/_, _<_}
+use native.Mathlib.Omega.{arith}
+use lib.ListN.{length}
+use lib.Seq.{sets}
+use Rattle.bits.specs.Bits.{entries}
+use Rattle.bits.proofs.Entries.{entries-length}
+use Rattle.lines.specs.Steps.{lastOf}
+use Rattle.lines.proofs.Putting.{left-all}
+use Rattle.lines.proofs.Pairs.{Pairing, pairing-here, pairing-room, pairing-next, pairing-end}
+use borrow.Author.Needs.{needs}
+use Rattle.lines.proofs.pairing.put_run.Statement.{statement}
+use Rattle.lines.proofs.pairing.put_run.Tie as tie
+
+abbrev Inv-loop : tie.InvT-loop
+Inv-loop run points numbers indices₀ n w₀ j₀ indices w j = (n ≡ length run / 4) × Pairing points (entries run) numbers w₀ indices₀ j w indices
+
+abbrev μ-loop : tie.MeasureT-loop
+μ-loop run points numbers indices₀ n w₀ j₀ indices w j = n - j
+
+loop-holds : tie.Need-loop-holds Inv-loop μ-loop
+unfolding lastOf
+loop-holds c = (refl, record { fits = omega arith; corners = refl; left = left-all sets })
+
+point-at-requires : tie.Need-point-at-requires Inv-loop μ-loop
+point-at-requires c κs = search needs
+
+put-entry-requires : tie.Need-put-entry-requires Inv-loop μ-loop
+put-entry-requires c κs = let bs = c .before .before .before .before .before .before .before .before .args .run .now in let l = entries-length bs in let P = c .before .before .before .loop .inv .1 in let h : c .before .before .before .loop .j < length (entries bs) = omega arith in rw (c .before .point-at .ensures) (pairing-here P h (c .before .before .before .before .before .before .before .before .pre .0), P .fits, pairing-room P h (c .before .before .before .before .before .before .before .before .pre .1))
+
+add-j : tie.Need-add-j Inv-loop μ-loop
+add-j c = search needs
+
+loop-less : tie.Need-loop-less Inv-loop μ-loop
+loop-less c = search needs
+
+loop-again : tie.Need-loop-again Inv-loop μ-loop
+loop-again c = let bs = c .before .before .before .before .before .before .before .before .before .before .before .args .run .now in let l = entries-length bs in let P = c .before .before .before .before .before .before .loop .inv .1 in let h : c .before .before .before .before .before .before .loop .j < length (entries bs) = omega arith in (c .before .before .before .before .before .before .loop .inv .0, pairing-next P h (rw (c .before .before .before .before .point-at .ensures) at (c .before .before .put-entry .ensures)))
+
+same-length : tie.Need-same-length Inv-loop μ-loop
+same-length c = c .before .loop .inv .1 .left .len
+
+returns : tie.Need-returns Inv-loop μ-loop
+returns c = let bs = c .before .before .before .before .before .before .args .run .now in let l = entries-length bs in let P = c .before .loop .inv .1 in let R = pairing-end P (omega arith) in record { added = R .added; corner = R .corner }
+
+pub put-run-spec : {M : Type 1} → statement M
+put-run-spec =
+    tie.close
+    (tie.spec
+    Inv-loop
+    μ-loop
+    loop-holds
+    point-at-requires
+    put-entry-requires
+    add-j
+    loop-less
+    loop-again
+    same-length
+    returns)
