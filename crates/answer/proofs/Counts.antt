@@ -19,7 +19,7 @@ use Rattle.mesh.specs.Extrusion.{extrusionOf, extrusionFaces, extrusionFrame, e
 use Rattle.mesh.specs.Sizes.{Sizes, faceSetSizes, lineSetSizes, gridSizes, extrusionSizes, sizesOf}
 use Rattle.mesh.specs.Result.{blockMesh, resultOf}
 use Rattle.mesh.proofs.Facts.{length-indices, length-vertices, face-set-indices, face-set-vertices}
-use Rattle.mesh.proofs.LinePass.{line-soup}
+use Rattle.mesh.proofs.LineSoup.{line-soup}
 use Rattle.mesh.proofs.Sizes.{line-set-corners, line-set-indices, grid-corners, grid-indices, extrusion-corners, extrusion-indices}
 use Rattle.geometry.specs.Answer.{white, resultFor, Saying, refused, made, said}
 use Rattle.geometry.proofs.Refusing.{asked-of}

@@ -1,7 +1,7 @@
 -- FORMAT 4, 7, 8.2, 11: the tables and slices of an accepted line set are as `make_lines` asks, and what it leaves is the line set's mesh.
 use mathlib.Core.Path.{_≡_, refl, sym, ap, _∙_, subst}
 use mathlib.Core.Bool.{Bool, true, false, cond}
-use mathlib.Core.Logic.{_⊎_, inl, inr}
+use mathlib.Core.Logic.{_⊎_}
 use mathlib.Core.List.{List, []}
 use Prim.Native.Nat.{ℕ, _*_}
 use native.Mathlib.Omega.{arith}

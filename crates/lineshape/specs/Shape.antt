@@ -6,8 +6,7 @@ use Prim.Native.Nat.{ℕ, _+_, _*_}
 use lib.ListN.{length, take}
 use Rattle.block.specs.declared.header.Header.{Header}
 use Rattle.block.specs.Runs.{runs, sumOver}
-use Rattle.mesh.specs.Mesh.{Slices}
-use Rattle.mesh.specs.Sizes.{named, sizesOf}
+use Rattle.mesh.specs.Sizes.{named}
 use Rattle.vertices.specs.declared.places.Widths.{Widths}
 use Rattle.vertices.specs.Adding.{pointsIn}
 use Rattle.corners.specs.declared.laid.CornerTables.{CornerTables}

@@ -18,7 +18,7 @@ pub mod Blocks
 pub mod Tabs
 pub mod SameFrames
 pub mod Sizes
-pub mod LinePass
+pub mod LineSoup
 pub mod Shapes
 pub mod ShapeRows
 pub mod Within

@@ -1,13 +1,12 @@
 -- FORMAT 8.2, indexed_line_set: the mesh of a line set's block. ISO/IEC 14772-1, 6.24.
-use Prim.Native.Nat.{ℕ, suc}
+use Prim.Native.Nat.{ℕ}
 use mathlib.Core.Bool.{true, cond}
 use mathlib.Core.Option.{Option, none, some}
 use mathlib.Core.List.{List, [], _∷_, _++_, map}
 use lib.Dec.{ltb}
-use lib.ListN.{getD}
 use Rattle.bits.specs.Bits.{entries}
 use Rattle.bits.specs.declared.Words4.{Words4}
-use Rattle.block.specs.Runs.{Run, endsRun, runs}
+use Rattle.block.specs.Runs.{Run, runs}
 use Rattle.mesh.specs.Lists.{mapN, joinN, place, firsts}
 use Rattle.mesh.specs.Words.{no2, no3, pointWords}
 use Rattle.mesh.specs.Soup.{Corner, Face, Frame}
@@ -78,21 +77,7 @@ linesOf missing R coord =
 unfoldable pub lineSetMesh : Words4 → List ℕ → Mesh
 lineSetMesh missing bs = linesOf missing (restOf bs) (coordIn bs)
 
--- ---- the same in the forms that a program has
-
--- FORMAT 6.3: one pass over coordIndex, from place k and line `num` on: the items of all its entries
-unfoldable pub flatItems : {A : Type 0} → (ℕ → ℕ → ℕ → Option A) → ℕ → ℕ → List ℕ → List (Option A)
-flatItems item num k [] = []
-flatItems item num k (e ∷ es) = item num k e ∷ flatItems item (cond (endsRun e) (suc num) num) (suc k) es
-
--- FORMAT 6.3: the lines along the entries, by the vertex numbers of those that name one of p points, of which the next is number c
-unfoldable pub pairs : ℕ → List ℕ → ℕ → Option ℕ → List ℕ → List ℕ
-pairs p numbers c prev [] = []
-pairs p numbers c prev (e ∷ es) =
-    let n = getD numbers c 0 in
-    let more = line prev (some n) ++ pairs p numbers (suc c) (some n) es in
-    let broken = pairs p numbers c none es in
-    cond (ltb e p) more broken
+-- ---- as a soup
 
 -- FORMAT 8: a vertex as a corner
 abbrev pub cornerFor : Key → Corner
