@@ -22,11 +22,10 @@ use Rattle.mesh.specs.Lists.{flat}
 use Rattle.mesh.specs.Extrusion.{spineCount, sectionCount, threes, twos, turnIn, sectionOf, extrusionOf, rowAt, extrusionPoints}
 use Rattle.mesh.specs.Sizes.{extrusionSizes, isNoExtrusion, isNoShape}
 use Rattle.mesh.proofs.Sizes.{extrusion-points}
-use Rattle.tables.specs.Kept.{seg, spliced, Kept}
+use Rattle.tables.specs.Kept.{spliced}
 use Rattle.extrusion.specs.Given.{scaleCount, turnCount, Given}
 use Rattle.extrusion.specs.Rows.{rowBy, rowsBy}
 use Rattle.extrusion.proofs.Values.{count2, count3}
-use Rattle.extrusion.proofs.Pieces.{kept-spliced, seg-spliced}
 
 pub triple : (n m : ℕ) → n * (3 * m) ≡ 3 * (n * m)
 triple n m = sym (mul-assoc n 3 m) ∙ ap (λ (k : ℕ). k * m) (mul-comm n 3) ∙ mul-assoc 3 n m
@@ -71,20 +70,15 @@ points-of bs h e =
     (spineCount h)) e
     ∙ by-header bs
 
-points-length : (bs : List ℕ) (h : Header) → h ≡ headerOf bs → length (extrusionPoints (extrusionOf bs)) ≡ 3 * (spineCount h * sectionCount h)
+pub points-length : (bs : List ℕ) (h : Header) → h ≡ headerOf bs → length (extrusionPoints (extrusionOf bs)) ≡ 3 * (spineCount h * sectionCount h)
 unfolding extrusionSizes
 points-length bs h e = extrusion-points bs ∙ ap (λ (h : Header). 3 * (spineCount h * sectionCount h)) (sym e)
 
 pub points-put : {bs : List ℕ} {h : Header} (G : Given bs h) (l made a b c d : List ℕ) (n m i j k : ℕ)
     → a ≡ listBytes bs h 0 → n ≡ spineCount h → b ≡ listBytes bs h 1 → m ≡ sectionCount h → c ≡ listBytes bs h 2 → i ≡ scaleCount h → d ≡ listBytes bs h 3 → j ≡ turnCount h
-    → k + 3 * (spineCount h * sectionCount h) ≤ length l → made ≡ spliced l k (rowsBy (threes a n) (twos b m) (twos c i) (tab (turnIn d) j 0) n)
-    → Kept k l made × (seg made k (3 * (spineCount h * sectionCount h)) ≡ extrusionPoints (extrusionOf bs))
-points-put {bs} {h} G l made a b c d n m i j k ea en eb em ec ei ed ej room e =
-    let p = extrusionPoints (extrusionOf bs) in
-    let s : length p ≡ 3 * (spineCount h * sectionCount h) = points-length bs h (G .head) in
-    let q : made ≡ spliced l k p = e ∙ (λ t. spliced l k (rowsBy (threes (ea t) (en t)) (twos (eb t) (em t)) (twos (ec t) (ei t)) (tab (turnIn (ed t)) (ej t) 0) (en t))) ∙ ap (spliced l k) (points-of bs h (G .head)) in
-    let r : k + length p ≤ length l = omega arith in
-    (rw q (kept-spliced l k p r), rw (q, ← s) (seg-spliced l k p r))
+    → made ≡ spliced l k (rowsBy (threes a n) (twos b m) (twos c i) (tab (turnIn d) j 0) n) → made ≡ spliced l k (extrusionPoints (extrusionOf bs))
+points-put {bs} {h} G l made a b c d n m i j k ea en eb em ec ei ed ej e =
+    e ∙ (λ t. spliced l k (rowsBy (threes (ea t) (en t)) (twos (eb t) (em t)) (twos (ec t) (ei t)) (tab (turnIn (ed t)) (ej t) 0) (en t))) ∙ ap (spliced l k) (points-of bs h (G .head))
 
 -- a count has 14 bits
 module _ {bs : List ℕ} {h : Header} (G : Given bs h) where

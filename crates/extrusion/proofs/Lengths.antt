@@ -22,7 +22,8 @@ use Rattle.extrusion.specs.Given.{Given}
 use Rattle.extrusion.specs.Steps.{stepOf, bytesOf}
 use Rattle.extrusion.proofs.Values.{count2, count3}
 use Rattle.extrusion.proofs.Blocks.{section-of, spine-of}
-use Rattle.extrusion.proofs.Pieces.{Pieces, single, singles-all, splice-more}
+use Rattle.tables.proofs.Splices.{splice-more}
+use Rattle.tables.proofs.Pieces.{Pieces, single, singles-all}
 
 pub step3-is : (l : List V3) (i : ℕ) (v : V3) (r : Float) → v ≡ step l i (i + 1) → r ≡ vlen v → r ≡ step3 l i
 unfolding step3

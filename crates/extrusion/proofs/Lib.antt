@@ -1,5 +1,4 @@
 -- The theorems that callers cite, and the laws of the functions.
-pub mod Pieces
 mod Values
 mod Planes
 mod Walking

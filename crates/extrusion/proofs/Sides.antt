@@ -3,12 +3,11 @@ use mathlib.Core.Path.{_≡_, refl, sym, ap, _∙_}
 use mathlib.Core.Bool.{Bool, true, false}
 use mathlib.Core.List.{List, [], _∷_, _++_, append-assoc, append-nil, reverse}
 use Prim.Native.Nat.{ℕ, zero, suc, _+_, _-_, _*_, _≤_, _<_}
-use native.Mathlib.Nat.{suc-mul, mul-le-mul-right}
+use native.Mathlib.Nat.{suc-mul, mul-le-mul-left, mul-le-mul-right}
 use native.Mathlib.Numerals.{add-one}
 use native.Mathlib.Omega.{arith}
 use lib.Dec.{leb}
 use lib.ListN.{length, set, length-append}
-use lib.Seq.{sets-eq}
 use Rattle.polygon.specs.Loops.{tab}
 use Rattle.polygon.proofs.Tabs.{length-tab}
 use Rattle.mesh.specs.Lists.{flat}
@@ -18,28 +17,17 @@ use Rattle.mesh.proofs.Tabs.{tab-reverse}
 use Rattle.tables.specs.Layout.{most}
 use Rattle.tables.specs.Kept.{spliced}
 use Rattle.extrusion.specs.Listings.{spot, sidePoints, beginPoints, endPoints, facePoints}
-use Rattle.extrusion.proofs.Pieces.{flat-append, length-pieces, splice-more}
+use Rattle.tables.proofs.Splices.{splice-more, put-four}
+use Rattle.tables.proofs.Pieces.{flat-append, length-pieces}
 
--- four stores
-pub put-four : {A : Type 0} (l : List A) (k : ℕ) (a b c d : A) → k + 4 ≤ length l
-    → set (set (set (set l k a) (k + 1) b) (k + 2) c) (k + 3) d ≡ spliced l k (a ∷ b ∷ c ∷ d ∷ [])
-unfolding spliced
-put-four l k a b c d h =
-    let e : k + 3 ≡ suc (suc (suc k)) = omega arith in
-    let f : k + 2 ≡ suc (suc k) = omega arith in
-    rw (e, f, add-one) (sets-eq (a ∷ b ∷ c ∷ d ∷ []) l k h)
-
-next-row : (i m : ℕ) → (i + 1) * m ≡ i * m + m
+pub next-row : (i m : ℕ) → (i + 1) * m ≡ i * m + m
 next-row i m = ap (λ (k : ℕ). k * m) (add-one i) ∙ suc-mul i m
 
-pub quad-is : (m i j a b c d : ℕ) → a ≡ i * m + j → b ≡ i * m + j + 1 → c ≡ i * m + j + m + 1 → d ≡ i * m + j + m → a ∷ b ∷ c ∷ d ∷ [] ≡ quad (spot m) i j
+-- four points, stored
+pub quad-put : (m i j k : ℕ) (l w x y z : List ℕ) (a b c d : ℕ) → k + 4 ≤ length l → a ≡ spot m i j → b ≡ spot m i (j + 1) → c ≡ spot m (i + 1) (j + 1) → d ≡ spot m (i + 1) j
+    → w ≡ set l k a → x ≡ set w (k + 1) b → y ≡ set x (k + 2) c → z ≡ set y (k + 3) d → z ≡ spliced l k (quad (spot m) i j)
 unfolding quad
-quad-is m i j a b c d ea eb ec ed =
-    let s = next-row i m in
-    let fb : b ≡ i * m + (j + 1) = omega arith in
-    let fc : c ≡ (i + 1) * m + (j + 1) = omega arith in
-    let fd : d ≡ (i + 1) * m + j = omega arith in
-    λ t. ea t ∷ fb t ∷ fc t ∷ fd t ∷ []
+quad-put m i j k l w x y z a b c d h ea eb ec ed ew ex ey ez = rw (ez, ey, ex, ew, ea, eb, ec, ed) (put-four l k _ _ _ _ h)
 
 pub quad-length : {A : Type 0} (f : ℕ → ℕ → A) (i j : ℕ) → length (quad f i j) ≡ 4
 unfolding quad
@@ -71,6 +59,9 @@ rows-most n m i h l =
 
 pub last-row : (n m : ℕ) → 2 ≤ n → n * m ≡ (n - 1) * m + m
 last-row n m h = let e : n ≡ suc (n - 1) = omega arith in ap (λ (k : ℕ). k * m) e ∙ suc-mul (n - 1) m
+
+pub row-least : (i m : ℕ) → 1 ≤ m → i ≤ i * m
+row-least i m h = let e : i * 1 ≤ i * m = mul-le-mul-left i h in omega arith
 
 pub section-least : (n m : ℕ) → 2 ≤ n → m ≤ n * m
 section-least n m h = let e : 1 * m ≤ n * m = mul-le-mul-right m (omega arith) in omega arith

@@ -17,7 +17,7 @@ use Rattle.tables.specs.Soups.{pointIn, placeIn, startIn, numberIn}
 use Rattle.tables.specs.Listed.{Use, Listing, noUse, noListing, usesAt, Listed}
 use Rattle.tables.proofs.Keep.{kept-then, kept-seg, seg-at, table-kept}
 use Rattle.extrusion.specs.Listings.{facePoints, useOf, extrusionListings, startAt, Planned}
-use Rattle.extrusion.proofs.Pieces.{kept-spliced, seg-spliced}
+use Rattle.tables.proofs.Splices.{kept-spliced, seg-spliced}
 use Rattle.extrusion.proofs.Sides.{section-least}
 use Rattle.extrusion.proofs.Counting.{flat-place, face-size, faces-count, flat-count, starts-are, starts-last, start-none, start-suc, start-rises}
 use Rattle.extrusion.proofs.Inside.{point-below}

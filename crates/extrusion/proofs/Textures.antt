@@ -1,15 +1,13 @@
 -- FORMAT 8.4: laws of the texture of a corner.
 use mathlib.Core.Path.{_≡_, refl, sym, ap, ap₂, _∙_}
-use mathlib.Core.Logic.{⊎-elim}
 use mathlib.Core.Bool.{true, false}
 use mathlib.Core.List.{List, _++_}
 use Prim.Native.Nat.{ℕ, _+_, _-_, _*_, _/_, _%_, _≤_, _<_}
-use native.Mathlib.Nat.{mod-lt, div-lt-iff-lt-mul, mul-le-mul-left, eq-or-lt-of-le, le-of-suc-le-suc}
-use native.Mathlib.Numerals.{add-one}
+use native.Mathlib.Nat.{mod-lt, div-lt-iff-lt-mul, mul-le-mul-left}
 use native.Mathlib.Omega.{arith}
 use borrow.Author.Tests.{lt-ltb, le-ltb}
 use lib.Ieee.{Float, nan, binary32, toBits}
-use lib.ListN.{length, getD, set, take, drop, length-append, length-take, length-drop, length-set, List·getD-append}
+use lib.ListN.{length, getD, take, drop, length-append, length-take, length-drop, List·getD-append}
 use lib.Seq.{getD-take, getD-drop, getD-append-add}
 use Rattle.bits.specs.declared.Words2.{Words2}
 use Rattle.math.specs.Vector.{zeroF}
@@ -24,12 +22,12 @@ use Rattle.mesh.specs.Words.{no2}
 use Rattle.mesh.specs.Arcs.{at2, step2, step3, arcs2, arcs3}
 use Rattle.mesh.specs.Extrusion.{Extrusion, spineCount, sectionCount, twos, extrusionOf, sideTexture, capFit, capTexture, cornerAt}
 use Rattle.tables.specs.Kept.{spliced, Kept}
-use Rattle.tables.proofs.Keep.{kept-all, kept-set, kept-at, set-hit, set-miss}
+use Rattle.tables.proofs.Keep.{kept-at}
+use Rattle.tables.proofs.Splices.{spliced-part}
 use Rattle.extrusion.specs.Given.{Given}
 use Rattle.extrusion.specs.Listings.{useOf}
-use Rattle.extrusion.specs.Corners.{textureOf, extrusionCorner, Measured, Cornered, Made}
+use Rattle.extrusion.specs.Corners.{textureOf, extrusionCorner, extrusionTexture, Measured, Cornered}
 use Rattle.extrusion.proofs.Values.{getD-any}
-use Rattle.extrusion.proofs.Pieces.{spliced-part}
 use Rattle.extrusion.proofs.Blocks.{section-of, spine-few, section-few, section-long, spine-long, head-is, settings-are}
 use Rattle.extrusion.proofs.Lengths.{length-arcs}
 
@@ -156,34 +154,13 @@ pub corner-within : {h : Header} {corners numbers textures count : ℕ} {w v : L
     → p ≡ getD v (corners + c) 0 → p < spineCount h * sectionCount h
 corner-within {h} {corners} {numbers} {textures} {count} C K c p l e = let q = C .points in rw (e ∙ kept-at K (corners + c) (omega arith)) (C .within c l)
 
-module _ (E : Extrusion) (corners numbers textures : ℕ) (w : List ℕ) where
-  pub made-none : Made E corners numbers textures 0 w w
-  made-none = record { kept = kept-all; words = λ c l. absurd (let z : ⊥ = omega arith in z) }
-
-  pub made-more : (v v′ : List ℕ) (c count f p : ℕ) (r : Words2) → Made E corners numbers textures c w v → c < count → corners + count ≤ textures → numbers + count ≤ textures
-      → textures + 2 * count ≤ length w → p ≡ getD v (corners + c) 0 → f ≡ getD v (numbers + c) 0 → r ≡ extrusionCorner E f (useOf p) .texture
-      → v′ ≡ set (set v (textures + 2 * c) (r .s)) (textures + 2 * c + 1) (r .t) → Made E corners numbers textures (c + 1) w v′
-  made-more v v′ c count f p r M l hc hn room ep ef er ev =
-      let k : ℕ = textures + 2 * c in
-      let u : List ℕ = set v k (r .s) in
-      let K = M .kept in
-      let lv = K .len in
-      let lu : length u ≡ length v = length-set v k (r .s) in
-      let P : p ≡ getD w (corners + c) 0 = ep ∙ kept-at K (corners + c) (omega arith) in
-      let F : f ≡ getD w (numbers + c) 0 = ef ∙ kept-at K (numbers + c) (omega arith) in
-      let q : r ≡ extrusionCorner E (getD w (numbers + c) 0) (useOf (getD w (corners + c) 0)) .texture = er ∙ (λ t. extrusionCorner E (F t) (useOf (P t)) .texture) in
-      record {
-        kept = rw ev (kept-set (k + 1) (r .t) (kept-set k (r .s) K (omega arith)) (omega arith));
-        words = λ d b. rw ev (⊎-elim
-            (λ (z : d ≡ c).
-            let a : getD (set u (k + 1) (r .t)) (textures + 2 * d) 0 ≡ r .s = set-miss u (k + 1) (r .t) (textures + 2 * d) (λ y. omega arith) ∙ set-hit v k (r .s) (textures + 2 * d) (omega arith) (omega arith) in
-            let o : getD (set u (k + 1) (r .t)) (textures + 2 * d + 1) 0 ≡ r .t = set-hit u (k + 1) (r .t) (textures + 2 * d + 1) (omega arith) (omega arith) in
-            (λ t. record { s = a t; t = o t }) ∙ q ∙ ap (λ (i : ℕ). extrusionCorner E (getD w (numbers + i) 0) (useOf (getD w (corners + i) 0)) .texture) (sym z))
-            (λ (z : d < c).
-            let a : getD (set u (k + 1) (r .t)) (textures + 2 * d) 0 ≡ getD v (textures + 2 * d) 0 =
-            set-miss u (k + 1) (r .t) (textures + 2 * d) (λ y. omega arith) ∙ set-miss v k (r .s) (textures + 2 * d) (λ y. omega arith) in
-            let o : getD (set u (k + 1) (r .t)) (textures + 2 * d + 1) 0 ≡ getD v (textures + 2 * d + 1) 0 =
-            set-miss u (k + 1) (r .t) (textures + 2 * d + 1) (λ y. omega arith) ∙ set-miss v k (r .s) (textures + 2 * d + 1) (λ y. omega arith) in
-            (λ t. record { s = a t; t = o t }) ∙ M .words d z)
-            (eq-or-lt-of-le (le-of-suc-le-suc (rw add-one at b))));
-      }
+-- the tables that are read stand below what is written
+pub texture-read : {h : Header} {corners numbers textures count : ℕ} {w v : List ℕ} → Cornered h corners numbers textures count w → Kept textures w v → (E : Extrusion) (c f p : ℕ) (r : Words2) → c < count
+    → p ≡ getD v (corners + c) 0 → f ≡ getD v (numbers + c) 0 → r ≡ extrusionCorner E f (useOf p) .texture → r ≡ extrusionTexture E w corners numbers c
+unfolding extrusionTexture
+texture-read {h} {corners} {numbers} {textures} {count} {w} {v} C K E c f p r l ep ef er =
+    let hc = C .points in
+    let hn = C .faces in
+    let x : p ≡ getD w (corners + c) 0 = ep ∙ kept-at K (corners + c) (omega arith) in
+    let y : f ≡ getD w (numbers + c) 0 = ef ∙ kept-at K (numbers + c) (omega arith) in
+    er ∙ (λ t. extrusionCorner E (y t) (useOf (x t)) .texture)

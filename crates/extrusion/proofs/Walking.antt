@@ -24,7 +24,7 @@ use Rattle.mesh.proofs.Lists.{length-words}
 use Rattle.tables.specs.Kept.{spliced}
 use Rattle.extrusion.specs.declared.axes.PlaneAxes.{PlaneAxes}
 use Rattle.extrusion.specs.Rows.{axesOf, rowBy}
-use Rattle.extrusion.proofs.Pieces.{Pieces, pieces-none, pieces-more}
+use Rattle.tables.proofs.Pieces.{Pieces, pieces-none, pieces-more}
 use Rattle.extrusion.proofs.Values.{at2-in}
 use Rattle.extrusion.proofs.Planes.{last-step}
 
@@ -100,5 +100,5 @@ module _ (sp : List V3) (cs scs : List Pair) (qs : List Quat) where
       record {
         y-is = last-step _ _ _ _ _ _ (w .y-is) eo ey';
         prev-is = ap Of (ev ∙ (λ j. pickZ (ef j) (w .prev-is j) (ez j))) ∙ sym (prev-more i) ∙ ap (prevZ sp) (sym (add-one i));
-        rows = pieces-more (rowBy sp cs scs qs) (3 * m) (λ t. row-length sp cs scs qs m t em) l work work' _ k i room (w .rows) (row-by i o (axesOf f) q sc eO fr eQ eS) ew;
+        rows = pieces-more (rowBy sp cs scs qs) (3 * m) (λ t. row-length sp cs scs qs m t em) l work work' _ k i _ refl room (w .rows) (row-by i o (axesOf f) q sc eO fr eQ eS) ew;
       }

@@ -12,7 +12,6 @@ use Rattle.mesh.specs.Soup.{Corner}
 use Rattle.mesh.specs.declared.texture.Fit.{Fit}
 use Rattle.mesh.specs.Arcs.{at2, arcs2, arcs3}
 use Rattle.mesh.specs.Extrusion.{Extrusion, extrusionOf, spineCount, sectionCount, sideTexture, capFit, capTexture, cornerAt}
-use Rattle.tables.specs.Kept.{Kept}
 use Rattle.tables.specs.Listed.{Use}
 use Rattle.extrusion.specs.Given.{Given}
 use Rattle.extrusion.specs.Listings.{useOf}
@@ -29,6 +28,10 @@ textureOf E number p =
 unfoldable pub extrusionCorner : Extrusion → ℕ → Use → Corner
 extrusionCorner E number u = cornerAt E (u .point) (textureOf E number (u .point))
 
+-- FORMAT 7.3, 8.4: the texture of corner c, from the tables of the corners' points and of their faces' numbers
+unfoldable pub extrusionTexture : Extrusion → List ℕ → ℕ → ℕ → ℕ → Words2
+extrusionTexture E w corners numbers c = extrusionCorner E (getD w (numbers + c) 0) (useOf (getD w (corners + c) 0)) .texture
+
 -- FORMAT 8.4: the block, the parameters of the cross-section and then of the spine in floats from place `at` on, and the caps' fit
 pub record Measured (bs : List ℕ) (h : Header) (floats : List Float) (at : ℕ) (fit : Fit) : Type 0 where
   pub given : Given bs h
@@ -41,10 +44,3 @@ pub record Cornered (h : Header) (corners numbers textures count : ℕ) (w : Lis
   pub faces : numbers + count ≤ textures
   pub room : textures + 2 * count ≤ length w
   pub within : (c : ℕ) → c < count → getD w (corners + c) 0 < spineCount h * sectionCount h
-
--- FORMAT 7.3, 8.4: the two words of texture of each corner, from its point and its face's number; what stands before them is kept
-pub record Made (E : Extrusion) (corners numbers textures count : ℕ) (w w′ : List ℕ) : Type 0 where
-  pub kept : Kept textures w w′
-  pub words : (c : ℕ) → c < count
-      → _≡_ {A = Words2} (record { s = getD w′ (textures + 2 * c) 0; t = getD w′ (textures + 2 * c + 1) 0 })
-      (extrusionCorner E (getD w (numbers + c) 0) (useOf (getD w (corners + c) 0)) .texture)

@@ -1,7 +1,7 @@
 // FORMAT 8.4, extrusion (pm.faces): the points of the corners, face by face: sides, then caps.
 ghost use mathlib.Core.Path.{_≡_};
-ghost use Prim.Native.Nat.{_+_, _-_, _*_, _≤_};
-ghost use lib.ListN.{length};
+ghost use Prim.Native.Nat.{_+_, _-_, _*_, _≤_, _<_};
+ghost use lib.ListN.{length, set};
 ghost use Rattle.polygon.specs.Loops.{tab};
 ghost use Rattle.mesh.specs.Lists.{flat};
 ghost use Rattle.mesh.specs.Quads.{quad};
@@ -11,18 +11,33 @@ ghost use Rattle.tables.specs.Layout.{most};
 ghost use Rattle.tables.specs.Kept.{spliced};
 ghost use Rattle.extrusion.specs.Listings.{spot, sidePoints, beginPoints, endPoints, facePoints};
 use block::Header;
+use block::PointNumber;
 use tables::narrow;
+
+// The point in row i, column j, of rows of m.
+fn point_at(m: usize, i: usize, j: usize) -> PointNumber
+    requires { ⌜ spot m i j ≤ most ⌝ }
+    ensures { λ r. ⌜ r .0 ≡ spot m i j ⌝ }
+{
+    PointNumber(i * m + j)
+}
+
+fn put_point_number(work: &mut [u32], k: usize, p: PointNumber)
+    requires { ⌜ (k < length (now work)) × (p .0 ≤ most) ⌝ }
+    ensures { λ _. ⌜ now (work .exit) ≡ set (now (work .entry)) k (p .0) ⌝ }
+{
+    work[k] = narrow(p.0);
+}
 
 // The points of the face in row i, column j, of rows of m.
 fn put_quad(work: &mut [u32], k: usize, m: usize, i: usize, j: usize)
-    requires { ⌜ (k + 4 ≤ length (now work)) × (i * m + m + j + 1 ≤ most) ⌝ }
+    requires { ⌜ (1 ≤ m) × (k + 4 ≤ length (now work)) × (i * m + m + j + 1 ≤ most) ⌝ }
     ensures { λ _. ⌜ now (work .exit) ≡ spliced (now (work .entry)) k (quad (spot m) i j) ⌝ }
 {
-    let p = i * m + j;
-    work[k] = narrow(p);
-    work[k + 1] = narrow(p + 1);
-    work[k + 2] = narrow(p + m + 1);
-    work[k + 3] = narrow(p + m);
+    put_point_number(work, k, point_at(m, i, j));
+    put_point_number(work, k + 1, point_at(m, i, j + 1));
+    put_point_number(work, k + 2, point_at(m, i + 1, j + 1));
+    put_point_number(work, k + 3, point_at(m, i + 1, j));
 }
 
 // The sides of row i.
@@ -76,26 +91,26 @@ pub fn cap_count(h: Header, cap: usize) -> usize
     one_if(has_cap(h.begin_cap, cap)) + one_if(has_cap(h.end_cap, cap))
 }
 
-// cap - 1, .. 1, 0
+// The points cap - 1, .. 1, 0.
 fn put_down(work: &mut [u32], k: usize, cap: usize)
     requires { ⌜ (cap ≤ most) × (k + cap ≤ length (now work)) ⌝ }
     ensures { λ _. ⌜ now (work .exit) ≡ spliced (now (work .entry)) k (tab (λ j. cap - 1 - j) cap 0) ⌝ }
 {
     let mut j = 0;
     while j < cap {
-        work[k + j] = narrow(cap - 1 - j);
+        put_point_number(work, k + j, PointNumber(cap - 1 - j));
         j += 1;
     }
 }
 
-// p, p + 1, ..
-fn put_up(work: &mut [u32], k: usize, p: usize, cap: usize)
-    requires { ⌜ (p + cap ≤ most) × (k + cap ≤ length (now work)) ⌝ }
-    ensures { λ _. ⌜ now (work .exit) ≡ spliced (now (work .entry)) k (tab (λ j. p + j) cap 0) ⌝ }
+// The points p, p + 1, ..
+fn put_up(work: &mut [u32], k: usize, p: PointNumber, cap: usize)
+    requires { ⌜ (p .0 + cap ≤ most) × (k + cap ≤ length (now work)) ⌝ }
+    ensures { λ _. ⌜ now (work .exit) ≡ spliced (now (work .entry)) k (tab (λ j. p .0 + j) cap 0) ⌝ }
 {
     let mut j = 0;
     while j < cap {
-        work[k + j] = narrow(p + j);
+        put_point_number(work, k + j, PointNumber(p.0 + j));
         j += 1;
     }
 }
@@ -112,10 +127,10 @@ fn put_begin(work: &mut [u32], k: usize, wanted: bool, cap: usize) -> usize
     k
 }
 
-// The end cap, where there is one.
-fn put_end(work: &mut [u32], k: usize, wanted: bool, p: usize, cap: usize)
-    requires { ⌜ (p + cap ≤ most) × (k + length (flat (endPoints wanted p cap)) ≤ length (now work)) ⌝ }
-    ensures { λ _. ⌜ now (work .exit) ≡ spliced (now (work .entry)) k (flat (endPoints wanted p cap)) ⌝ }
+// The end cap, whose first point is p, where there is one.
+fn put_end(work: &mut [u32], k: usize, wanted: bool, p: PointNumber, cap: usize)
+    requires { ⌜ (p .0 + cap ≤ most) × (k + length (flat (endPoints wanted (p .0) cap)) ≤ length (now work)) ⌝ }
+    ensures { λ _. ⌜ now (work .exit) ≡ spliced (now (work .entry)) k (flat (endPoints wanted (p .0) cap)) ⌝ }
 {
     if has_cap(wanted, cap) {
         put_up(work, k, p, cap);
@@ -123,12 +138,12 @@ fn put_end(work: &mut [u32], k: usize, wanted: bool, p: usize, cap: usize)
     }
 }
 
-// The points of all corners, face by face.
+// The points of all corners, face by face; as a corner's place is its point (FORMAT 7.1), the places too.
 pub fn put_uses(work: &mut [u32], k: usize, n: usize, m: usize, cap: usize, begin: bool, end: bool)
     requires { ⌜ (2 ≤ n) × (2 ≤ m) × (cap ≤ m) × (n * m ≤ most) × (k + length (flat (facePoints n m cap begin end)) ≤ length (now work)) ⌝ }
     ensures { λ _. ⌜ now (work .exit) ≡ spliced (now (work .entry)) k (flat (facePoints n m cap begin end)) ⌝ }
 {
     put_sides(work, k, n, m);
     let next = put_begin(work, k + (n - 1) * ((m - 1) * 4), begin, cap);
-    put_end(work, next, end, (n - 1) * m, cap);
+    put_end(work, next, end, point_at(m, n - 1, 0), cap);
 }

@@ -6,7 +6,7 @@ ghost use Rattle.mesh.specs.Words.{words3, bits};
 ghost use Rattle.mesh.specs.Extrusion as spec;
 ghost use Rattle.mesh.specs.Extrusion.{spineCount, sectionCount, threes, twos, turnIn, scaleAt, turnAt, rowWords, extrusionOf, extrusionPoints};
 ghost use Rattle.polygon.specs.Loops.{tab};
-ghost use Rattle.tables.specs.Kept.{seg, spliced, Kept};
+ghost use Rattle.tables.specs.Kept.{spliced};
 ghost use Rattle.extrusion.specs.Given.{Given};
 ghost use Rattle.extrusion.specs.Rows.{axesOf, rowsBy};
 use crate::axes::PlaneAxes;
@@ -170,8 +170,7 @@ fn put_rows(
 // The words of all points, into work from place `at`.
 pub fn put_points(block: &[u8], h: Header, work: &mut [u32], at: usize)
     requires { ⌜ Given (now block) h × (at + 3 * (spineCount h * sectionCount h) ≤ length (now work)) ⌝ }
-    ensures { λ _. ⌜ Kept at (now (work .entry)) (now (work .exit))
-        × (seg (now (work .exit)) at (3 * (spineCount h * sectionCount h)) ≡ extrusionPoints (extrusionOf (now (block .entry)))) ⌝ }
+    ensures { λ _. ⌜ now (work .exit) ≡ spliced (now (work .entry)) at (extrusionPoints (extrusionOf (now (block .entry)))) ⌝ }
 {
     let spine = block::list_part(block, h, 0);
     let section = block::list_part(block, h, 1);

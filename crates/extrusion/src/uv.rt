@@ -1,13 +1,14 @@
 // FORMAT 8.4, extrusion (t_out, cap_st), and 7.3: the texture words of each corner.
 ghost use mathlib.Core.Path.{_≡_};
 ghost use Prim.Native.Nat.{_+_, _*_, _≤_, _<_};
-ghost use lib.ListN.{length, getD, set};
+ghost use lib.ListN.{length, getD};
 ghost use lib.Ieee.{nan, binary32, toBits};
 ghost use Rattle.block.specs.Settings.{settingsOf};
 ghost use Rattle.mesh.specs.Extrusion as spec;
 ghost use Rattle.mesh.specs.Extrusion.{spineCount, sectionCount, extrusionOf};
 ghost use Rattle.extrusion.specs.Listings.{useOf};
-ghost use Rattle.extrusion.specs.Corners.{textureOf, extrusionCorner, Measured, Cornered, Made};
+ghost use Rattle.texture.specs.Textured.{Textured};
+ghost use Rattle.extrusion.specs.Corners.{textureOf, extrusionCorner, extrusionTexture, Measured, Cornered};
 use crate::reading::pair_at;
 use crate::reading::section_count;
 use crate::reading::spine_count;
@@ -17,6 +18,7 @@ use block::Pair;
 use block::PointNumber;
 use block::Settings;
 use mesh::Fit;
+use texture::put2;
 
 // How far along the cross-section, and how far along the spine: floats j and i.
 fn side_texture(floats: &[f32], j: usize, i: usize) -> Words2
@@ -82,14 +84,6 @@ pub fn corner_texture(
     Words2 { s: 0, t: 0 }
 }
 
-fn put_two(work: &mut [u32], k: usize, w: Words2)
-    requires { ⌜ k + 2 ≤ length (now work) ⌝ }
-    ensures { λ _. ⌜ now (work .exit) ≡ set (set (now (work .entry)) k (w .s)) (k + 1) (w .t) ⌝ }
-{
-    work[k] = w.s;
-    work[k + 1] = w.t;
-}
-
 // The texture words of each corner, two words a corner from place `textures` on.
 pub fn put_textures(
     block: &[u8],
@@ -105,14 +99,14 @@ pub fn put_textures(
     count: usize,
 )
     requires { ⌜ Measured (now block) h (now floats) at fit × (s ≡ settingsOf (now block)) × Cornered h corners numbers textures count (now work) ⌝ }
-    ensures { λ _. ⌜ Made (extrusionOf (now (block .entry))) corners numbers textures count (now (work .entry)) (now (work .exit)) ⌝ }
+    ensures { λ _. ⌜ Textured textures count (extrusionTexture (extrusionOf (now (block .entry))) (now (work .entry)) corners numbers) (now (work .entry)) (now (work .exit)) ⌝ }
 {
     let mut c = 0;
     while c < count {
         let p = PointNumber(tables::wide(work[corners + c]));
         let f = tables::wide(work[numbers + c]);
         let w = corner_texture(block, h, s, floats, at, fit, f, p);
-        put_two(work, textures + 2 * c, w);
+        put2(work, textures + 2 * c, w);
         c += 1;
     }
 }

@@ -13,18 +13,21 @@ use Rattle.block.specs.declared.crease.CreaseRule.{CreaseRule}
 use Rattle.mesh.specs.declared.texture.Fit.{Fit}
 use Rattle.mesh.specs.Extrusion.{spineCount, sectionCount, extrusionOf, extrusionPoints, capFit}
 use Rattle.tables.specs.declared.layout.Plan.{Plan}
-use Rattle.tables.specs.Kept.{seg, Kept}
+use Rattle.tables.specs.Kept.{seg, spliced, Kept}
 use Rattle.tables.specs.Soups.{pointIn, ownerIn, pointsIn, soupIn, frameIn}
 use Rattle.tables.specs.Listed.{Listed}
 use Rattle.tables.proofs.Keep.{kept-all, kept-seg}
+use Rattle.tables.proofs.Splices.{put-gives}
 use Rattle.tables.proofs.Listings.{listed-kept}
 use Rattle.normals.specs.Written.{spread, normalsOf}
 use Rattle.corners.specs.Laid.{tablesAt, tablesOf}
 use Rattle.corners.specs.Corner.{textureAt}
 use Rattle.soups.specs.Prepared.{normalsAfter, Prepared}
+use Rattle.texture.specs.Textured.{Textured}
 use Rattle.extrusion.specs.Given.{Given}
 use Rattle.extrusion.specs.Listings.{extrusionListings, Planned}
-use Rattle.extrusion.specs.Corners.{Measured, Cornered, Made}
+use Rattle.extrusion.specs.Corners.{extrusionTexture, Measured, Cornered}
+use Rattle.extrusion.proofs.Blocks.{points-length}
 use Rattle.extrusionshape.specs.Shape.{ArcsAt, Tabled, TexturesAt}
 
 -- what stands behind a list that is put in front
@@ -41,23 +44,31 @@ arcs-after {h = h} {t = t} {rule = rule} {v = v} {ccw = ccw} {d = d} {e = e} P l
     let made : List Float = spread (normalsOf (frameIn v t ccw rule) (soupIn v t)) in
     record { held = λ u. ap (take (sectionCount h + spineCount h)) (behind made d e (3 * t .count) (P .normals) l r) ∙ a .held u }
 
+-- the points as they are put
+pub points-put : {bs : List ℕ} {h : Header} {cap : ℕ} {t : Plan} {w w₁ : List ℕ} → Given bs h → Planned h cap (length w) t → w₁ ≡ spliced w (t .points) (extrusionPoints (extrusionOf bs))
+    → Kept (t .points) w w₁ × (seg w₁ (t .points) (3 * (spineCount h * sectionCount h)) ≡ extrusionPoints (extrusionOf bs))
+points-put {bs} {h} {cap} {t} {w} D P p =
+    let R = P .room in
+    let r : t .points + 3 * (spineCount h * sectionCount h) ≤ length w = omega (arith, P .spots) in
+    put-gives _ p (points-length bs h (D .head)) r
+
 module _ {bs : List ℕ} {h : Header} {s : Settings} {t : Plan} where
   -- the parameters, then the points, then the faces, then what is made ready
-  pub tabled : {cap : ℕ} {w w₁ w₂ w₃ : List ℕ} {d d₁ e : List Float} → Planned h cap (length w) t → length d₁ ≡ length d → ArcsAt bs h d₁ (3 * t .count) → Kept (t .points) w w₁
-      → seg w₁ (t .points) (3 * (spineCount h * sectionCount h)) ≡ extrusionPoints (extrusionOf bs)
+  pub tabled : {cap : ℕ} {w w₁ w₂ w₃ : List ℕ} {d d₁ e : List Float} → Planned h cap (length w) t → length d₁ ≡ length d → ArcsAt bs h d₁ (3 * t .count) → Given bs h → w₁ ≡ spliced w (t .points) (extrusionPoints (extrusionOf bs))
       → Kept (t .corners) w₁ w₂ → Listed w₂ t (extrusionListings (spineCount h) (sectionCount h) cap (h .«begin_cap») (h .«end_cap»))
       → Prepared false (h .ccw) (s .crease) t w₂ w₃ d₁ e → length e ≡ length d₁ → 3 * t .count + (sectionCount h + spineCount h) ≤ length d → Tabled bs h s cap t w w₃ d e
   unfolding pointsIn
-  tabled {cap} {w} {w₁} {w₂} {w₃} {d} {d₁} {e} P l₁ a K p L E Q l₂ r =
+  tabled {cap} {w} {w₁} {w₂} {w₃} {d} {d₁} {e} P l₁ a D p L E Q l₂ r =
       let R = P .room in
-      let l = K .len in
+      let G = points-put D P p in
+      let l = G .0 .len in
       let n : 3 * t .spots ≡ 3 * (spineCount h * sectionCount h) = ap (λ (k : ℕ). 3 * k) (P .spots) in
       record {
         len = Q .kept .len ∙ L .len ∙ l;
         size = l₂ ∙ l₁;
         listed = w₂;
         faces = E;
-        points = kept-seg L (t .points) (3 * t .spots) (R .points) (omega arith) ∙ ap (seg w₁ (t .points)) n ∙ p;
+        points = kept-seg L (t .points) (3 * t .spots) (R .points) (omega arith) ∙ ap (seg w₁ (t .points)) n ∙ G .1;
         floats = d₁;
         prepared = Q;
         arcs = arcs-after Q l₂ (omega arith) a;
@@ -77,9 +88,9 @@ module _ {bs : List ℕ} {h : Header} {t : Plan} where
   pub textures-none : {w : List ℕ} → h .«need_uvs» ≡ false → TexturesAt bs h t w w
   textures-none e = record { kept = kept-all; at = λ u c l. absurd (true≢false (sym u ∙ e)) }
 
-  pub textures-put : {w w′ : List ℕ} → Made (extrusionOf bs) (t .corners) (t .owners) (t .owners + t .count) (t .count) w w′ → TexturesAt bs h t w w′
-  unfolding textureAt tablesOf tablesAt pointIn ownerIn
-  textures-put M = record { kept = M .kept; at = λ u c l. M .words c l }
+  pub textures-put : {w w′ : List ℕ} → Textured (t .owners + t .count) (t .count) (extrusionTexture (extrusionOf bs) w (t .corners) (t .owners)) w w′ → TexturesAt bs h t w w′
+  unfolding textureAt tablesOf tablesAt pointIn ownerIn extrusionTexture
+  textures-put T = record { kept = T .kept; at = λ u c l. T .at c l }
 
 pub measured : {bs : List ℕ} {h : Header} {floats : List Float} {at : ℕ} {fit : Fit} → Given bs h → ArcsAt bs h floats at → h .«need_uvs» ≡ true → fit ≡ capFit (extrusionOf bs .section)
     → Measured bs h floats at fit

@@ -2,7 +2,6 @@
 pub mod Theorem
 pub mod Sized
 -- Laws behind the functions, and a row.
-mod Stored
 mod Numbers
 mod Held
 mod Rows

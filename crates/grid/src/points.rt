@@ -6,7 +6,7 @@ ghost use Rattle.bits.specs.Bits.{entries};
 ghost use Rattle.block.specs.Lists.{listBytes};
 ghost use Rattle.mesh.specs.Words.{words3};
 ghost use Rattle.mesh.specs.Grid.{xDimension, zDimension, whole, stepWord, gridPoint, gridPoints};
-ghost use Rattle.tables.specs.Kept.{seg, Kept};
+ghost use Rattle.tables.specs.Kept.{spliced};
 ghost use Rattle.grid.specs.Sides.{Sides};
 use bits::Words3;
 use block::Header;
@@ -44,7 +44,7 @@ fn grid_point(heights: &[u8], h: Header, s: Settings, k: usize) -> Words3
 
 fn put3(work: &mut [u32], a: usize, w: Words3)
     requires { ⌜ a + 3 ≤ length (now work) ⌝ }
-    ensures { λ _. ⌜ Kept a (now (work .entry)) (now (work .exit)) × (seg (now (work .exit)) a 3 ≡ words3 w) ⌝ }
+    ensures { λ _. ⌜ now (work .exit) ≡ spliced (now (work .entry)) a (words3 w) ⌝ }
 {
     work[a] = w.x;
     work[a + 1] = w.y;
@@ -54,7 +54,7 @@ fn put3(work: &mut [u32], a: usize, w: Words3)
 // The points' words from place `at` on, row by row.
 pub fn put_points(block: &[u8], h: Header, s: Settings, work: &mut [u32], at: usize)
     requires { ⌜ Sides h × (xDimension h * zDimension h ≤ length (entries (listBytes (now block) h 3))) × (at + 3 * (xDimension h * zDimension h) ≤ length (now work)) ⌝ }
-    ensures { λ _. ⌜ Kept at (now (work .entry)) (now (work .exit)) × (seg (now (work .exit)) at (3 * (xDimension h * zDimension h)) ≡ gridPoints h s (entries (listBytes (now (block .entry)) h 3))) ⌝ }
+    ensures { λ _. ⌜ now (work .exit) ≡ spliced (now (work .entry)) at (gridPoints h s (entries (listBytes (now (block .entry)) h 3))) ⌝ }
 {
     let counts = h.counts;
     let n = wide(counts[0]) * wide(counts[1]);

@@ -11,10 +11,12 @@ use Rattle.block.specs.declared.settings.Settings.{Settings}
 use Rattle.block.specs.Lists.{listBytes}
 use Rattle.mesh.specs.Grid.{xDimension, zDimension, gridPoints}
 use Rattle.tables.specs.declared.layout.Plan.{Plan}
-use Rattle.tables.specs.Kept.{seg, Kept}
+use Rattle.mesh.proofs.Sizes.{grid-words}
+use Rattle.tables.specs.Kept.{seg, spliced, Kept}
 use Rattle.tables.specs.Soups.{pointIn, pointsIn}
 use Rattle.tables.specs.Listed.{Listed}
 use Rattle.tables.proofs.Keep.{kept-all, kept-seg}
+use Rattle.tables.proofs.Splices.{put-gives}
 use Rattle.tables.proofs.Listings.{listed-kept}
 use Rattle.corners.specs.Laid.{tablesAt, tablesOf}
 use Rattle.corners.specs.Corner.{textureAt}
@@ -27,21 +29,29 @@ use Rattle.grid.specs.Textures.{gridTexture, Placed}
 use Rattle.grid.proofs.Sized.{placed}
 use Rattle.gridshape.specs.Shape.{Tabled, TexturesAt}
 
+-- the points as they are put
+pub points-put : (bs : List ℕ) (h : Header) (s : Settings) {t : Plan} {w w₁ : List ℕ} → Planned h (length w) t → w₁ ≡ spliced w (t .points) (gridPoints h s (entries (listBytes bs h 3)))
+    → Kept (t .points) w w₁ × (seg w₁ (t .points) (3 * (xDimension h * zDimension h)) ≡ gridPoints h s (entries (listBytes bs h 3)))
+points-put bs h s {t} {w} P p =
+    let R = P .room in
+    let r : t .points + 3 * (xDimension h * zDimension h) ≤ length w = omega (arith, P .spots) in
+    put-gives _ p (grid-words h s (entries (listBytes bs h 3))) r
+
 module _ {bs : List ℕ} {h : Header} {s : Settings} {t : Plan} where
   -- the points, then the quads, then what is made ready
-  pub tabled : {w w₁ w₂ w₃ : List ℕ} {d e : List Float} → Planned h (length w) t → Kept (t .points) w w₁
-      → seg w₁ (t .points) (3 * (xDimension h * zDimension h)) ≡ gridPoints h s (entries (listBytes bs h 3))
+  pub tabled : {w w₁ w₂ w₃ : List ℕ} {d e : List Float} → Planned h (length w) t → w₁ ≡ spliced w (t .points) (gridPoints h s (entries (listBytes bs h 3)))
       → Kept (t .corners) w₁ w₂ → Listed w₂ t (gridListings (xDimension h) (zDimension h)) → Prepared (h .normals) (h .ccw) (s .crease) t w₂ w₃ d e → Tabled bs h s t w w₃ d e
   unfolding pointsIn
-  tabled {w} {w₁} {w₂} {w₃} P K p L E Q =
+  tabled {w} {w₁} {w₂} {w₃} P p L E Q =
       let R = P .room in
-      let l = K .len in
+      let G = points-put bs h s P p in
+      let l = G .0 .len in
       let n : 3 * t .spots ≡ 3 * (xDimension h * zDimension h) = ap (λ (k : ℕ). 3 * k) (P .spots) in
       record {
         len = Q .kept .len ∙ L .len ∙ l;
         listed = w₂;
         faces = E;
-        points = kept-seg L (t .points) (3 * t .spots) (R .points) (omega arith) ∙ ap (seg w₁ (t .points)) n ∙ p;
+        points = kept-seg L (t .points) (3 * t .spots) (R .points) (omega arith) ∙ ap (seg w₁ (t .points)) n ∙ G .1;
         prepared = Q;
       }
 

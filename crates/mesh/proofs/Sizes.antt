@@ -101,7 +101,7 @@ rows-of n m w = sym (mul-assoc n m w) ∙ mul-comm (n * m) w
 
 -- ---- grid
 
-grid-words : (h : Header) (s : Settings) (heights : List ℕ) → length (gridPoints h s heights) ≡ 3 * (xDimension h * zDimension h)
+pub grid-words : (h : Header) (s : Settings) (heights : List ℕ) → length (gridPoints h s heights) ≡ 3 * (xDimension h * zDimension h)
 unfolding gridPoints
 grid-words h s heights =
     flat-total (tab (λ k. words3 (gridPoint h s heights k)) (xDimension h * zDimension h) 0)

@@ -2,6 +2,7 @@
 mod Clear
 pub mod Keep
 pub mod Splices
+pub mod Pieces
 pub mod Tabs
 pub mod Room
 pub mod Stays

@@ -3,44 +3,56 @@ use mathlib.Core.Path.{_≡_, refl, sym, ap, _∙_}
 use mathlib.Core.Logic.{⊎-elim}
 use mathlib.Core.List.{List}
 use Prim.Native.Nat.{ℕ, _+_, _*_, _≤_, _<_}
-use native.Mathlib.Nat.{eq-or-lt-of-le, le-of-suc-le-suc, not-suc-le-zero}
+use native.Mathlib.Nat.{add-zero, eq-or-lt-of-le, le-of-suc-le-suc, not-suc-le-zero}
 use native.Mathlib.Numerals.{add-one}
 use native.Mathlib.Omega.{arith}
-use lib.ListN.{length, getD, set, length-set}
+use lib.ListN.{length, getD, drop}
+use lib.Seq.{drop-drop}
 use Rattle.bits.specs.declared.Words2.{Words2}
 use Rattle.block.specs.declared.header.Header.{Header}
 use Rattle.block.specs.declared.settings.Settings.{Settings}
 use Rattle.mesh.specs.declared.texture.Fit.{Fit}
 use Rattle.mesh.specs.Texture.{defaultAt}
-use Rattle.tables.specs.Kept.{seg, Kept}
-use Rattle.tables.proofs.Keep.{kept-all, kept-set, kept-then, kept-at, kept-seg, set-hit, set-miss}
+use Rattle.mesh.specs.Words.{words2}
+use Rattle.tables.specs.Kept.{seg, spliced, Kept}
+use Rattle.tables.proofs.Keep.{kept-all, kept-then, kept-at, kept-seg, seg-at}
+use Rattle.tables.proofs.Splices.{spliced-above, put-gives}
 use Rattle.texture.specs.Corner.{textureIn}
 use Rattle.texture.specs.Textured.{pairAt, Textured, setTexture, Fitted}
 
--- two stores
-pub stored : (l : List ℕ) (a : ℕ) (v : Words2) → a + 2 ≤ length l → let m = set (set l a (v .s)) (a + 1) (v .t) in Kept a l m × (pairAt m a ≡ v)
-stored l a v h =
-    let n = set l a (v .s) in
-    let x : getD (set n (a + 1) (v .t)) a 0 ≡ v .s = set-miss n (a + 1) (v .t) a (λ e. omega arith) ∙ set-hit l a (v .s) a (omega arith) refl in
-    let y : getD (set n (a + 1) (v .t)) (a + 1) 0 ≡ v .t = set-hit n (a + 1) (v .t) (a + 1) (omega (arith, length-set l a (v .s))) refl in
-    (kept-set (a + 1) (v .t) (kept-set a (v .s) kept-all (omega arith)) (omega arith), λ i. record { s = x i; t = y i })
+-- the words of a texture, read back
+pair-put : (w : List ℕ) (a : ℕ) (v : Words2) → seg w a 2 ≡ words2 v → pairAt w a ≡ v
+pair-put w a v e =
+    let at : (i : ℕ) → i < 2 → getD w (a + i) 0 ≡ getD (words2 v) i 0 = λ i b. sym (seg-at w a 2 i b) ∙ ap (λ (l : List ℕ). getD l i 0) e in
+    let x : getD w a 0 ≡ v .s = ap (λ (k : ℕ). getD w k 0) (sym (add-zero a)) ∙ at 0 (omega arith) in
+    let y : getD w (a + 1) 0 ≡ v .t = at 1 (omega arith) in
+    λ i. record { s = x i; t = y i }
 
 pub textured-none : (a : ℕ) (f : ℕ → Words2) (w : List ℕ) → Textured a 0 f w w
-textured-none a f w = record { kept = kept-all; at = λ c h. absurd (not-suc-le-zero h) }
+textured-none a f w = record { kept = kept-all; at = λ c h. absurd (not-suc-le-zero h); above = refl }
 
-pub textured-more : (a n : ℕ) (f : ℕ → Words2) (w₀ w w′ : List ℕ) (v : Words2) → Textured a n f w₀ w → v ≡ f n → Kept (a + 2 * n) w w′ → pairAt w′ (a + 2 * n) ≡ v
+-- the next corner's
+pub textured-more : (a n : ℕ) (f : ℕ → Words2) (w₀ w w′ : List ℕ) (v : Words2) → Textured a n f w₀ w → v ≡ f n → a + 2 * n + 2 ≤ length w₀ → w′ ≡ spliced w (a + 2 * n) (words2 v)
     → Textured a (n + 1) f w₀ w′
-textured-more a n f w₀ w w′ v T e K p = record {
-  kept = kept-then (T .kept) K (omega arith);
-  at = λ c h. ⊎-elim
-      (λ (q : c ≡ n). ap (λ (k : ℕ). pairAt w′ (a + 2 * k)) q ∙ p ∙ e ∙ ap f (sym q))
-      (λ (q : c < n).
-      let x = kept-at K (a + 2 * c) (omega arith) in
-      let y = kept-at K (a + 2 * c + 1) (omega arith) in
-      let same : pairAt w′ (a + 2 * c) ≡ pairAt w (a + 2 * c) = λ i. record { s = x i; t = y i } in
-      same ∙ T .at c q)
-      (eq-or-lt-of-le (le-of-suc-le-suc (rw add-one at h)));
-}
+textured-more a n f w₀ w w′ v T e r q =
+    let l = T .kept .len in
+    let b : a + 2 * n + 2 ≤ length w = omega arith in
+    let G = put-gives (words2 v) q refl b in
+    let K = G .0 in
+    let s : a + 2 * (n + 1) ≡ a + 2 * n + 2 = omega arith in
+    record {
+      kept = kept-then (T .kept) K (omega arith);
+      at = λ c h. ⊎-elim
+          (λ (z : c ≡ n). ap (λ (k : ℕ). pairAt w′ (a + 2 * k)) z ∙ pair-put w′ (a + 2 * n) v (G .1) ∙ e ∙ ap f (sym z))
+          (λ (z : c < n).
+          let x = kept-at K (a + 2 * c) (omega arith) in
+          let y = kept-at K (a + 2 * c + 1) (omega arith) in
+          let same : pairAt w′ (a + 2 * c) ≡ pairAt w (a + 2 * c) = λ i. record { s = x i; t = y i } in
+          same ∙ T .at c z)
+          (eq-or-lt-of-le (le-of-suc-le-suc (rw add-one at h)));
+      above = rw s (ap (drop (a + 2 * n + 2)) q ∙ spliced-above w (a + 2 * n) (words2 v) b
+          ∙ sym (drop-drop 2 (a + 2 * n) w) ∙ ap (drop 2) (T .above) ∙ drop-drop 2 (a + 2 * n) w₀);
+    }
 
 -- ---- the loop over a face set's corners reads tables that stand below what it writes
 module _ (w₀ w : List ℕ) (fit : Fit) (points spots corners places textures count c : ℕ) (F : Fitted w₀ fit points spots corners places textures count)

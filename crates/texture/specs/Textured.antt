@@ -2,7 +2,7 @@
 use mathlib.Core.Path.{_≡_}
 use mathlib.Core.List.{List}
 use Prim.Native.Nat.{ℕ, _+_, _*_, _≤_, _<_}
-use lib.ListN.{length, getD}
+use lib.ListN.{length, getD, drop}
 use Rattle.bits.specs.declared.Words2.{Words2}
 use Rattle.block.specs.declared.header.Header.{Header}
 use Rattle.block.specs.declared.settings.Settings.{Settings}
@@ -16,10 +16,11 @@ use Rattle.texture.specs.Corner.{textureIn}
 abbrev pub pairAt : List ℕ → ℕ → Words2
 pairAt w a = record { s = getD w a 0; t = getD w (a + 1) 0 }
 
--- w′ has the words of w below a, and from a on the textures f 0, f 1, .. of n corners
+-- w′ is w with the words from a replaced by the textures f 0, f 1, .. of n corners
 pub record Textured (a n : ℕ) (f : ℕ → Words2) (w w′ : List ℕ) : Type 0 where
   pub kept : Kept a w w′
   pub at : (c : ℕ) → c < n → pairAt w′ (a + 2 * c) ≡ f c
+  pub above : drop (a + 2 * n) w′ ≡ drop (a + 2 * n) w
 
 -- FORMAT 7.1 to 7.4, indexed_face_set (t_out): corner c of a face set, from the tables of points, of the corners' points and of their places
 unfoldable pub setTexture : List ℕ → List ℕ → Header → Settings → Fit → List ℕ → ℕ → ℕ → ℕ → ℕ → ℕ → Words2

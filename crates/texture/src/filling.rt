@@ -3,9 +3,10 @@ ghost use mathlib.Core.Path.{_≡_};
 ghost use Prim.Native.Nat.{_+_, _*_, _≤_, _<_};
 ghost use lib.ListN.{length};
 ghost use Rattle.mesh.specs.Texture.{defaultAt};
-ghost use Rattle.tables.specs.Kept.{seg, Kept};
+ghost use Rattle.mesh.specs.Words.{words2};
+ghost use Rattle.tables.specs.Kept.{seg, spliced};
 ghost use Rattle.texture.specs.Corner.{textureIn};
-ghost use Rattle.texture.specs.Textured.{pairAt, Textured, setTexture, Fitted};
+ghost use Rattle.texture.specs.Textured.{Textured, setTexture, Fitted};
 use crate::corner::corner_texture;
 use crate::extents::default_at;
 use bits::Words2;
@@ -17,7 +18,7 @@ use tables::wide;
 
 pub fn put2(work: &mut [u32], a: usize, w: Words2)
     requires { ⌜ a + 2 ≤ length (now work) ⌝ }
-    ensures { λ _. ⌜ Kept a (now (work .entry)) (now (work .exit)) × (pairAt (now (work .exit)) a ≡ w) ⌝ }
+    ensures { λ _. ⌜ now (work .exit) ≡ spliced (now (work .entry)) a (words2 w) ⌝ }
 {
     work[a] = w.s;
     work[a + 1] = w.t;

@@ -1,5 +1,5 @@
 use Prim.Native.Nat.{_+_, ℕ}
-use Rattle.extrusion.proofs.Pieces.{splice-start}
+use Rattle.tables.proofs.Splices.{splice-start}
 use Rattle.extrusion.proofs.Sides.{begin-no, begin-yes, length-by}
 use Rattle.tables.specs.Kept.{spliced}
 use borrow.Author.Needs.{needs}

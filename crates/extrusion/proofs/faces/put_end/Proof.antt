@@ -1,4 +1,4 @@
-use Rattle.extrusion.proofs.Pieces.{splice-start}
+use Rattle.tables.proofs.Splices.{splice-start}
 use Rattle.extrusion.proofs.Sides.{end-no, end-yes, length-by}
 use Rattle.tables.specs.Kept.{spliced}
 use borrow.Author.Needs.{needs}
@@ -11,16 +11,16 @@ has-cap-requires : tie.Need-has-cap-requires
 has-cap-requires c κs = search needs
 
 put-up-requires : tie.Need-put-up-requires
-put-up-requires c κs = (c .before .before .before .before .pre .0, omega (arith, c .before .before .before .before .pre .1, length-by _ _ _ (end-yes (c .before .before .before .before .args .wanted) (c .before .before .before .before .args .cap) _ (c .before .before .has-cap .ensures) (c .before .before .before .before .args .p) (c .before .if1 .taken))))
+put-up-requires c κs = (c .before .before .before .before .pre .0, omega (arith, c .before .before .before .before .pre .1, length-by _ _ _ (end-yes (c .before .before .before .before .args .wanted) (c .before .before .before .before .args .cap) _ (c .before .before .has-cap .ensures) (c .before .before .before .before .args .p .0) (c .before .if1 .taken))))
 
 same-length : tie.Need-same-length
 same-length c = search needs
 
 returns : tie.Need-returns
-returns c = c .before .before .put-up .ensures ∙ ap (spliced (c .before .before .before .before .before .before .before .args .work .now) (c .before .before .before .before .before .before .before .args .k)) (sym (end-yes (c .before .before .before .before .before .before .before .args .wanted) (c .before .before .before .before .before .before .before .args .cap) _ (c .before .before .before .before .before .has-cap .ensures) (c .before .before .before .before .before .before .before .args .p) (c .before .before .before .before .if1 .taken)))
+returns c = c .before .before .put-up .ensures ∙ ap (spliced (c .before .before .before .before .before .before .before .args .work .now) (c .before .before .before .before .before .before .before .args .k)) (sym (end-yes (c .before .before .before .before .before .before .before .args .wanted) (c .before .before .before .before .before .before .before .args .cap) _ (c .before .before .before .before .before .has-cap .ensures) (c .before .before .before .before .before .before .before .args .p .0) (c .before .before .before .before .if1 .taken)))
 
 returns-2 : tie.Need-returns-2
-returns-2 c = splice-start _ _ ∙ ap (spliced (c .before .before .before .args .work .now) (c .before .before .before .args .k)) (sym (end-no (c .before .before .before .args .wanted) (c .before .before .before .args .cap) _ (c .before .has-cap .ensures) (c .before .before .before .args .p) (c .if1 .left)))
+returns-2 c = splice-start _ _ ∙ ap (spliced (c .before .before .before .args .work .now) (c .before .before .before .args .k)) (sym (end-no (c .before .before .before .args .wanted) (c .before .before .before .args .cap) _ (c .before .has-cap .ensures) (c .before .before .before .args .p .0) (c .if1 .left)))
 
 pub put-end-spec : {M : Type 1} → statement M
 put-end-spec = tie.close (tie.spec has-cap-requires put-up-requires same-length returns returns-2)

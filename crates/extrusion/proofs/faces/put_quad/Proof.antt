@@ -1,105 +1,78 @@
-use Rattle.extrusion.proofs.Sides.{put-four, quad-is}
-use Rattle.tables.specs.Kept.{spliced}
-use borrow.Author.Needs.{needs}
-use lib.ListN.{length-set}
-use mathlib.Core.Path.{_∙_, ap}
+use Rattle.extrusion.proofs.Sides.{next-row, quad-put, row-least}
 use native.Mathlib.Omega.{arith}
+use borrow.Author.Needs.{needs}
 use Rattle.extrusion.proofs.faces.put_quad.Statement.{statement}
 use Rattle.extrusion.proofs.faces.put_quad.Tie as tie
 
-mul-p : tie.Need-mul-p
-mul-p c = search needs
+point-at-requires : tie.Need-point-at-requires
+point-at-requires c κs = search needs
 
-add-p : tie.Need-add-p
-add-p c = search needs
+put-point-number-requires : tie.Need-put-point-number-requires
+put-point-number-requires c κs = search needs
 
-narrow-requires : tie.Need-narrow-requires
-narrow-requires c κs = search needs
+add-put-point-number : tie.Need-add-put-point-number
+add-put-point-number c = search needs
 
-mul-work : tie.Need-mul-work
-mul-work c = search needs
+add-point-at : tie.Need-add-point-at
+add-point-at c = search needs
 
-slice-write-work : tie.Need-slice-write-work
-slice-write-work c = search needs
+point-at-requires-2 : tie.Need-point-at-requires-2
+point-at-requires-2 c κs = search needs
 
-add-narrow : tie.Need-add-narrow
-add-narrow c = search needs
+put-point-number-requires-2 : tie.Need-put-point-number-requires-2
+put-point-number-requires-2 c κs = (omega (arith, c .before .before .before .before .before .before .before .before .pre .1, c .before .before .before .work .given), omega (arith, c .point-at2 .ensures, c .before .before .before .before .before .before .before .before .pre .2))
 
-narrow-requires-2 : tie.Need-narrow-requires-2
-narrow-requires-2 c κs = search needs
+add-put-point-number-2 : tie.Need-add-put-point-number-2
+add-put-point-number-2 c = search needs
 
-add-work : tie.Need-add-work
-add-work c = search needs
+add-point-at-2 : tie.Need-add-point-at-2
+add-point-at-2 c = omega (arith, row-least (c .before .before .before .before .before .before .before .before .before .before .before .before .args .i) (c .before .before .before .before .before .before .before .before .before .before .before .before .args .m) (c .before .before .before .before .before .before .before .before .before .before .before .before .pre .0), c .before .before .before .before .before .before .before .before .before .before .before .before .pre .2)
 
-mul-work-2 : tie.Need-mul-work-2
-mul-work-2 c = search needs
+add-point-at-3 : tie.Need-add-point-at-3
+add-point-at-3 c = search needs
 
-slice-write-work-2 : tie.Need-slice-write-work-2
-slice-write-work-2 c = simp length-set (omega arith)
+point-at-requires-3 : tie.Need-point-at-requires-3
+point-at-requires-3 c κs = omega (arith, next-row (c .before .before .before .before .before .before .before .before .before .before .before .before .args .i) (c .before .before .before .before .before .before .before .before .before .before .before .before .args .m), c .before .before .before .before .before .before .before .before .before .before .before .before .pre .2)
 
-add-narrow-2 : tie.Need-add-narrow-2
-add-narrow-2 c = search needs
+put-point-number-requires-3 : tie.Need-put-point-number-requires-3
+put-point-number-requires-3 c κs = (omega (arith, c .before .before .before .before .before .before .before .before .before .before .before .before .before .pre .1, c .before .before .before .before .before .before .before .before .work .given, c .before .before .before .work2 .given), omega (arith, c .point-at3 .ensures, next-row (c .before .before .before .before .before .before .before .before .before .before .before .before .before .args .i) (c .before .before .before .before .before .before .before .before .before .before .before .before .before .args .m), c .before .before .before .before .before .before .before .before .before .before .before .before .before .pre .2))
 
-add-narrow-3 : tie.Need-add-narrow-3
-add-narrow-3 c = search needs
+add-put-point-number-3 : tie.Need-add-put-point-number-3
+add-put-point-number-3 c = search needs
 
-narrow-requires-3 : tie.Need-narrow-requires-3
-narrow-requires-3 c κs = search needs
+add-point-at-4 : tie.Need-add-point-at-4
+add-point-at-4 c = omega (arith, row-least (c .before .before .before .before .before .before .before .before .before .before .before .before .before .before .before .before .before .args .i) (c .before .before .before .before .before .before .before .before .before .before .before .before .before .before .before .before .before .args .m) (c .before .before .before .before .before .before .before .before .before .before .before .before .before .before .before .before .before .pre .0), c .before .before .before .before .before .before .before .before .before .before .before .before .before .before .before .before .before .pre .2)
 
-add-work-2 : tie.Need-add-work-2
-add-work-2 c = search needs
+point-at-requires-4 : tie.Need-point-at-requires-4
+point-at-requires-4 c κs = omega (arith, next-row (c .before .before .before .before .before .before .before .before .before .before .before .before .before .before .before .before .before .args .i) (c .before .before .before .before .before .before .before .before .before .before .before .before .before .before .before .before .before .args .m), c .before .before .before .before .before .before .before .before .before .before .before .before .before .before .before .before .before .pre .2)
 
-mul-work-3 : tie.Need-mul-work-3
-mul-work-3 c = search needs
-
-slice-write-work-3 : tie.Need-slice-write-work-3
-slice-write-work-3 c = simp length-set (omega arith)
-
-add-narrow-4 : tie.Need-add-narrow-4
-add-narrow-4 c = search needs
-
-narrow-requires-4 : tie.Need-narrow-requires-4
-narrow-requires-4 c κs = search needs
-
-add-work-3 : tie.Need-add-work-3
-add-work-3 c = search needs
-
-mul-work-4 : tie.Need-mul-work-4
-mul-work-4 c = search needs
-
-slice-write-work-4 : tie.Need-slice-write-work-4
-slice-write-work-4 c = simp length-set (omega arith)
+put-point-number-requires-4 : tie.Need-put-point-number-requires-4
+put-point-number-requires-4 c κs = (omega (arith, c .before .before .before .before .before .before .before .before .before .before .before .before .before .before .before .before .before .before .pre .1, c .before .before .before .before .before .before .before .before .before .before .before .before .before .work .given, c .before .before .before .before .before .before .before .before .work2 .given, c .before .before .before .work3 .given), omega (arith, c .point-at4 .ensures, next-row (c .before .before .before .before .before .before .before .before .before .before .before .before .before .before .before .before .before .before .args .i) (c .before .before .before .before .before .before .before .before .before .before .before .before .before .before .before .before .before .before .args .m), c .before .before .before .before .before .before .before .before .before .before .before .before .before .before .before .before .before .before .pre .2))
 
 same-length : tie.Need-same-length
 same-length c = search needs
 
 returns : tie.Need-returns
-returns c = put-four (c .before .before .before .before .before .args .work .now) (c .before .before .before .before .before .args .k) _ _ _ _ (c .before .before .before .before .before .pre .0) ∙ ap (spliced (c .before .before .before .before .before .args .work .now) (c .before .before .before .before .before .args .k)) (quad-is _ _ _ _ _ _ _ (c .before .before .before .narrow .ensures) (c .before .before .narrow2 .ensures) (c .before .narrow3 .ensures) (c .narrow4 .ensures))
+returns c = quad-put _ _ _ _ _ _ _ _ _ _ _ _ _ (c .before .before .before .before .before .before .before .before .before .before .before .before .before .before .before .before .before .before .before .before .before .pre .1) (c .before .before .before .before .before .before .before .before .before .before .before .before .before .before .before .before .before .before .point-at .ensures) (c .before .before .before .before .before .before .before .before .before .before .before .before .before .point-at2 .ensures) (c .before .before .before .before .before .before .before .before .point-at3 .ensures) (c .before .before .before .point-at4 .ensures) (c .before .before .before .before .before .before .before .before .before .before .before .before .before .before .before .before .before .put-point-number .ensures) (c .before .before .before .before .before .before .before .before .before .before .before .before .put-point-number2 .ensures) (c .before .before .before .before .before .before .before .put-point-number3 .ensures) (c .before .before .put-point-number4 .ensures)
 
 pub put-quad-spec : {M : Type 1} → statement M
 put-quad-spec =
     tie.close
     (tie.spec
-    mul-p
-    add-p
-    narrow-requires
-    mul-work
-    slice-write-work
-    add-narrow
-    narrow-requires-2
-    add-work
-    mul-work-2
-    slice-write-work-2
-    add-narrow-2
-    add-narrow-3
-    narrow-requires-3
-    add-work-2
-    mul-work-3
-    slice-write-work-3
-    add-narrow-4
-    narrow-requires-4
-    add-work-3
-    mul-work-4
-    slice-write-work-4
+    point-at-requires
+    put-point-number-requires
+    add-put-point-number
+    add-point-at
+    point-at-requires-2
+    put-point-number-requires-2
+    add-put-point-number-2
+    add-point-at-2
+    add-point-at-3
+    point-at-requires-3
+    put-point-number-requires-3
+    add-put-point-number-3
+    add-point-at-4
+    point-at-requires-4
+    put-point-number-requires-4
     same-length
     returns)

@@ -1,5 +1,5 @@
 use Prim.Native.Nat.{_-_, _≤_}
-use Rattle.extrusion.proofs.Pieces.{Pieces, pieces-all, pieces-more, pieces-none}
+use Rattle.tables.proofs.Pieces.{Pieces, pieces-all, pieces-more, pieces-none}
 use Rattle.extrusion.proofs.Sides.{quad-length, quad-room}
 use Rattle.extrusion.specs.Listings.{spot}
 use Rattle.mesh.specs.Quads.{quad}
@@ -28,7 +28,7 @@ add-put-quad : tie.Need-add-put-quad Inv-loop μ-loop
 add-put-quad c = search needs
 
 put-quad-requires : tie.Need-put-quad-requires Inv-loop μ-loop
-put-quad-requires c κs = (omega (arith, quad-room (c .before .before .before .before .args .k) (c .before .before .before .before .args .m - 1) (c .before .before .loop .j) (c .before .loop-test .taken), c .before .before .loop .inv .1 .size, c .before .before .before .before .pre .1), omega (arith, c .before .loop-test .taken, c .before .before .before .before .pre .2))
+put-quad-requires c κs = (omega (arith, c .before .before .before .before .pre .0), omega (arith, quad-room (c .before .before .before .before .args .k) (c .before .before .before .before .args .m - 1) (c .before .before .loop .j) (c .before .loop-test .taken), c .before .before .loop .inv .1 .size, c .before .before .before .before .pre .1), omega (arith, c .before .loop-test .taken, c .before .before .before .before .pre .2))
 
 add-j : tie.Need-add-j Inv-loop μ-loop
 add-j c = search needs
@@ -39,7 +39,7 @@ loop-less c = search needs
 loop-again : tie.Need-loop-again Inv-loop μ-loop
 loop-again c = (
   omega arith,
-  pieces-more _ 4 (quad-length _ _) (c .before .before .before .before .before .before .before .args .work .now) _ _ _ (c .before .before .before .before .before .before .before .args .k) (c .before .before .before .before .before .loop .j) (omega (arith, c .before .before .before .before .loop-test .taken, c .before .before .before .before .before .before .before .pre .1)) (c .before .before .before .before .before .loop .inv .1) refl (c .before .before .put-quad .ensures),
+  pieces-more _ 4 (quad-length _ _) (c .before .before .before .before .before .before .before .args .work .now) _ _ _ (c .before .before .before .before .before .before .before .args .k) (c .before .before .before .before .before .loop .j) _ refl (omega (arith, c .before .before .before .before .loop-test .taken, c .before .before .before .before .before .before .before .pre .1)) (c .before .before .before .before .before .loop .inv .1) refl (c .before .before .put-quad .ensures),
 )
 
 same-length : tie.Need-same-length Inv-loop μ-loop

@@ -1,5 +1,5 @@
 use Prim.Native.Nat.{_*_, _-_, _≤_}
-use Rattle.extrusion.proofs.Pieces.{Pieces, pieces-all, pieces-more, pieces-none}
+use Rattle.tables.proofs.Pieces.{Pieces, pieces-all, pieces-more, pieces-none}
 use Rattle.extrusion.proofs.Sides.{row-width, rows-most, section-least, sides-are}
 use Rattle.extrusion.proofs.Walking.{row-room}
 use Rattle.extrusion.specs.Listings.{spot}
@@ -49,7 +49,7 @@ loop-less c = search needs
 loop-again : tie.Need-loop-again Inv-loop μ-loop
 loop-again c = (
   omega arith,
-  pieces-more _ ((c .before .before .before .before .before .before .before .args .m - 1) * 4) (row-width _) (c .before .before .before .before .before .before .before .args .work .now) _ _ _ (c .before .before .before .before .before .before .before .args .k) (c .before .before .before .before .before .loop .i) (row-room _ _ ((c .before .before .before .before .before .before .before .args .m - 1) * 4) _ _ (c .before .before .before .before .before .before .before .pre .3) (c .before .before .before .before .loop-test .taken)) (c .before .before .before .before .before .loop .inv .1) refl (c .before .before .put-quad-row .ensures),
+  pieces-more _ ((c .before .before .before .before .before .before .before .args .m - 1) * 4) (row-width _) (c .before .before .before .before .before .before .before .args .work .now) _ _ _ (c .before .before .before .before .before .before .before .args .k) (c .before .before .before .before .before .loop .i) _ refl (row-room _ _ ((c .before .before .before .before .before .before .before .args .m - 1) * 4) _ _ (c .before .before .before .before .before .before .before .pre .3) (c .before .before .before .before .loop-test .taken)) (c .before .before .before .before .before .loop .inv .1) refl (c .before .before .put-quad-row .ensures),
 )
 
 same-length : tie.Need-same-length Inv-loop μ-loop

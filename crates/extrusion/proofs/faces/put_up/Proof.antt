@@ -1,12 +1,13 @@
 use Prim.Native.Nat.{_+_, _-_, _≤_}
-use Rattle.extrusion.proofs.Pieces.{Pieces, pieces-none, single, single-more, singles-all}
-use borrow.Author.Needs.{needs}
+use Rattle.tables.proofs.Pieces.{Pieces, pieces-none, single, single-more, singles-all}
+use mathlib.Core.Path.{refl}
 use native.Mathlib.Omega.{arith}
+use borrow.Author.Needs.{needs}
 use Rattle.extrusion.proofs.faces.put_up.Statement.{statement}
 use Rattle.extrusion.proofs.faces.put_up.Tie as tie
 
 abbrev Inv-loop : tie.InvT-loop
-Inv-loop work₀ k p cap j₀ work j = (j ≤ cap) × Pieces (single (λ j. p + j)) work₀ k j work
+Inv-loop work₀ k p cap j₀ work j = (j ≤ cap) × Pieces (single (λ j. p .0 + j)) work₀ k j work
 
 abbrev μ-loop : tie.MeasureT-loop
 μ-loop work₀ k p cap j₀ work j = cap - j
@@ -14,20 +15,14 @@ abbrev μ-loop : tie.MeasureT-loop
 loop-holds : tie.Need-loop-holds Inv-loop μ-loop
 loop-holds c = (omega arith, pieces-none _ _ _)
 
-add-narrow : tie.Need-add-narrow Inv-loop μ-loop
-add-narrow c = search needs
+add-put-point-number : tie.Need-add-put-point-number Inv-loop μ-loop
+add-put-point-number c = search needs
 
-narrow-requires : tie.Need-narrow-requires Inv-loop μ-loop
-narrow-requires c κs = search needs
+add-t11 : tie.Need-add-t11 Inv-loop μ-loop
+add-t11 c = search needs
 
-add-work : tie.Need-add-work Inv-loop μ-loop
-add-work c = search needs
-
-mul-work : tie.Need-mul-work Inv-loop μ-loop
-mul-work c = search needs
-
-slice-write-work : tie.Need-slice-write-work Inv-loop μ-loop
-slice-write-work c = omega (arith, c .before .before .loop .inv .1 .size)
+put-point-number-requires : tie.Need-put-point-number-requires Inv-loop μ-loop
+put-point-number-requires c κs = (omega (arith, c .before .before .before .loop .inv .1 .size), omega arith)
 
 add-j : tie.Need-add-j Inv-loop μ-loop
 add-j c = search needs
@@ -36,13 +31,13 @@ loop-less : tie.Need-loop-less Inv-loop μ-loop
 loop-less c = search needs
 
 loop-again : tie.Need-loop-again Inv-loop μ-loop
-loop-again c = (omega arith, single-more _ (c .before .before .before .before .args .work .now) _ (c .before .before .before .before .args .k) (c .before .before .loop .j) _ (omega arith) (c .before .before .loop .inv .1) (c .narrow .ensures))
+loop-again c = (omega arith, rw (c .before .before .put-point-number .ensures) (single-more _ (c .before .before .before .before .before .before .before .before .args .work .now) _ (c .before .before .before .before .before .before .before .before .args .k) (c .before .before .before .before .before .before .loop .j) _ (omega (arith, c .before .before .before .before .before .loop-test .taken, c .before .before .before .before .before .before .before .before .pre .1)) (c .before .before .before .before .before .before .loop .inv .1) refl))
 
 same-length : tie.Need-same-length Inv-loop μ-loop
 same-length c = c .before .loop .inv .1 .size
 
 returns : tie.Need-returns Inv-loop μ-loop
-returns c = singles-all _ _ _ _ _ _ (c .before .loop .inv .1) (omega arith)
+returns c = singles-all _ _ _ _ _ _ (c .before .loop .inv .1) (omega (arith, c .before .loop .inv .0))
 
 pub put-up-spec : {M : Type 1} → statement M
 put-up-spec =
@@ -51,11 +46,9 @@ put-up-spec =
     Inv-loop
     μ-loop
     loop-holds
-    add-narrow
-    narrow-requires
-    add-work
-    mul-work
-    slice-write-work
+    add-put-point-number
+    add-t11
+    put-point-number-requires
     add-j
     loop-less
     loop-again

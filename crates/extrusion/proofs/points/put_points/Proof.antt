@@ -41,7 +41,7 @@ same-length : tie.Need-same-length
 same-length c = search needs
 
 returns : tie.Need-returns
-returns c = points-put (c .before .before .before .before .before .before .before .before .before .before .before .before .before .before .pre .0) _ _ _ _ _ _ _ _ _ _ _ (c .before .before .before .before .before .before .before .before .before .before .before .list-part .ensures) (c .before .before .before .before .before .before .before .spine-count .ensures) (c .before .before .before .before .before .before .before .before .before .before .list-part2 .ensures) (c .before .before .before .before .before .before .section-count .ensures) (c .before .before .before .before .before .before .before .before .before .list-part3 .ensures) (c .before .before .before .before .before .scale-count .ensures) (c .before .before .before .before .before .before .before .before .list-part4 .ensures) (c .before .before .before .before .turn-count .ensures) (c .before .before .before .before .before .before .before .before .before .before .before .before .before .before .pre .1) (c .before .before .put-rows .ensures)
+returns c = points-put (c .before .before .before .before .before .before .before .before .before .before .before .before .before .before .pre .0) _ _ _ _ _ _ _ _ _ _ _ (c .before .before .before .before .before .before .before .before .before .before .before .list-part .ensures) (c .before .before .before .before .before .before .before .spine-count .ensures) (c .before .before .before .before .before .before .before .before .before .before .list-part2 .ensures) (c .before .before .before .before .before .before .section-count .ensures) (c .before .before .before .before .before .before .before .before .before .list-part3 .ensures) (c .before .before .before .before .before .scale-count .ensures) (c .before .before .before .before .before .before .before .before .list-part4 .ensures) (c .before .before .before .before .turn-count .ensures) (c .before .before .put-rows .ensures)
 
 pub put-points-spec : {M : Type 1} → statement M
 put-points-spec =

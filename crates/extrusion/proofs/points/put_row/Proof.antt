@@ -1,11 +1,11 @@
 use Prim.Native.Nat.{_-_, _≤_}
-use Rattle.extrusion.proofs.Pieces.{Pieces, pieces-all, pieces-more, pieces-none}
+use Rattle.tables.proofs.Pieces.{Pieces, pieces-all, pieces-more, pieces-none}
 use Rattle.extrusion.proofs.Walking.{row-is, spot-is, spot-length, spotOf}
 use Rattle.extrusion.specs.Rows.{axesOf}
 use Rattle.mesh.specs.Extrusion.{twos}
 use Rattle.tables.specs.Kept.{spliced}
 use borrow.Author.Needs.{needs}
-use mathlib.Core.Path.{_∙_, _≡_, ap}
+use mathlib.Core.Path.{_∙_, _≡_, refl, ap}
 use native.Mathlib.Omega.{arith}
 use Rattle.extrusion.proofs.points.put_row.Statement.{statement}
 use Rattle.extrusion.proofs.points.put_row.Tie as tie
@@ -46,7 +46,7 @@ loop-less c = search needs
 loop-again : tie.Need-loop-again Inv-loop μ-loop
 loop-again c = (
   omega arith,
-  pieces-more _ 3 (spot-length _ _ _ _ _) (c .before .before .before .before .before .before .before .before .before .before .before .args .work .now) _ _ _ (c .before .before .before .before .before .before .before .before .before .before .before .args .k) (c .before .before .before .before .before .before .before .before .loop .j) (omega (arith, c .before .before .before .before .before .before .before .loop-test .taken, c .before .before .before .before .before .before .before .before .before .before .before .pre .1)) (c .before .before .before .before .before .before .before .before .loop .inv .1) (spot-is _ _ _ _ _ _ _ _ _ (c .before .before .before .before .before .before .pair-at .ensures) (c .before .before .before .before .before .local .ensures) (c .before .before .before .before .placed .ensures)) (c .before .before .put-point .ensures),
+  pieces-more _ 3 (spot-length _ _ _ _ _) (c .before .before .before .before .before .before .before .before .before .before .before .args .work .now) _ _ _ (c .before .before .before .before .before .before .before .before .before .before .before .args .k) (c .before .before .before .before .before .before .before .before .loop .j) _ refl (omega (arith, c .before .before .before .before .before .before .before .loop-test .taken, c .before .before .before .before .before .before .before .before .before .before .before .pre .1)) (c .before .before .before .before .before .before .before .before .loop .inv .1) (spot-is _ _ _ _ _ _ _ _ _ (c .before .before .before .before .before .before .pair-at .ensures) (c .before .before .before .before .before .local .ensures) (c .before .before .before .before .placed .ensures)) (c .before .before .put-point .ensures),
 )
 
 same-length : tie.Need-same-length Inv-loop μ-loop

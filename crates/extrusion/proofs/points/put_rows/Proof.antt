@@ -1,5 +1,5 @@
 use Prim.Native.Nat.{_*_, _-_, _<_, _^_, _≤_}
-use Rattle.extrusion.proofs.Pieces.{pieces-all}
+use Rattle.tables.proofs.Pieces.{pieces-all}
 use Rattle.extrusion.proofs.Values.{count2}
 use Rattle.extrusion.proofs.Walking.{Walked, row-room, walk-start, walk-step}
 use Rattle.mesh.specs.Extrusion.{threes, turnIn, twos}

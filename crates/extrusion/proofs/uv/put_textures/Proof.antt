@@ -1,6 +1,9 @@
-use Prim.Native.Nat.{_-_, _≤_}
-use Rattle.extrusion.proofs.Textures.{corner-within, made-more, made-none}
-use Rattle.extrusion.specs.Corners.{Made}
+use Prim.Native.Nat.{_+_, _*_, _-_, _≤_}
+use Rattle.extrusion.proofs.Textures.{corner-within, texture-read}
+use Rattle.extrusion.specs.Corners.{extrusionTexture}
+use Rattle.texture.specs.Textured.{Textured}
+use Rattle.texture.proofs.Filled.{textured-none, textured-more}
+use lib.ListN.{length}
 use Rattle.mesh.specs.Extrusion.{extrusionOf}
 use borrow.Author.Needs.{needs}
 use mathlib.Core.Path.{_≡_}
@@ -9,13 +12,13 @@ use Rattle.extrusion.proofs.uv.put_textures.Statement.{statement}
 use Rattle.extrusion.proofs.uv.put_textures.Tie as tie
 
 abbrev Inv-loop : tie.InvT-loop
-Inv-loop block h s floats at fit work₀ corners numbers textures count c₀ work c = (c ≤ count) × Made (extrusionOf block) corners numbers textures c work₀ work
+Inv-loop block h s floats at fit work₀ corners numbers textures count c₀ work c = (c ≤ count) × Textured textures c (extrusionTexture (extrusionOf block) work₀ corners numbers) work₀ work
 
 abbrev μ-loop : tie.MeasureT-loop
 μ-loop block h s floats at fit work₀ corners numbers textures count c₀ work c = count - c
 
 loop-holds : tie.Need-loop-holds Inv-loop μ-loop
-loop-holds c = (omega arith, made-none _ _ _ _ _)
+loop-holds c = (omega arith, textured-none _ _ _)
 
 add-wide : tie.Need-add-wide Inv-loop μ-loop
 add-wide c = omega (arith, c .loop-test .taken, c .before .before .before .before .before .pre .2 .points, c .before .before .before .before .before .pre .2 .room)
@@ -44,14 +47,14 @@ wide-requires-2 c κs = search needs
 corner-texture-requires : tie.Need-corner-texture-requires Inv-loop μ-loop
 corner-texture-requires c κs = (c .before .before .before .before .before .before .before .before .before .pre .0, c .before .before .before .before .before .before .before .before .before .pre .1, corner-within (c .before .before .before .before .before .before .before .before .before .pre .2) (c .before .before .before .before .before .loop .inv .1 .kept) _ _ (c .before .before .before .before .loop-test .taken) (c .before .before .wide .ensures))
 
-mul-put-two : tie.Need-mul-put-two Inv-loop μ-loop
-mul-put-two c = omega (arith, c .before .before .before .before .before .before .loop-test .taken, c .before .before .before .before .before .before .before .before .before .before .before .pre .2 .room)
+mul-put2 : tie.Need-mul-put2 Inv-loop μ-loop
+mul-put2 c = omega (arith, c .before .before .before .before .before .before .loop-test .taken, c .before .before .before .before .before .before .before .before .before .before .before .pre .2 .room)
 
-add-put-two : tie.Need-add-put-two Inv-loop μ-loop
-add-put-two c = omega (arith, c .before .before .before .before .before .before .loop-test .taken, c .before .before .before .before .before .before .before .before .before .before .before .pre .2 .room)
+add-put2 : tie.Need-add-put2 Inv-loop μ-loop
+add-put2 c = omega (arith, c .before .before .before .before .before .before .loop-test .taken, c .before .before .before .before .before .before .before .before .before .before .before .pre .2 .room)
 
-put-two-requires : tie.Need-put-two-requires Inv-loop μ-loop
-put-two-requires c κs = omega (arith, c .before .before .before .before .before .before .loop-test .taken, c .before .before .before .before .before .before .before .before .before .before .before .pre .2 .room, c .before .before .before .before .before .before .before .loop .inv .1 .kept .len)
+put2-requires : tie.Need-put2-requires Inv-loop μ-loop
+put2-requires c κs = omega (arith, c .before .before .before .before .before .before .loop-test .taken, c .before .before .before .before .before .before .before .before .before .before .before .pre .2 .room, c .before .before .before .before .before .before .before .loop .inv .1 .kept .len)
 
 add-c : tie.Need-add-c Inv-loop μ-loop
 add-c c = omega (arith, c .before .before .before .before .before .before .before .before .before .loop-test .taken, c .before .before .before .before .before .before .before .before .before .before .before .before .before .before .pre .2 .room)
@@ -60,10 +63,11 @@ loop-less : tie.Need-loop-less Inv-loop μ-loop
 loop-less c = omega (arith, c .before .before .before .before .before .before .before .before .before .loop-test .taken)
 
 loop-again : tie.Need-loop-again Inv-loop μ-loop
-loop-again c = (
-  omega (arith, c .before .before .before .before .before .before .before .before .before .loop-test .taken),
-  made-more _ _ _ _ _ _ _ (c .before .before .before .before .before .before .before .before .before .before .loop .c) (c .before .before .before .before .before .before .before .before .before .before .before .before .before .before .args .count) _ _ _ (c .before .before .before .before .before .before .before .before .before .before .loop .inv .1) (c .before .before .before .before .before .before .before .before .before .loop-test .taken) (c .before .before .before .before .before .before .before .before .before .before .before .before .before .before .pre .2 .points) (c .before .before .before .before .before .before .before .before .before .before .before .before .before .before .pre .2 .faces) (c .before .before .before .before .before .before .before .before .before .before .before .before .before .before .pre .2 .room) (c .before .before .before .before .before .before .before .wide .ensures) (c .before .before .before .before .before .wide2 .ensures) (c .before .before .before .before .corner-texture .ensures) (c .before .before .put-two .ensures),
-)
+loop-again c =
+    let T = c .before .before .before .before .before .before .before .before .before .before .loop .inv .1 in
+    let r = texture-read (c .before .before .before .before .before .before .before .before .before .before .before .before .before .before .pre .2) (T .kept) _ _ _ _ _ (c .before .before .before .before .before .before .before .before .before .loop-test .taken) (c .before .before .before .before .before .before .before .wide .ensures) (c .before .before .before .before .before .wide2 .ensures) (c .before .before .before .before .corner-texture .ensures) in
+    let room : c .before .before .before .before .before .before .before .before .before .before .before .before .before .before .args .textures + 2 * c .before .before .before .before .before .before .before .before .before .before .loop .c + 2 ≤ length (c .before .before .before .before .before .before .before .before .before .before .before .before .before .before .args .work .now) = omega (arith, c .before .before .before .before .before .before .before .before .before .before .before .before .before .before .pre .2 .room, c .before .before .before .before .before .before .before .before .before .loop-test .taken) in
+    (omega (arith, c .before .before .before .before .before .before .before .before .before .loop-test .taken), textured-more _ _ _ _ _ _ _ T r room (c .before .before .put2 .ensures))
 
 same-length : tie.Need-same-length Inv-loop μ-loop
 same-length c = c .before .loop .inv .1 .kept .len
@@ -87,9 +91,9 @@ put-textures-spec =
     slice-read-wide-2
     wide-requires-2
     corner-texture-requires
-    mul-put-two
-    add-put-two
-    put-two-requires
+    mul-put2
+    add-put2
+    put2-requires
     add-c
     loop-less
     loop-again

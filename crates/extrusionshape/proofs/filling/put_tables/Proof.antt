@@ -1,6 +1,6 @@
 use native.Mathlib.Omega.{arith}
 use Rattle.tables.proofs.Listings.{listed-sound}
-use Rattle.extrusionshape.proofs.Tabling.{tabled}
+use Rattle.extrusionshape.proofs.Tabling.{points-put, tabled}
 use borrow.Author.Needs.{needs}
 use Rattle.extrusionshape.proofs.filling.put_tables.Statement.{statement}
 use Rattle.extrusionshape.proofs.filling.put_tables.Tie as tie
@@ -12,7 +12,7 @@ put-points-requires : tie.Need-put-points-requires
 put-points-requires c κs = let P = c .before .before .before .before .before .before .before .before .pre .1 in let R = P .room in (c .before .before .before .before .before .before .before .before .pre .0, omega (arith, P .spots))
 
 list-faces-requires : tie.Need-list-faces-requires
-list-faces-requires c κs = rw (c .before .before .before .put-points .ensures .0 .len) (c .before .before .before .before .before .before .before .before .before .before .before .before .pre .1)
+list-faces-requires c κs = rw (points-put (c .before .before .before .before .before .before .before .before .before .before .before .before .pre .0) (c .before .before .before .before .before .before .before .before .before .before .before .before .pre .1) (c .before .before .before .put-points .ensures) .0 .len) (c .before .before .before .before .before .before .before .before .before .before .before .before .pre .1)
 
 prepare-requires : tie.Need-prepare-requires
 prepare-requires c κs = (listed-sound (c .before .before .before .before .list-faces .ensures .1), omega (arith, c .before .before .before .before .before .before .before .before .before .before .before .before .before .before .before .before .before .pre .2, c .before .before .before .before .before .before .before .before .before .before .before .before .arcs-where .kept .1 .1 .1 .0))
@@ -24,7 +24,7 @@ same-length-2 : tie.Need-same-length-2
 same-length-2 c = search needs
 
 returns : tie.Need-returns
-returns c = tabled (c .before .before .before .before .before .before .before .before .before .before .before .before .before .before .before .before .before .before .before .before .before .before .pre .1) (c .before .before .before .before .before .before .before .before .before .before .before .before .before .before .before .before .before .arcs-where .kept .1 .1 .1 .0) (c .before .before .before .before .before .before .before .before .before .before .before .before .before .before .before .before .before .arcs-where .ensures) (c .before .before .before .before .before .before .before .before .before .before .before .before .before .put-points .ensures .0) (c .before .before .before .before .before .before .before .before .before .before .before .before .before .put-points .ensures .1) (c .before .before .before .before .before .before .before .before .before .list-faces .ensures .0) (c .before .before .before .before .before .before .before .before .before .list-faces .ensures .1) (c .before .before .before .before .prepare .ensures) (c .before .before .before .before .prepare .kept .1 .1 .1 .1 .1 .0) (c .before .before .before .before .before .before .before .before .before .before .before .before .before .before .before .before .before .before .before .before .before .before .pre .2)
+returns c = tabled (c .before .before .before .before .before .before .before .before .before .before .before .before .before .before .before .before .before .before .before .before .before .before .pre .1) (c .before .before .before .before .before .before .before .before .before .before .before .before .before .before .before .before .before .arcs-where .kept .1 .1 .1 .0) (c .before .before .before .before .before .before .before .before .before .before .before .before .before .before .before .before .before .arcs-where .ensures) (c .before .before .before .before .before .before .before .before .before .before .before .before .before .before .before .before .before .before .before .before .before .before .pre .0) (c .before .before .before .before .before .before .before .before .before .before .before .before .before .put-points .ensures) (c .before .before .before .before .before .before .before .before .before .list-faces .ensures .0) (c .before .before .before .before .before .before .before .before .before .list-faces .ensures .1) (c .before .before .before .before .prepare .ensures) (c .before .before .before .before .prepare .kept .1 .1 .1 .1 .1 .0) (c .before .before .before .before .before .before .before .before .before .before .before .before .before .before .before .before .before .before .before .before .before .before .pre .2)
 
 pub put-tables-spec : {M : Type 1} → statement M
 put-tables-spec =

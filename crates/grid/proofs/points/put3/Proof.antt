@@ -1,4 +1,4 @@
-use Rattle.grid.proofs.Stored.{stored}
+use Rattle.tables.proofs.Splices.{put-three}
 use lib.ListN.{length-set}
 use native.Mathlib.Omega.{arith}
 use borrow.Author.Needs.{needs}
@@ -33,7 +33,7 @@ same-length : tie.Need-same-length
 same-length c = search needs
 
 returns : tie.Need-returns
-returns c = stored _ _ _ _ _ (c .pre)
+returns c = put-three _ _ _ _ _ (c .pre)
 
 pub put3-spec : {M : Type 1} → statement M
 put3-spec =

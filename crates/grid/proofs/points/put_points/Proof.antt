@@ -1,20 +1,19 @@
 use mathlib.Core.List.{List}
-use Prim.Native.Nat.{_<_}
 use lib.ListN.{length}
-use Rattle.grid.proofs.Stored.{Rows, rows-start, rows-more}
+use Rattle.tables.proofs.Pieces.{Pieces, pieces-none, pieces-more, pieces-all}
 use Rattle.mesh.specs.Grid.{xDimension, zDimension, gridPoint, gridPoints}
 use Rattle.mesh.specs.Words.{words3}
 use Rattle.block.specs.Lists.{listBytes}
 use Rattle.bits.specs.Bits.{entries}
-use mathlib.Core.Path.{_≡_, ap, _∙_}
-use Prim.Native.Nat.{ℕ, _*_, _-_, _≤_}
+use mathlib.Core.Path.{_≡_, refl, ap, _∙_}
+use Prim.Native.Nat.{ℕ, _+_, _*_, _-_, _≤_, _<_}
 use native.Mathlib.Omega.{arith}
 use borrow.Author.Needs.{needs}
 use Rattle.grid.proofs.points.put_points.Statement.{statement}
 use Rattle.grid.proofs.points.put_points.Tie as tie
 
 abbrev Inv-loop : tie.InvT-loop
-Inv-loop block h s work₀ at n heights k₀ work k = (k ≤ n) × (n ≡ xDimension h * zDimension h) × (heights ≡ listBytes block h 3) × Rows (λ (j : ℕ). words3 (gridPoint h s (entries (listBytes block h 3)) j)) at work₀ work k
+Inv-loop block h s work₀ at n heights k₀ work k = (k ≤ n) × (n ≡ xDimension h * zDimension h) × (heights ≡ listBytes block h 3) × Pieces (λ (j : ℕ). words3 (gridPoint h s (entries (listBytes block h 3)) j)) work₀ at k work
 
 abbrev μ-loop : tie.MeasureT-loop
 μ-loop block h s work₀ at n heights k₀ work k = n - k
@@ -38,7 +37,7 @@ list-part-requires : tie.Need-list-part-requires Inv-loop μ-loop
 list-part-requires c κs = search needs
 
 loop-holds : tie.Need-loop-holds Inv-loop μ-loop
-loop-holds c = (omega arith, λ i. c .before .before .wide .ensures i * c .before .wide2 .ensures i, c .list-part .ensures, rows-start _ _ _)
+loop-holds c = (omega arith, λ i. c .before .before .wide .ensures i * c .before .wide2 .ensures i, c .list-part .ensures, pieces-none _ _ _)
 
 mul-put3 : tie.Need-mul-put3 Inv-loop μ-loop
 mul-put3 c = omega (arith, c .before .before .loop .inv .1, c .before .before .before .before .before .before .before .before .before .pre .0 .few)
@@ -50,7 +49,7 @@ grid-point-requires : tie.Need-grid-point-requires Inv-loop μ-loop
 grid-point-requires c κs = let q : c .before .before .loop .k < length (entries (listBytes (c .before .before .before .before .before .before .before .before .before .args .block .now) (c .before .before .before .before .before .before .before .before .before .args .h) 3)) = omega (arith, c .before .loop-test .taken, c .before .before .loop .inv .1, c .before .before .before .before .before .before .before .before .before .pre .1) in (c .before .before .before .before .before .before .before .before .before .pre .0, omega (arith, c .before .loop-test .taken, c .before .before .loop .inv .1), rw (c .before .before .before .list-part .ensures) q)
 
 put3-requires : tie.Need-put3-requires Inv-loop μ-loop
-put3-requires c κs = omega (arith, c .before .before .before .loop .inv .1, c .before .before .before .loop .inv .3 .kept .len, c .before .before .before .before .before .before .before .before .before .before .pre .2)
+put3-requires c κs = omega (arith, c .before .before .before .loop .inv .1, c .before .before .before .loop .inv .3 .size, c .before .before .before .before .before .before .before .before .before .before .pre .2)
 
 add-k : tie.Need-add-k Inv-loop μ-loop
 add-k c = omega (arith, c .before .before .before .before .before .before .loop .inv .1, c .before .before .before .before .before .before .before .before .before .before .before .before .before .pre .0 .few)
@@ -61,16 +60,17 @@ loop-less c = search needs
 loop-again : tie.Need-loop-again Inv-loop μ-loop
 loop-again c =
     let I = c .before .before .before .before .before .before .loop .inv in
-    let l : c .before .before .before .before .before .before .loop .k < xDimension (c .before .before .before .before .before .before .before .before .before .before .before .before .before .args .h) * zDimension (c .before .before .before .before .before .before .before .before .before .before .before .before .before .args .h) = omega (arith, c .before .before .before .before .before .loop-test .taken, I .1) in
     let v = c .before .before .before .grid-point .ensures ∙ ap (λ (x : List ℕ). gridPoint (c .before .before .before .before .before .before .before .before .before .before .before .before .before .args .h) (c .before .before .before .before .before .before .before .before .before .before .before .before .before .args .s) (entries x) (c .before .before .before .before .before .before .loop .k)) (c .before .before .before .before .before .before .before .list-part .ensures) in
-    (omega (arith, c .before .before .before .before .before .loop-test .taken), I .1, I .2, rows-more _ _ _ _ _ _ _ _ l (c .before .before .before .before .before .before .before .before .before .before .before .before .before .pre .2) (I .3) (ap words3 v) (c .before .before .put3 .ensures .0) (c .before .before .put3 .ensures .1))
+    let a : c .before .before .before .before .before .before .before .before .before .before .before .before .before .args .at + 3 * c .before .before .before .before .before .before .loop .k ≡ c .before .before .before .before .before .before .before .before .before .before .before .before .before .args .at + c .before .before .before .before .before .before .loop .k * 3 = omega arith in
+    let room : c .before .before .before .before .before .before .before .before .before .before .before .before .before .args .at + 3 * c .before .before .before .before .before .before .loop .k + 3 ≤ length (c .before .before .before .before .before .before .before .before .before .before .before .before .before .args .work .now) = omega (arith, c .before .before .before .before .before .loop-test .taken, I .1, c .before .before .before .before .before .before .before .before .before .before .before .before .before .pre .2) in
+    (omega (arith, c .before .before .before .before .before .loop-test .taken), I .1, I .2, pieces-more _ 3 (λ t. refl) _ _ _ _ _ _ _ a room (I .3) (ap words3 v) (c .before .before .put3 .ensures))
 
 same-length : tie.Need-same-length Inv-loop μ-loop
-same-length c = c .before .loop .inv .3 .kept .len
+same-length c = c .before .loop .inv .3 .size
 
 returns : tie.Need-returns Inv-loop μ-loop
 unfolding gridPoints
-returns c = let e : c .before .loop .k ≡ xDimension (c .before .before .before .before .before .before .before .before .args .h) * zDimension (c .before .before .before .before .before .before .before .before .args .h) = omega (arith, c .before .loop .inv .1) in (c .before .loop .inv .3 .kept, rw e at (c .before .loop .inv .3 .rows))
+returns c = let e : c .before .loop .k ≡ xDimension (c .before .before .before .before .before .before .before .before .args .h) * zDimension (c .before .before .before .before .before .before .before .before .args .h) = omega (arith, c .before .loop .inv .1) in pieces-all _ _ _ _ _ _ (c .before .loop .inv .3) e
 
 pub put-points-spec : {M : Type 1} → statement M
 put-points-spec =

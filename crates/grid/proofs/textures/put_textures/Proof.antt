@@ -2,9 +2,9 @@ use Rattle.grid.specs.Textures.{gridTexture}
 use Rattle.texture.proofs.Filled.{textured-none, textured-more}
 use Rattle.texture.specs.Textured.{Textured}
 use Rattle.tables.proofs.Keep.{kept-at}
-use lib.ListN.{getD}
+use lib.ListN.{length, getD}
 use mathlib.Core.Path.{_≡_, _∙_, ap}
-use Prim.Native.Nat.{ℕ, _+_, _-_, _≤_}
+use Prim.Native.Nat.{ℕ, _+_, _*_, _-_, _≤_}
 use native.Mathlib.Omega.{arith}
 use borrow.Author.Needs.{needs}
 use Rattle.grid.proofs.textures.put_textures.Statement.{statement}
@@ -54,7 +54,8 @@ loop-again c =
     let T = c .before .before .before .before .before .before .before .before .loop .inv .1 in
     let q = c .before .before .before .before .before .wide .ensures ∙ kept-at (T .kept) (c .before .before .before .before .before .before .before .before .before .before .before .args .corners + c .before .before .before .before .before .before .before .before .loop .c) (omega (arith, c .before .before .before .before .before .before .before .before .before .before .before .pre .1 .below, c .before .before .before .before .before .before .before .loop-test .taken)) in
     let v = c .before .before .before .texture-of .ensures ∙ ap (gridTexture (c .before .before .before .before .before .before .before .before .before .before .before .args .block .now) (c .before .before .before .before .before .before .before .before .before .before .before .args .h) (c .before .before .before .before .before .before .before .before .before .before .before .args .s)) q in
-    (omega (arith, c .before .before .before .before .before .before .before .loop-test .taken), textured-more _ _ _ _ _ _ _ T v (c .before .before .put2 .ensures .0) (c .before .before .put2 .ensures .1))
+    let room : c .before .before .before .before .before .before .before .before .before .before .before .args .textures + 2 * c .before .before .before .before .before .before .before .before .loop .c + 2 ≤ length (c .before .before .before .before .before .before .before .before .before .before .before .args .work .now) = omega (arith, c .before .before .before .before .before .before .before .before .before .before .before .pre .1 .room, c .before .before .before .before .before .before .before .loop-test .taken) in
+    (omega (arith, c .before .before .before .before .before .before .before .loop-test .taken), textured-more _ _ _ _ _ _ _ T v room (c .before .before .put2 .ensures))
 
 same-length : tie.Need-same-length Inv-loop μ-loop
 same-length c = c .before .loop .inv .1 .kept .len

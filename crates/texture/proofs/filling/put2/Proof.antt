@@ -1,4 +1,4 @@
-use Rattle.texture.proofs.Filled.{stored}
+use Rattle.tables.proofs.Splices.{put-two}
 use lib.ListN.{length-set}
 use native.Mathlib.Omega.{arith}
 use borrow.Author.Needs.{needs}
@@ -24,7 +24,7 @@ same-length : tie.Need-same-length
 same-length c = search needs
 
 returns : tie.Need-returns
-returns c = stored _ _ _ (c .pre)
+returns c = put-two _ _ _ _ (c .pre)
 
 pub put2-spec : {M : Type 1} → statement M
 put2-spec =

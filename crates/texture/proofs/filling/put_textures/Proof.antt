@@ -1,7 +1,8 @@
 use Rattle.texture.proofs.Filled.{textured-none, textured-more, point-within, texture-read}
 use Rattle.texture.specs.Textured.{Textured, setTexture}
 use mathlib.Core.Path.{_≡_}
-use Prim.Native.Nat.{_≤_, _-_}
+use Prim.Native.Nat.{_+_, _*_, _≤_, _-_}
+use lib.ListN.{length}
 use native.Mathlib.Omega.{arith}
 use borrow.Author.Needs.{needs}
 use Rattle.texture.proofs.filling.put_textures.Statement.{statement}
@@ -62,7 +63,8 @@ loop-again : tie.Need-loop-again Inv-loop μ-loop
 loop-again c =
     let T = c .before .before .before .before .before .before .before .before .before .before .before .loop .inv .1 in
     let r = texture-read _ _ _ _ _ _ _ _ _ _ (c .before .before .before .before .before .before .before .before .before .before .before .before .before .before .before .pre) (T .kept) (c .before .before .before .before .before .before .before .before .before .before .loop-test .taken) _ _ _ _ _ _ _ (c .before .before .before .before .before .before .before .before .wide .ensures) (c .before .before .before .before .before .before .wide2 .ensures) (c .before .before .before .before .texture-at .ensures) in
-    (omega (arith, c .before .before .before .before .before .before .before .before .before .before .loop-test .taken), textured-more _ _ _ _ _ _ _ T r (c .before .before .put2 .ensures .0) (c .before .before .put2 .ensures .1))
+    let room : c .before .before .before .before .before .before .before .before .before .before .before .before .before .before .before .args .textures + 2 * c .before .before .before .before .before .before .before .before .before .before .before .loop .c + 2 ≤ length (c .before .before .before .before .before .before .before .before .before .before .before .before .before .before .before .args .work .now) = omega (arith, c .before .before .before .before .before .before .before .before .before .before .before .before .before .before .before .pre .room, c .before .before .before .before .before .before .before .before .before .before .loop-test .taken) in
+    (omega (arith, c .before .before .before .before .before .before .before .before .before .before .loop-test .taken), textured-more _ _ _ _ _ _ _ T r room (c .before .before .put2 .ensures))
 
 same-length : tie.Need-same-length Inv-loop μ-loop
 same-length c = c .before .loop .inv .1 .kept .len
