@@ -137,7 +137,7 @@ module _ {L : Lent} {a : Attributes} {widths : Widths} {t : CornerTables} {z : S
       record {
         ready = R;
         upto = omega arith;
-        made = made-start widths (chainsOf t) _ _ z x₀ (length w) w₁ e (F .kept .len) (F .all .at);
+        made = made-start widths (chainsOf t) _ _ z x₀ (length w) w₁ e (F .kept .len) (F .words .at);
         same = same-front (order Q) (F .kept);
         named = table-none;
       }

@@ -1,6 +1,6 @@
 -- FORMAT 2.4: the lists of an extrusion's block are as long as its counts say, and its points are the rows made from them.
 use mathlib.Core.Path.{_≡_, refl, sym, ap, _∙_}
-use mathlib.Core.Bool.{Bool, true, false, _||_, true≢false}
+use mathlib.Core.Bool.{false}
 use mathlib.Core.List.{List}
 use Prim.Native.Nat.{ℕ, _+_, _*_, _≤_, _<_}
 use native.Mathlib.Nat.{mul-assoc, mul-comm}

@@ -4,8 +4,8 @@ ghost use Prim.Native.Nat.{_+_, _≤_};
 ghost use lib.ListN.{length};
 ghost use Rattle.mesh.specs.Extrusion.{spineCount, sectionCount};
 ghost use Rattle.tables.specs.Layout.{most};
-ghost use Rattle.tables.specs.Kept.{Kept, TableOf};
-ghost use Rattle.tables.specs.Listed.{Listed};
+ghost use Rattle.tables.specs.Kept.{Written};
+ghost use Rattle.tables.specs.Listed.{Beside, Listed};
 ghost use Rattle.extrusion.specs.Listings.{extrusionListings, sizeAt, startAt, Planned};
 use crate::faces::put_uses;
 use crate::reading::section_count;
@@ -26,7 +26,7 @@ fn size_at(sides: usize, cap: usize, j: usize) -> usize
 // How many corners stand before each face, and before the end.
 fn put_starts(work: &mut [u32], k: usize, sides: usize, faces: usize, cap: usize)
     requires { ⌜ (faces ≤ most) × (startAt sides cap faces ≤ most) × (cap ≤ most) × (k + (faces + 1) ≤ length (now work)) ⌝ }
-    ensures { λ _. ⌜ Kept k (now (work .entry)) (now (work .exit)) × TableOf (now (work .exit)) k (faces + 1) (startAt sides cap) ⌝ }
+    ensures { λ _. ⌜ Written k (faces + 1) (startAt sides cap) (now (work .entry)) (now (work .exit)) ⌝ }
 {
     let mut c = 0;
     let mut j = 0;
@@ -40,7 +40,7 @@ fn put_starts(work: &mut [u32], k: usize, sides: usize, faces: usize, cap: usize
 // 0, 1, ..
 fn put_numbers(work: &mut [u32], k: usize, faces: usize)
     requires { ⌜ (faces ≤ most) × (k + faces ≤ length (now work)) ⌝ }
-    ensures { λ _. ⌜ Kept k (now (work .entry)) (now (work .exit)) × TableOf (now (work .exit)) k faces (λ j. j) ⌝ }
+    ensures { λ _. ⌜ Written k faces (λ j. j) (now (work .entry)) (now (work .exit)) ⌝ }
 {
     let mut j = 0;
     while j < faces {
@@ -52,7 +52,7 @@ fn put_numbers(work: &mut [u32], k: usize, faces: usize)
 // The faces of the extrusion, whose caps have `cap` corners: a corner's place is its point, and a face's number its place among all faces.
 pub fn list_faces(h: Header, cap: usize, work: &mut [u32], t: Plan)
     requires { ⌜ Planned h cap (length (now work)) t ⌝ }
-    ensures { λ _. ⌜ Kept (t .corners) (now (work .entry)) (now (work .exit))
+    ensures { λ _. ⌜ Beside t (now (work .entry)) (now (work .exit))
         × Listed (now (work .exit)) t (extrusionListings (spineCount h) (sectionCount h) cap (h .«begin_cap») (h .«end_cap»)) ⌝ }
 {
     let n = spine_count(h);

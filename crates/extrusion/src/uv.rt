@@ -1,6 +1,6 @@
 // FORMAT 8.4, extrusion (t_out, cap_st), and 7.3: the texture words of each corner.
 ghost use mathlib.Core.Path.{_≡_};
-ghost use Prim.Native.Nat.{_+_, _*_, _≤_, _<_};
+ghost use Prim.Native.Nat.{_+_, _*_, _<_};
 ghost use lib.ListN.{length, getD};
 ghost use lib.Ieee.{nan, binary32, toBits};
 ghost use Rattle.block.specs.Settings.{settingsOf};

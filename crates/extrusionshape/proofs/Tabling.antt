@@ -15,9 +15,10 @@ use Rattle.mesh.specs.Extrusion.{spineCount, sectionCount, extrusionOf, extrusi
 use Rattle.tables.specs.declared.layout.Plan.{Plan}
 use Rattle.tables.specs.Kept.{seg, spliced, Kept}
 use Rattle.tables.specs.Soups.{pointIn, ownerIn, pointsIn, soupIn, frameIn}
-use Rattle.tables.specs.Listed.{Listed}
+use Rattle.tables.specs.Listed.{Beside, Listed}
 use Rattle.tables.proofs.Keep.{kept-all, kept-seg}
 use Rattle.tables.proofs.Splices.{put-gives}
+use Rattle.tables.proofs.Besides.{beside-kept}
 use Rattle.tables.proofs.Listings.{listed-kept}
 use Rattle.normals.specs.Written.{spread, normalsOf}
 use Rattle.corners.specs.Laid.{tablesAt, tablesOf}
@@ -55,11 +56,12 @@ points-put {bs} {h} {cap} {t} {w} D P p =
 module _ {bs : List ℕ} {h : Header} {s : Settings} {t : Plan} where
   -- the parameters, then the points, then the faces, then what is made ready
   pub tabled : {cap : ℕ} {w w₁ w₂ w₃ : List ℕ} {d d₁ e : List Float} → Planned h cap (length w) t → length d₁ ≡ length d → ArcsAt bs h d₁ (3 * t .count) → Given bs h → w₁ ≡ spliced w (t .points) (extrusionPoints (extrusionOf bs))
-      → Kept (t .corners) w₁ w₂ → Listed w₂ t (extrusionListings (spineCount h) (sectionCount h) cap (h .«begin_cap») (h .«end_cap»))
+      → Beside t w₁ w₂ → Listed w₂ t (extrusionListings (spineCount h) (sectionCount h) cap (h .«begin_cap») (h .«end_cap»))
       → Prepared false (h .ccw) (s .crease) t w₂ w₃ d₁ e → length e ≡ length d₁ → 3 * t .count + (sectionCount h + spineCount h) ≤ length d → Tabled bs h s cap t w w₃ d e
   unfolding pointsIn
-  tabled {cap} {w} {w₁} {w₂} {w₃} {d} {d₁} {e} P l₁ a D p L E Q l₂ r =
+  tabled {cap} {w} {w₁} {w₂} {w₃} {d} {d₁} {e} P l₁ a D p B E Q l₂ r =
       let R = P .room in
+      let L = beside-kept R B in
       let G = points-put D P p in
       let l = G .0 .len in
       let n : 3 * t .spots ≡ 3 * (spineCount h * sectionCount h) = ap (λ (k : ℕ). 3 * k) (P .spots) in

@@ -18,10 +18,11 @@ use Rattle.block.proofs.RunLaws.{runs-turn, sum-turn, sum-ended, kept-below, fa
 use Rattle.mesh.specs.Lists.{mapN, joinN}
 use Rattle.mesh.proofs.Lists.{length-mapN, getD-mapN}
 use Rattle.tables.specs.declared.layout.Plan.{Plan}
-use Rattle.tables.specs.Kept.{Kept}
 use Rattle.tables.specs.Soups.{pointIn, startIn, numberIn, placeIn}
-use Rattle.tables.specs.Listed.{Use, noUse, noListing, Listing, usesAt}
-use Rattle.tables.proofs.Keep.{kept-all, kept-set, set-hit}
+use Rattle.tables.specs.Listed.{Use, noUse, noListing, Listing, usesAt, Beside}
+use Rattle.tables.proofs.Keep.{set-hit}
+use Rattle.tables.proofs.Written.{written-one}
+use Rattle.tables.proofs.Besides.{beside-all, beside-starts}
 use Rattle.faceset.specs.declared.listing.Progress.{Progress}
 use Rattle.faceset.specs.Listings.{useOf, listingOf, listed, listingsOf}
 use Rattle.faceset.specs.Passing.{Fits, FaceAdded, Planned, ListedTo, Underway, Turned, FacesListed}
@@ -143,7 +144,7 @@ module _ {points : ℕ} {bs w : List ℕ} {t : Plan} {p : Progress} (L : Planned
       let b = B .within in
       let u = U .runs in
       record {
-        kept = kept-all;
+        beside = beside-all;
         underway = record {
           start = omega arith;
           runs = omega arith;
@@ -186,7 +187,7 @@ module _ {points : ℕ} {bs w : List ℕ} {t : Plan} {p : Progress} (L : Planned
         let k = left-kept in
         let d = left-cons in
         record {
-          kept = A .kept;
+          beside = A .beside;
           underway = record {
             start = omega arith;
             runs = omega arith;
@@ -201,11 +202,14 @@ module _ {points : ℕ} {bs w : List ℕ} {t : Plan} {p : Progress} (L : Planned
 -- ---- all runs
 
 module _ {points : ℕ} {bs : List ℕ} (w : List ℕ) {t : Plan} (L : Planned points bs (length w) t) where
-  pub first-kept : Kept (t .corners) w (set w (t .starts) 0)
-  first-kept = let R = L .room in kept-set (t .starts) 0 kept-all (omega arith)
+  pub first-beside : Beside t w (set w (t .starts) 0)
+  first-beside =
+      let R = L .room in
+      let W = written-one w (t .starts) 0 (omega arith) in
+      beside-starts 1 (W .kept) (W .above) (omega arith) (omega arith)
 
-  pub planned-kept : {a : ℕ} {w′ : List ℕ} → Kept a w w′ → Planned points bs (length w′) t
-  planned-kept K = rw (K .len) L
+  pub planned-beside : {w′ : List ℕ} → Beside t w w′ → Planned points bs (length w′) t
+  planned-beside B = rw (B .len) L
 
   first-start : startIn (set w (t .starts) 0) t 0 ≡ 0
   unfolding startIn
@@ -230,15 +234,15 @@ module _ {points : ℕ} {bs : List ℕ} (w : List ℕ) {t : Plan} (L : Planned p
     };
   }
 
-  pub pass-end : {w′ : List ℕ} {p : Progress} → Kept (t .corners) w w′ → Underway points bs w′ t p → length bs / 4 ≤ p .start → FacesListed points bs t w w′
+  pub pass-end : {w′ : List ℕ} {p : Progress} → Beside t w w′ → Underway points bs w′ t p → length bs / 4 ≤ p .start → FacesListed points bs t w w′
   unfolding listingsOf
-  pass-end {w′} {p} K U h =
+  pass-end {w′} {p} B U h =
       let g = sum-ended (faces points) bs (p .start) (p .faces) (t .faces) h (U .faces) in
       let c = sum-ended (corners points) bs (p .start) (p .corner .0) (t .count) h (U .corners) in
       let M : ListedTo w′ t (listingsOf points (entries bs)) (t .faces) (t .count) = rw (g, c) at (U .made) in
       record {
         listed = record {
-          room = rw (K .len) (L .room);
+          room = rw (B .len) (L .room);
           gathers = L .gathers;
           faces = length-listings points 0 (runs (entries bs)) ∙ sym (L .faces);
           first = M .first;
@@ -249,5 +253,5 @@ module _ {points : ℕ} {bs : List ℕ} (w : List ℕ) {t : Plan} (L : Planned p
           points = M .points;
           places = M .places;
         };
-        kept = K;
+        beside = B;
       }

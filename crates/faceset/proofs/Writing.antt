@@ -1,47 +1,23 @@
--- Words written to a part of the tables: loops that write one word a turn, and what other parts keep.
-use mathlib.Core.Path.{_≡_, refl, sym, ap, _∙_}
+-- Words written to a part of the tables, and what other parts keep.
+use mathlib.Core.Path.{_≡_, sym, ap, _∙_}
+use mathlib.Core.Logic.{inl, inr}
 use mathlib.Core.List.{List}
-use Prim.Native.Nat.{ℕ, suc, _+_, _-_, _/_, _≤_, _<_}
+use Prim.Native.Nat.{ℕ, suc, _+_, _/_, _≤_, _<_}
 use native.Mathlib.Nat.{add-zero}
 use native.Mathlib.Numerals.{add-one}
 use native.Mathlib.Omega.{arith}
-use lib.ListN.{length, getD, set, take, drop}
-use lib.Seq.{length-take-le, getD-take, getD-drop, ext-getD, drop-set-lt}
+use lib.ListN.{length, getD, set, take}
+use lib.Seq.{length-take-le, getD-take, ext-getD}
 use Rattle.bits.specs.Bits.{entries}
 use Rattle.bits.proofs.Entries.{entries-length}
 use Rattle.tables.specs.declared.layout.Plan.{Plan}
-use Rattle.tables.specs.Kept.{seg, Kept, TableOf}
-use Rattle.tables.proofs.Keep.{kept-all, kept-set, kept-at, kept-less, kept-then, length-seg, seg-at, set-hit, table-none, table-more}
+use Rattle.tables.specs.Kept.{seg, Written}
+use Rattle.tables.proofs.Keep.{length-seg, seg-at}
+use Rattle.tables.proofs.Written.{written-one}
+use Rattle.tables.proofs.Besides.{out-same, beside-then, beside-corners, beside-starts, beside-places, beside-numbers}
 use Rattle.faceset.specs.declared.listing.Progress.{Progress}
-use Rattle.faceset.specs.Written.{Written, Copied, Alike, More}
+use Rattle.faceset.specs.Written.{Copied, Alike, More}
 use Rattle.faceset.specs.Passing.{Fits, FaceAdded}
-
--- ---- a loop: the first i of n words are written
-
-pub record Writing (a n : ℕ) (f : ℕ → ℕ) (w w′ : List ℕ) (i : ℕ) : Type 0 where
-  pub so-far : i ≤ n
-  pub kept : Kept a w w′
-  pub words : TableOf w′ a i f
-  pub above : drop (a + n) w′ ≡ drop (a + n) w
-
-module _ {a n : ℕ} {f : ℕ → ℕ} {w : List ℕ} where
-  pub writing-none : Writing a n f w w 0
-  writing-none = record { so-far = omega arith; kept = kept-all; words = table-none; above = refl }
-
-  pub writing-more : {w′ : List ℕ} {i : ℕ} (v : ℕ) → a + n ≤ length w → Writing a n f w w′ i → i < n → v ≡ f i → Writing a n f w (set w′ (a + i) v) (i + 1)
-  writing-more {w′} {i} v l W h e =
-      let k = W .kept .len in
-      record {
-        so-far = omega arith;
-        kept = kept-set (a + i) v (W .kept) (omega arith);
-        words = table-more w′ a i v (omega arith) e (W .words);
-        above = drop-set-lt (a + n) w′ (a + i) v (omega arith) ∙ W .above;
-      }
-
-  pub writing-end : {w′ : List ℕ} {i : ℕ} → Writing a n f w w′ i → n ≤ i → Written a n f w w′
-  writing-end {w′} {i} W h =
-      let e : i ≡ n = (let s = W .so-far in omega arith) in
-      record { kept = W .kept; words = rw e at (W .words); above = W .above }
 
 -- ---- words copied are words written
 
@@ -58,27 +34,14 @@ module _ {a n : ℕ} {xs w w′ : List ℕ} where
         above = W .above;
       }
 
-pub written-one : (w : List ℕ) (a v : ℕ) → a < length w → Written a 1 (λ i. v) w (set w a v)
-written-one w a v h = record {
-  kept = kept-set a v kept-all (omega arith);
-  words = record { at = λ j q. set-hit w a v (a + j) h (omega arith) };
-  above = drop-set-lt (a + 1) w a v (omega arith);
-}
-
 -- ---- the tables below and above
 
 module _ {b k : ℕ} {f : ℕ → ℕ} {w w′ : List ℕ} (W : Written b k f w w′) where
   pub below : (a n : ℕ) → a + n ≤ b → Alike w w′ a n
-  below a n h = record { at = λ j q. kept-at (W .kept) (a + j) (omega arith) }
+  below a n h = record { at = λ j q. out-same k (W .kept) (W .above) (a + j) (inl (omega arith)) }
 
   pub beyond : (a n : ℕ) → b + k ≤ a → Alike w w′ a n
-  beyond a n h = record {
-    at = λ j q.
-        let e : b + k + (a + j - (b + k)) ≡ a + j = omega arith in
-        ap (λ (i : ℕ). getD w′ i 0) (sym e) ∙ sym (getD-drop (b + k) w′ (a + j - (b + k)) 0)
-        ∙ ap (λ (l : List ℕ). getD l (a + j - (b + k)) 0) (W .above)
-        ∙ getD-drop (b + k) w (a + j - (b + k)) 0 ∙ ap (λ (i : ℕ). getD w i 0) e;
-  }
+  beyond a n h = record { at = λ j q. out-same k (W .kept) (W .above) (a + j) (inr (omega arith)) }
 
 -- ---- a table with more words, and what is written elsewhere before and after
 
@@ -125,7 +88,10 @@ module _ (t : Plan) (p : Progress) (r : List ℕ) {u v w : List ℕ} (F : Fits (
       let ln = N .kept .len in
       let S = written-one (set w (t .numbers + p .faces) (p .runs)) (t .starts + suc (p .faces)) (p .corner .0 + n) (omega arith) in
       record {
-        kept = kept-then (kept-then (kept-then (kept-less (W .kept) (omega arith)) (P .kept) (omega arith)) (N .kept) (omega arith)) (S .kept) (omega arith);
+        beside = beside-then (beside-corners n (W .kept) (W .above) (omega arith) (omega arith))
+            (beside-then (beside-places n (P .kept) (P .above) (omega arith) (omega arith))
+            (beside-then (beside-numbers 1 (N .kept) (N .above) (omega arith) (omega arith))
+            (beside-starts 1 (S .kept) (S .above) (omega arith) (omega arith))));
         points = rw l (more-before (more-before (more-before (more-of W) (below P (t .corners) (p .corner .0 + n) (omega arith)))
             (below N (t .corners) (p .corner .0 + n) (omega arith))) (below S (t .corners) (p .corner .0 + n) (omega arith)));
         places = rw l (more-after (beyond W (t .places) (p .corner .0) (omega arith)) (more-before (more-before (more-of P)

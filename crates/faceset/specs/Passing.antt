@@ -7,10 +7,9 @@ use Rattle.bits.specs.Bits.{entries}
 use Rattle.block.specs.Runs.{runs, runsLeft, faces, corners, sumOver}
 use Rattle.mesh.specs.Lists.{joinN}
 use Rattle.tables.specs.declared.layout.Plan.{Plan}
-use Rattle.tables.specs.Kept.{Kept}
 use Rattle.tables.specs.Layout.{most, Room}
 use Rattle.tables.specs.Soups.{pointIn, startIn, numberIn, placeIn}
-use Rattle.tables.specs.Listed.{noUse, noListing, Listing, usesAt, Listed}
+use Rattle.tables.specs.Listed.{noUse, noListing, Listing, usesAt, Beside, Listed}
 use Rattle.faceset.specs.declared.listing.Progress.{Progress}
 use Rattle.faceset.specs.Listings.{listed, listingsOf}
 use Rattle.faceset.specs.Written.{More}
@@ -34,7 +33,7 @@ pub record Fits (len : ℕ) (t : Plan) (p : Progress) (n : ℕ) : Type 0 where
 
 -- one more face, of the entries es: each table has its words more
 pub record FaceAdded (t : Plan) (p : Progress) (es w w′ : List ℕ) : Type 0 where
-  pub kept : Kept (t .corners) w w′
+  pub beside : Beside t w w′
   pub points : More w w′ (t .corners) (p .corner .0) (length es) (λ i. getD es i 0)
   pub places : More w w′ (t .places) (p .corner .0) (length es) (λ i. p .start + i)
   pub numbers : More w w′ (t .numbers) (p .faces) 1 (λ i. p .runs)
@@ -61,11 +60,11 @@ pub record Underway (points : ℕ) (bs w : List ℕ) (t : Plan) (p : Progress) :
 
 -- one run more
 pub record Turned (points : ℕ) (bs w w′ : List ℕ) (t : Plan) (p r : Progress) : Type 0 where
-  pub kept : Kept (t .corners) w w′
+  pub beside : Beside t w w′
   pub underway : Underway points bs w′ t r
   pub later : p .start < r .start
 
 -- all runs
 pub record FacesListed (points : ℕ) (bs : List ℕ) (t : Plan) (w w′ : List ℕ) : Type 0 where
   pub listed : Listed w′ t (listingsOf points (entries bs))
-  pub kept : Kept (t .corners) w w′
+  pub beside : Beside t w w′

@@ -5,12 +5,6 @@ use Prim.Native.Nat.{ℕ, _+_}
 use lib.ListN.{getD, take, drop}
 use Rattle.tables.specs.Kept.{seg, Kept, TableOf}
 
--- w′ is w with the n words from a replaced by f 0, f 1, ..
-pub record Written (a n : ℕ) (f : ℕ → ℕ) (w w′ : List ℕ) : Type 0 where
-  pub kept : Kept a w w′
-  pub words : TableOf w′ a n f
-  pub above : drop (a + n) w′ ≡ drop (a + n) w
-
 -- w′ is w with the n words from a replaced by the first n of xs
 pub record Copied (a n : ℕ) (xs w w′ : List ℕ) : Type 0 where
   pub kept : Kept a w w′

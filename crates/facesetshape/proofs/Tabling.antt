@@ -16,6 +16,7 @@ use Rattle.tables.specs.declared.layout.Plan.{Plan}
 use Rattle.tables.specs.Soups.{pointIn, pointsIn}
 use Rattle.tables.specs.Listed.{Listing, Listed}
 use Rattle.tables.proofs.Keep.{kept-all, kept-seg}
+use Rattle.tables.proofs.Besides.{beside-kept}
 use Rattle.tables.proofs.Stays.{points-kept}
 use Rattle.tables.proofs.Listings.{listed-sound, listed-kept}
 use Rattle.corners.specs.Laid.{tablesAt, tablesOf}
@@ -74,11 +75,12 @@ module _ {bs : List ℕ} {h : Header} {s : Settings} {t : Plan} where
   tabled {list} {coord} {w} {w₁} {w₂} {w₃} a b P p C L Q =
       let R = P .room in
       let l = C .kept .len in
+      let K = beside-kept R (L .beside) in
       record {
-        len = Q .kept .len ∙ L .kept .len ∙ l;
+        len = Q .kept .len ∙ K .len ∙ l;
         listed = w₂;
         faces = subst (λ (x : List ℕ). Listed w₂ t (listingsOf (listedPoints h) (entries x))) b (L .listed);
-        points = kept-seg (L .kept) (t .points) (3 * t .spots) (R .points) (omega arith) ∙ C .words ∙ (λ i. take (3 * P .spots i) (entries (a i))) ∙ p;
+        points = kept-seg K (t .points) (3 * t .spots) (R .points) (omega arith) ∙ C .words ∙ (λ i. take (3 * P .spots i) (entries (a i))) ∙ p;
         prepared = Q;
       }
 

@@ -11,11 +11,12 @@ use Rattle.mesh.specs.Quads.{quad}
 use Rattle.mesh.specs.Grid.{xDimension, zDimension}
 use Rattle.mesh.proofs.Lists.{getD-map-lt}
 use Rattle.tables.specs.declared.layout.Plan.{Plan}
-use Rattle.tables.specs.Kept.{Kept, TableOf}
+use Rattle.tables.specs.Kept.{Kept, TableOf, Written}
 use Rattle.tables.specs.Layout.{most}
 use Rattle.tables.specs.Soups.{pointIn, startIn, numberIn, placeIn}
-use Rattle.tables.specs.Listed.{Use, noUse, Listing, noListing, usesAt, Listed}
+use Rattle.tables.specs.Listed.{Use, noUse, Listing, noListing, usesAt, Beside, Listed}
 use Rattle.tables.proofs.Keep.{kept-then, table-kept}
+use Rattle.tables.proofs.Besides.{beside-then, beside-corners, beside-starts, beside-places, beside-numbers}
 use Rattle.grid.specs.Sides.{Planned}
 use Rattle.grid.specs.Listings.{quadOf, cornerPoint, useOf, gridListing, gridListings}
 use Rattle.grid.proofs.Numbers.{point-below}
@@ -90,21 +91,22 @@ corners-asked h len room t xd a P e l =
 
 -- one table after another
 pub tables-written : (h : Header) (t : Plan) (xd : ℕ) (w₀ w₁ w₂ w₃ w₄ : List ℕ) → Planned h (length w₀) t → xd ≡ xDimension h
-    → Kept (t .corners) w₀ w₁ × TableOf w₁ (t .corners) (t .count) (cornerPoint xd)
-    → Kept (t .starts) w₁ w₂ × TableOf w₂ (t .starts) (t .faces + 1) (λ (j : ℕ). 4 * j)
-    → Kept (t .places) w₂ w₃ × TableOf w₃ (t .places) (t .count) (cornerPoint xd)
-    → Kept (t .numbers) w₃ w₄ × TableOf w₄ (t .numbers) (t .faces) (λ (j : ℕ). 1 * j)
-    → Kept (t .corners) w₀ w₄ × Listed w₄ t (gridListings (xDimension h) (zDimension h))
+    → Written (t .corners) (t .count) (cornerPoint xd) w₀ w₁ → Written (t .starts) (t .faces + 1) (λ (j : ℕ). 4 * j) w₁ w₂
+    → Written (t .places) (t .count) (cornerPoint xd) w₂ w₃ → Written (t .numbers) (t .faces) (λ (j : ℕ). 1 * j) w₃ w₄
+    → Beside t w₀ w₄ × Listed w₄ t (gridListings (xDimension h) (zDimension h))
 tables-written h t xd w₀ w₁ w₂ w₃ w₄ P e A B C D =
     let R = P .room in
-    let s : Kept (t .starts) w₁ w₄ = kept-then (B .0) (kept-then (C .0) (D .0) (omega arith)) (omega arith) in
-    let p : Kept (t .places) w₂ w₄ = kept-then (C .0) (D .0) (omega arith) in
-    let k : Kept (t .corners) w₀ w₄ = kept-then (A .0) s (omega arith) in
+    let s : Kept (t .starts) w₁ w₄ = kept-then (B .kept) (kept-then (C .kept) (D .kept) (omega arith)) (omega arith) in
+    let p : Kept (t .places) w₂ w₄ = kept-then (C .kept) (D .kept) (omega arith) in
     let T : Tabled xd w₄ t = record {
-      corners = table-kept (t .corners) (t .count) s (omega arith) (A .1);
-      starts = table-kept (t .starts) (t .faces + 1) p (omega arith) (B .1);
-      places = table-kept (t .places) (t .count) (D .0) (omega arith) (C .1);
-      numbers = D .1;
+      corners = table-kept (t .corners) (t .count) s (omega arith) (A .words);
+      starts = table-kept (t .starts) (t .faces + 1) p (omega arith) (B .words);
+      places = table-kept (t .places) (t .count) (D .kept) (omega arith) (C .words);
+      numbers = D .words;
     } in
-    let n : Planned h (length w₄) t = rw (k .len) P in
-    (k, tables-held h w₄ t n (rw e at T))
+    let b : Beside t w₀ w₄ = beside-then (beside-corners (t .count) (A .kept) (A .above) (omega arith) (omega arith))
+    (beside-then (beside-starts (t .faces + 1) (B .kept) (B .above) (omega arith) (omega arith))
+    (beside-then (beside-places (t .count) (C .kept) (C .above) (omega arith) (omega arith))
+    (beside-numbers (t .faces) (D .kept) (D .above) (omega arith) (omega arith)))) in
+    let n : Planned h (length w₄) t = rw (b .len) P in
+    (b, tables-held h w₄ t n (rw e at T))

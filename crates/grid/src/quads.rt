@@ -3,9 +3,9 @@ ghost use mathlib.Core.Path.{_≡_};
 ghost use Prim.Native.Nat.{ℕ, _+_, _-_, _*_, _≤_, _<_};
 ghost use lib.ListN.{length};
 ghost use Rattle.mesh.specs.Grid.{xDimension, zDimension};
-ghost use Rattle.tables.specs.Kept.{Kept, TableOf};
+ghost use Rattle.tables.specs.Kept.{Written};
 ghost use Rattle.tables.specs.Layout.{most};
-ghost use Rattle.tables.specs.Listed.{Listed};
+ghost use Rattle.tables.specs.Listed.{Beside, Listed};
 ghost use Rattle.grid.specs.Sides.{Planned};
 ghost use Rattle.grid.specs.Listings.{cornerPoint, gridListings};
 use block::CornerNumber;
@@ -47,7 +47,7 @@ fn corner_point(xd: usize, c: CornerNumber) -> PointNumber
 // The points of n corners, from place a on.
 fn put_corners(work: &mut [u32], a: usize, n: usize, xd: usize)
     requires { ⌜ (2 ≤ xd) × (xd ≤ most) × (n ≤ most) × ((c : ℕ) → c < n → cornerPoint xd c ≤ most) × (a + n ≤ length (now work)) ⌝ }
-    ensures { λ _. ⌜ Kept a (now (work .entry)) (now (work .exit)) × TableOf (now (work .exit)) a n (cornerPoint xd) ⌝ }
+    ensures { λ _. ⌜ Written a n (cornerPoint xd) (now (work .entry)) (now (work .exit)) ⌝ }
 {
     let mut c = 0;
     while c < n {
@@ -60,7 +60,7 @@ fn put_corners(work: &mut [u32], a: usize, n: usize, xd: usize)
 // 0, by, 2 * by, ..: n of them, from place a on.
 fn put_multiples(work: &mut [u32], a: usize, n: usize, by: usize)
     requires { ⌜ (by * n ≤ most + by) × (a + n ≤ length (now work)) ⌝ }
-    ensures { λ _. ⌜ Kept a (now (work .entry)) (now (work .exit)) × TableOf (now (work .exit)) a n (λ (j : ℕ). by * j) ⌝ }
+    ensures { λ _. ⌜ Written a n (λ (j : ℕ). by * j) (now (work .entry)) (now (work .exit)) ⌝ }
 {
     let mut j = 0;
     while j < n {
@@ -72,7 +72,7 @@ fn put_multiples(work: &mut [u32], a: usize, n: usize, by: usize)
 // Quad q has number q and the corners from 4 * q on; a corner's place is its point.
 pub fn list_faces(h: Header, work: &mut [u32], t: Plan)
     requires { ⌜ Planned h (length (now work)) t ⌝ }
-    ensures { λ _. ⌜ Kept (t .corners) (now (work .entry)) (now (work .exit)) × Listed (now (work .exit)) t (gridListings (xDimension h) (zDimension h)) ⌝ }
+    ensures { λ _. ⌜ Beside t (now (work .entry)) (now (work .exit)) × Listed (now (work .exit)) t (gridListings (xDimension h) (zDimension h)) ⌝ }
 {
     let counts = h.counts;
     let xd = wide(counts[0]);

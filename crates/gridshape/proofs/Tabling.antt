@@ -14,9 +14,10 @@ use Rattle.tables.specs.declared.layout.Plan.{Plan}
 use Rattle.mesh.proofs.Sizes.{grid-words}
 use Rattle.tables.specs.Kept.{seg, spliced, Kept}
 use Rattle.tables.specs.Soups.{pointIn, pointsIn}
-use Rattle.tables.specs.Listed.{Listed}
+use Rattle.tables.specs.Listed.{Beside, Listed}
 use Rattle.tables.proofs.Keep.{kept-all, kept-seg}
 use Rattle.tables.proofs.Splices.{put-gives}
+use Rattle.tables.proofs.Besides.{beside-kept}
 use Rattle.tables.proofs.Listings.{listed-kept}
 use Rattle.corners.specs.Laid.{tablesAt, tablesOf}
 use Rattle.corners.specs.Corner.{textureAt}
@@ -40,10 +41,11 @@ points-put bs h s {t} {w} P p =
 module _ {bs : List ℕ} {h : Header} {s : Settings} {t : Plan} where
   -- the points, then the quads, then what is made ready
   pub tabled : {w w₁ w₂ w₃ : List ℕ} {d e : List Float} → Planned h (length w) t → w₁ ≡ spliced w (t .points) (gridPoints h s (entries (listBytes bs h 3)))
-      → Kept (t .corners) w₁ w₂ → Listed w₂ t (gridListings (xDimension h) (zDimension h)) → Prepared (h .normals) (h .ccw) (s .crease) t w₂ w₃ d e → Tabled bs h s t w w₃ d e
+      → Beside t w₁ w₂ → Listed w₂ t (gridListings (xDimension h) (zDimension h)) → Prepared (h .normals) (h .ccw) (s .crease) t w₂ w₃ d e → Tabled bs h s t w w₃ d e
   unfolding pointsIn
-  tabled {w} {w₁} {w₂} {w₃} P p L E Q =
+  tabled {w} {w₁} {w₂} {w₃} P p B E Q =
       let R = P .room in
+      let L = beside-kept R B in
       let G = points-put bs h s P p in
       let l = G .0 .len in
       let n : 3 * t .spots ≡ 3 * (xDimension h * zDimension h) = ap (λ (k : ℕ). 3 * k) (P .spots) in

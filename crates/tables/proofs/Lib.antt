@@ -3,6 +3,8 @@ mod Clear
 pub mod Keep
 pub mod Splices
 pub mod Pieces
+pub mod Written
+pub mod Besides
 pub mod Tabs
 pub mod Room
 pub mod Stays

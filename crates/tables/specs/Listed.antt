@@ -1,7 +1,8 @@
 -- FORMAT 6.2, 8: the kept faces as they are listed: each face's number and its corners' points and places; and what it means that the tables hold them.
 use mathlib.Core.Path.{_≡_}
+use mathlib.Core.Logic.{_⊎_}
 use mathlib.Core.List.{List, [], map}
-use Prim.Native.Nat.{ℕ, suc, _+_, _<_}
+use Prim.Native.Nat.{ℕ, suc, _+_, _≤_, _<_}
 use lib.ListN.{length, getD}
 use Rattle.mesh.specs.Soup.{Corner, Face}
 use Rattle.tables.specs.declared.layout.Plan.{Plan}
@@ -32,6 +33,15 @@ facesWith corner ls = map (λ (l : Listing). map (corner (l .number)) (l .uses))
 -- the uses of kept face j
 abbrev pub usesAt : List Listing → ℕ → List Use
 usesAt ls j = getD ls j noListing .uses
+
+-- the place i is not among the n from a
+abbrev pub Out : ℕ → ℕ → ℕ → Type 0
+Out a n i = (i < a) ⊎ (a + n ≤ i)
+
+-- FORMAT 4, 8: w′ has the words of w outside the tables that list faces: of the corners' points, the first corners, the places and the faces' numbers
+pub record Beside (t : Plan) (w w′ : List ℕ) : Type 0 where
+  pub len : length w′ ≡ length w
+  pub same : (i : ℕ) → Out (t .corners) (t .count) i → Out (t .starts) (t .faces + 1) i → Out (t .places) (t .count) i → Out (t .numbers) (t .faces) i → getD w′ i 0 ≡ getD w i 0
 
 -- the tables hold the kept faces ls; corners are gathered by their points
 pub record Listed (w : List ℕ) (t : Plan) (ls : List Listing) : Type 0 where

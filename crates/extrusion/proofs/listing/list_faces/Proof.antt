@@ -36,7 +36,7 @@ same-length : tie.Need-same-length
 same-length c = search needs
 
 returns : tie.Need-returns
-returns c = faces-put (c .before .before .before .before .before .before .before .before .before .before .before .before .before .before .before .before .before .before .before .pre) _ _ (c .before .before .before .before .before .before .before .before .before .before .before .before .before .before .before .before .before .spine-count .ensures) (c .before .before .before .before .before .before .before .before .before .before .before .before .before .before .before .before .section-count .ensures) _ _ _ _ _ refl (c .before .before .before .before .before .before .before .before .before .before .before .before .before .before .put-uses .ensures) (c .before .before .before .before .before .before .before .before .before .before .put-starts .ensures .0) (c .before .before .before .before .before .before .before .before .before .before .put-starts .ensures .1) (c .before .before .before .before .before .before .put-uses2 .ensures) (c .before .before .put-numbers .ensures .0) (c .before .before .put-numbers .ensures .1)
+returns c = faces-put (c .before .before .before .before .before .before .before .before .before .before .before .before .before .before .before .before .before .before .before .pre) _ _ (c .before .before .before .before .before .before .before .before .before .before .before .before .before .before .before .before .before .spine-count .ensures) (c .before .before .before .before .before .before .before .before .before .before .before .before .before .before .before .before .section-count .ensures) _ _ _ _ _ refl (c .before .before .before .before .before .before .before .before .before .before .before .before .before .before .put-uses .ensures) (c .before .before .before .before .before .before .before .before .before .before .put-starts .ensures) (c .before .before .before .before .before .before .put-uses2 .ensures) (c .before .before .put-numbers .ensures)
 
 pub list-faces-spec : {M : Type 1} → statement M
 list-faces-spec =

@@ -1,8 +1,7 @@
-use Prim.Native.Nat.{_+_, _-_, _≤_}
+use Prim.Native.Nat.{_+_, _-_}
 use Rattle.extrusion.proofs.Counting.{size-most, start-more, start-none, start-rises}
 use Rattle.extrusion.specs.Listings.{startAt}
-use Rattle.tables.proofs.Keep.{kept-all, kept-set, table-more, table-none}
-use Rattle.tables.specs.Kept.{Kept, TableOf}
+use Rattle.tables.proofs.Written.{Writing, writing-none, writing-more, writing-end}
 use borrow.Author.Needs.{needs}
 use mathlib.Core.Path.{_∙_, _≡_}
 use native.Mathlib.Omega.{arith}
@@ -10,19 +9,19 @@ use Rattle.extrusion.proofs.listing.put_starts.Statement.{statement}
 use Rattle.extrusion.proofs.listing.put_starts.Tie as tie
 
 abbrev Inv-loop : tie.InvT-loop
-Inv-loop work₀ k sides faces cap c₀ j₀ work c j = (j ≤ faces + 1) × (c ≡ startAt sides cap j) × Kept k work₀ work × TableOf work k j (startAt sides cap)
+Inv-loop work₀ k sides faces cap c₀ j₀ work c j = (c ≡ startAt sides cap j) × Writing k (faces + 1) (startAt sides cap) work₀ work j
 
 abbrev μ-loop : tie.MeasureT-loop
 μ-loop work₀ k sides faces cap c₀ j₀ work c j = faces + 1 - j
 
 loop-holds : tie.Need-loop-holds Inv-loop μ-loop
-loop-holds c = (omega arith, start-none _ _, kept-all, table-none)
+loop-holds c = (start-none _ _, writing-none)
 
 add-loop : tie.Need-add-loop Inv-loop μ-loop
 add-loop c = search needs
 
 narrow-requires : tie.Need-narrow-requires Inv-loop μ-loop
-narrow-requires c κs = omega (arith, c .before .loop .inv .1, start-rises (c .before .before .before .args .sides) (c .before .before .before .args .cap) (c .before .loop .j) (c .before .before .before .args .faces) (omega arith), c .before .before .before .pre .1)
+narrow-requires c κs = omega (arith, c .before .loop .inv .0, start-rises (c .before .before .before .args .sides) (c .before .before .before .args .cap) (c .before .loop .j) (c .before .before .before .args .faces) (omega arith), c .before .before .before .pre .1)
 
 add-work : tie.Need-add-work Inv-loop μ-loop
 add-work c = search needs
@@ -31,13 +30,13 @@ mul-work : tie.Need-mul-work Inv-loop μ-loop
 mul-work c = search needs
 
 slice-write-work : tie.Need-slice-write-work Inv-loop μ-loop
-slice-write-work c = omega (arith, c .before .before .loop .inv .2 .len)
+slice-write-work c = omega (arith, c .before .before .loop .inv .1 .kept .len)
 
 size-at-requires : tie.Need-size-at-requires Inv-loop μ-loop
 size-at-requires c κs = search needs
 
 add-c : tie.Need-add-c Inv-loop μ-loop
-add-c c = omega (arith, c .before .before .before .loop .inv .1, start-rises (c .before .before .before .before .before .args .sides) (c .before .before .before .before .before .args .cap) (c .before .before .before .loop .j) (c .before .before .before .before .before .args .faces) (omega arith), c .before .before .before .before .before .pre .1, size-most (c .before .before .before .before .before .args .sides) (c .before .before .before .before .before .args .cap) (c .before .before .before .loop .j) (c .before .before .before .before .before .pre .2), c .size-at .ensures)
+add-c c = omega (arith, c .before .before .before .loop .inv .0, start-rises (c .before .before .before .before .before .args .sides) (c .before .before .before .before .before .args .cap) (c .before .before .before .loop .j) (c .before .before .before .before .before .args .faces) (omega arith), c .before .before .before .before .before .pre .1, size-most (c .before .before .before .before .before .args .sides) (c .before .before .before .before .before .args .cap) (c .before .before .before .loop .j) (c .before .before .before .before .before .pre .2), c .size-at .ensures)
 
 add-j : tie.Need-add-j Inv-loop μ-loop
 add-j c = search needs
@@ -47,17 +46,15 @@ loop-less c = search needs
 
 loop-again : tie.Need-loop-again Inv-loop μ-loop
 loop-again c = (
-  omega arith,
-  start-more _ _ _ _ _ (c .before .before .before .loop .inv .1) (c .size-at .ensures),
-  kept-set _ _ (c .before .before .before .loop .inv .2) (omega arith),
-  table-more _ (c .before .before .before .before .before .args .k) (c .before .before .before .loop .j) _ (omega (arith, c .before .before .before .loop .inv .2 .len)) (c .before .narrow .ensures ∙ c .before .before .before .loop .inv .1) (c .before .before .before .loop .inv .3),
+  start-more _ _ _ _ _ (c .before .before .before .loop .inv .0) (c .size-at .ensures),
+  writing-more _ (c .before .before .before .before .before .pre .3) (c .before .before .before .loop .inv .1) (c .before .before .loop-test .taken) (c .before .narrow .ensures ∙ c .before .before .before .loop .inv .0),
 )
 
 same-length : tie.Need-same-length Inv-loop μ-loop
-same-length c = c .before .loop .inv .2 .len
+same-length c = c .before .loop .inv .1 .kept .len
 
 returns : tie.Need-returns Inv-loop μ-loop
-returns c = let e : c .before .loop .j ≡ c .before .before .before .args .faces + 1 = omega arith in (c .before .loop .inv .2, rw e at (c .before .loop .inv .3))
+returns c = writing-end (c .before .loop .inv .1) (c .loop-test .left)
 
 pub put-starts-spec : {M : Type 1} → statement M
 put-starts-spec =

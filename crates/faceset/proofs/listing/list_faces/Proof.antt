@@ -1,16 +1,16 @@
 use native.Mathlib.Omega.{arith}
 use Prim.Native.Nat.{_-_, _/_}
 use lib.ListN.{length}
-use Rattle.tables.specs.Kept.{Kept}
-use Rattle.tables.proofs.Keep.{kept-all, kept-then}
+use Rattle.tables.specs.Listed.{Beside}
+use Rattle.tables.proofs.Besides.{beside-all, beside-then}
 use Rattle.faceset.specs.Passing.{Planned, Underway}
-use Rattle.faceset.proofs.Turns.{first-kept, planned-kept, pass-start, pass-end}
+use Rattle.faceset.proofs.Turns.{first-beside, planned-beside, pass-start, pass-end}
 use borrow.Author.Needs.{needs}
 use Rattle.faceset.proofs.listing.list_faces.Statement.{statement}
 use Rattle.faceset.proofs.listing.list_faces.Tie as tie
 
 abbrev Inv-loop : tie.InvT-loop
-Inv-loop coord points work₀ t first p₀ work p = Planned points coord (length work) t × Kept (t .corners) work₀ work × Underway points coord work t p
+Inv-loop coord points work₀ t first p₀ work p = Planned points coord (length work) t × Beside t work₀ work × Underway points coord work t p
 
 abbrev μ-loop : tie.MeasureT-loop
 μ-loop coord points work₀ t first p₀ work p = length coord / 4 - p .start
@@ -22,7 +22,7 @@ slice-write-work : tie.Need-slice-write-work Inv-loop μ-loop
 slice-write-work c = search needs
 
 loop-holds : tie.Need-loop-holds Inv-loop μ-loop
-loop-holds c = (planned-kept _ (c .before .before .pre) (first-kept (c .before .before .args .work .now) (c .before .before .pre)), kept-all, pass-start (c .before .before .args .work .now) (c .before .before .pre))
+loop-holds c = (planned-beside _ (c .before .before .pre) (first-beside (c .before .before .args .work .now) (c .before .before .pre)), beside-all, pass-start (c .before .before .args .work .now) (c .before .before .pre))
 
 pass-run-requires : tie.Need-pass-run-requires Inv-loop μ-loop
 pass-run-requires c κs = (c .before .before .before .loop .inv .0, c .before .before .before .loop .inv .2, c .before .if1 .taken)
@@ -31,13 +31,13 @@ loop-less : tie.Need-loop-less Inv-loop μ-loop
 loop-less c = omega (arith, c .before .before .pass-run .ensures .later, c .before .before .before .before .if1 .taken)
 
 loop-again : tie.Need-loop-again Inv-loop μ-loop
-loop-again c = let E = c .before .before .pass-run .ensures in (planned-kept _ (c .before .before .before .before .before .before .loop .inv .0) (E .kept), kept-then (c .before .before .before .before .before .before .loop .inv .1) (E .kept) (omega arith), E .underway)
+loop-again c = let E = c .before .before .pass-run .ensures in (planned-beside _ (c .before .before .before .before .before .before .loop .inv .0) (E .beside), beside-then (c .before .before .before .before .before .before .loop .inv .1) (E .beside), E .underway)
 
 same-length : tie.Need-same-length Inv-loop μ-loop
-same-length c = let k = first-kept (c .before .before .before .before .before .args .work .now) (c .before .before .before .before .before .pre) in omega (arith, k .len, c .before .before .loop .inv .1 .len)
+same-length c = let k = first-beside (c .before .before .before .before .before .args .work .now) (c .before .before .before .before .before .pre) in omega (arith, k .len, c .before .before .loop .inv .1 .len)
 
 returns : tie.Need-returns Inv-loop μ-loop
-returns c = pass-end (c .before .before .before .before .before .args .work .now) (c .before .before .before .before .before .pre) (kept-then (first-kept (c .before .before .before .before .before .args .work .now) (c .before .before .before .before .before .pre)) (c .before .before .loop .inv .1) (omega arith)) (c .before .before .loop .inv .2) (c .if1 .left)
+returns c = pass-end (c .before .before .before .before .before .args .work .now) (c .before .before .before .before .before .pre) (beside-then (first-beside (c .before .before .before .before .before .args .work .now) (c .before .before .before .before .before .pre)) (c .before .before .loop .inv .1)) (c .before .before .loop .inv .2) (c .if1 .left)
 
 pub list-faces-spec : {M : Type 1} → statement M
 list-faces-spec =

@@ -3,7 +3,8 @@ use Prim.Native.Nat.{_-_}
 use lib.ListN.{getD}
 use Rattle.bits.specs.Bits.{entries}
 use Rattle.bits.proofs.Entries.{entries-length}
-use Rattle.faceset.proofs.Writing.{Writing, writing-none, writing-more, writing-end, copied-of}
+use Rattle.tables.proofs.Written.{Writing, writing-none, writing-more, writing-end}
+use Rattle.faceset.proofs.Writing.{copied-of}
 use borrow.Author.Needs.{needs}
 use Rattle.faceset.proofs.points.put_points.Statement.{statement}
 use Rattle.faceset.proofs.points.put_points.Tie as tie

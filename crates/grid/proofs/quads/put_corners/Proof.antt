@@ -1,22 +1,20 @@
 use Rattle.grid.specs.Listings.{cornerPoint}
-use Rattle.tables.proofs.Keep.{kept-all, kept-set, table-none, table-more}
-use Rattle.tables.specs.Kept.{Kept, TableOf}
-use lib.ListN.{length}
-use mathlib.Core.Path.{_≡_, _∙_}
-use Prim.Native.Nat.{_+_, _-_, _≤_, _<_}
+use Rattle.tables.proofs.Written.{Writing, writing-none, writing-more, writing-end}
+use mathlib.Core.Path.{_∙_}
+use Prim.Native.Nat.{_-_}
 use native.Mathlib.Omega.{arith}
 use borrow.Author.Needs.{needs}
 use Rattle.grid.proofs.quads.put_corners.Statement.{statement}
 use Rattle.grid.proofs.quads.put_corners.Tie as tie
 
 abbrev Inv-loop : tie.InvT-loop
-Inv-loop work₀ a n xd c₀ work c = (c ≤ n) × Kept a work₀ work × TableOf work a c (cornerPoint xd)
+Inv-loop work₀ a n xd c₀ work c = Writing a n (cornerPoint xd) work₀ work c
 
 abbrev μ-loop : tie.MeasureT-loop
 μ-loop work₀ a n xd c₀ work c = n - c
 
 loop-holds : tie.Need-loop-holds Inv-loop μ-loop
-loop-holds c = (omega arith, kept-all, table-none)
+loop-holds c = writing-none
 
 corner-point-requires : tie.Need-corner-point-requires Inv-loop μ-loop
 corner-point-requires c κs = (c .before .before .before .pre .0, c .before .before .before .pre .1, omega (arith, c .before .before .before .pre .2))
@@ -31,7 +29,7 @@ mul-work : tie.Need-mul-work Inv-loop μ-loop
 mul-work c = search needs
 
 slice-write-work : tie.Need-slice-write-work Inv-loop μ-loop
-slice-write-work c = omega (arith, c .before .before .before .loop .inv .1 .len, c .before .before .before .before .before .pre .4)
+slice-write-work c = omega (arith, c .before .before .before .loop .inv .kept .len, c .before .before .before .before .before .pre .4)
 
 add-c : tie.Need-add-c Inv-loop μ-loop
 add-c c = search needs
@@ -40,16 +38,13 @@ loop-less : tie.Need-loop-less Inv-loop μ-loop
 loop-less c = search needs
 
 loop-again : tie.Need-loop-again Inv-loop μ-loop
-loop-again c =
-    let i = c .before .before .before .loop .inv in
-    let l : c .before .before .before .before .before .args .a + c .before .before .before .loop .c < length (c .before .before .before .loop .work) = omega (arith, i .1 .len, c .before .before .before .before .before .pre .4) in
-    (search needs, kept-set _ _ (i .1) (omega arith), table-more _ _ _ _ l (c .narrow .ensures ∙ c .before .corner-point .ensures) (i .2))
+loop-again c = writing-more _ (c .before .before .before .before .before .pre .4) (c .before .before .before .loop .inv) (c .before .before .loop-test .taken) (c .narrow .ensures ∙ c .before .corner-point .ensures)
 
 same-length : tie.Need-same-length Inv-loop μ-loop
-same-length c = c .before .loop .inv .1 .len
+same-length c = c .before .loop .inv .kept .len
 
 returns : tie.Need-returns Inv-loop μ-loop
-returns c = let e : c .before .loop .c ≡ c .before .before .before .args .n = omega arith in (c .before .loop .inv .1, rw e at (c .before .loop .inv .2))
+returns c = writing-end (c .before .loop .inv) (c .loop-test .left)
 
 pub put-corners-spec : {M : Type 1} → statement M
 put-corners-spec =

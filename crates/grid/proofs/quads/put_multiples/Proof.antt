@@ -1,22 +1,19 @@
 use Rattle.grid.proofs.Numbers.{multiple-below}
-use Rattle.tables.proofs.Keep.{kept-all, kept-set, table-none, table-more}
-use Rattle.tables.specs.Kept.{Kept, TableOf}
-use lib.ListN.{length}
-use mathlib.Core.Path.{_≡_}
-use Prim.Native.Nat.{ℕ, _+_, _-_, _*_, _≤_, _<_}
+use Rattle.tables.proofs.Written.{Writing, writing-none, writing-more, writing-end}
+use Prim.Native.Nat.{ℕ, _-_, _*_}
 use native.Mathlib.Omega.{arith}
 use borrow.Author.Needs.{needs}
 use Rattle.grid.proofs.quads.put_multiples.Statement.{statement}
 use Rattle.grid.proofs.quads.put_multiples.Tie as tie
 
 abbrev Inv-loop : tie.InvT-loop
-Inv-loop work₀ a n by j₀ work j = (j ≤ n) × Kept a work₀ work × TableOf work a j (λ (i : ℕ). by * i)
+Inv-loop work₀ a n by j₀ work j = Writing a n (λ (i : ℕ). by * i) work₀ work j
 
 abbrev μ-loop : tie.MeasureT-loop
 μ-loop work₀ a n by j₀ work j = n - j
 
 loop-holds : tie.Need-loop-holds Inv-loop μ-loop
-loop-holds c = (omega arith, kept-all, table-none)
+loop-holds c = writing-none
 
 mul-narrow : tie.Need-mul-narrow Inv-loop μ-loop
 mul-narrow c = omega (arith, multiple-below (c .before .before .before .args .by) (c .before .loop .j) (c .before .before .before .args .n) _ (c .loop-test .taken) (c .before .before .before .pre .0))
@@ -31,7 +28,7 @@ mul-work : tie.Need-mul-work Inv-loop μ-loop
 mul-work c = search needs
 
 slice-write-work : tie.Need-slice-write-work Inv-loop μ-loop
-slice-write-work c = omega (arith, c .before .before .loop .inv .1 .len, c .before .before .before .before .pre .1)
+slice-write-work c = omega (arith, c .before .before .loop .inv .kept .len, c .before .before .before .before .pre .1)
 
 add-j : tie.Need-add-j Inv-loop μ-loop
 add-j c = search needs
@@ -40,16 +37,13 @@ loop-less : tie.Need-loop-less Inv-loop μ-loop
 loop-less c = search needs
 
 loop-again : tie.Need-loop-again Inv-loop μ-loop
-loop-again c =
-    let i = c .before .before .loop .inv in
-    let l : c .before .before .before .before .args .a + c .before .before .loop .j < length (c .before .before .loop .work) = omega (arith, i .1 .len, c .before .before .before .before .pre .1) in
-    (search needs, kept-set _ _ (i .1) (omega arith), table-more _ _ _ _ l (c .narrow .ensures) (i .2))
+loop-again c = writing-more _ (c .before .before .before .before .pre .1) (c .before .before .loop .inv) (c .before .loop-test .taken) (c .narrow .ensures)
 
 same-length : tie.Need-same-length Inv-loop μ-loop
-same-length c = c .before .loop .inv .1 .len
+same-length c = c .before .loop .inv .kept .len
 
 returns : tie.Need-returns Inv-loop μ-loop
-returns c = let e : c .before .loop .j ≡ c .before .before .before .args .n = omega arith in (c .before .loop .inv .1, rw e at (c .before .loop .inv .2))
+returns c = writing-end (c .before .loop .inv) (c .loop-test .left)
 
 pub put-multiples-spec : {M : Type 1} → statement M
 put-multiples-spec =

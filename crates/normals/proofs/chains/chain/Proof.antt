@@ -25,7 +25,7 @@ fill-requires c κs = search needs
 loop-holds : tie.Need-loop-holds Inv-loop μ-loop
 loop-holds c =
     let C = chainable-kept (c .before .before .fill .ensures .kept) (c .before .before .before .before .before .before .pre) in
-    (omega arith, kept-all, C, chain-start C (λ v b. c .before .before .fill .ensures .all .at v b ∙ c .before .before .before .narrow .ensures))
+    (omega arith, kept-all, C, chain-start C (λ v b. c .before .before .fill .ensures .words .at v b ∙ c .before .before .before .narrow .ensures))
 
 sub-i : tie.Need-sub-i Inv-loop μ-loop
 sub-i c = search needs

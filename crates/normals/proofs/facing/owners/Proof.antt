@@ -44,7 +44,7 @@ loop-again : tie.Need-loop-again Inv-loop μ-loop
 loop-again c =
     let I = c .before .before .before .before .before .before .before .before .before .before .before .before .loop .inv in
     let E = c .before .before .before .before .before .before .before .before .stretch-of .ensures in
-    let k = spread-next _ _ _ _ (c .before .before .before .before .before .before .before .before .before .before .before .before .before .before .pre) (I .1) (I .3) (c .before .before .before .before .before .before .before .before .before .before .if1 .taken) (E .from) (E .to) (c .before .before .fill .ensures .kept) (c .before .before .fill .ensures .all) (c .before .before .before .narrow .ensures) in
+    let k = spread-next _ _ _ _ (c .before .before .before .before .before .before .before .before .before .before .before .before .before .before .pre) (I .1) (I .3) (c .before .before .before .before .before .before .before .before .before .before .if1 .taken) (E .from) (E .to) (c .before .before .fill .ensures .kept) (c .before .before .fill .ensures .words) (c .before .before .before .narrow .ensures) in
     (omega (arith, c .before .before .before .before .before .before .before .before .before .before .if1 .taken), k .0, k .1, k .2)
 
 same-length : tie.Need-same-length Inv-loop μ-loop

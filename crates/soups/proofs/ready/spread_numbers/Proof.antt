@@ -58,7 +58,7 @@ loop-again c =
     let S = c .before .before .before .before .before .before .before .before .before .before .before .before .before .before .before .pre in
     let R = S .room in
     let E = c .before .before .before .before .before .before .before .before .before .stretch-of .ensures in
-    let k = spread-next _ _ _ _ S (I .1) (I .3) (c .before .before .before .before .before .before .before .before .before .before .before .if1 .taken) (E .from) (E .to) (c .before .before .fill .ensures .kept) (c .before .before .fill .ensures .all) (number-kept (I .1) t (c .before .before .before .before .before .before .before .before .before .before .before .before .before .loop .g) (omega (arith, R .numbers, c .before .before .before .before .before .before .before .before .before .before .before .if1 .taken))) in
+    let k = spread-next _ _ _ _ S (I .1) (I .3) (c .before .before .before .before .before .before .before .before .before .before .before .if1 .taken) (E .from) (E .to) (c .before .before .fill .ensures .kept) (c .before .before .fill .ensures .words) (number-kept (I .1) t (c .before .before .before .before .before .before .before .before .before .before .before .before .before .loop .g) (omega (arith, R .numbers, c .before .before .before .before .before .before .before .before .before .before .before .if1 .taken))) in
     (omega (arith, c .before .before .before .before .before .before .before .before .before .before .before .if1 .taken), k .0, k .1, k .2)
 
 same-length : tie.Need-same-length Inv-loop μ-loop
