@@ -38,16 +38,16 @@ fn list_corner(
 fn list_entry(
     work: &mut [u32],
     t: CornerTables,
-    points: u32,
+    points: usize,
     c: CornerNumber,
     e: PointNumber,
     k: usize,
     line: usize,
 ) -> CornerNumber
-    requires { ⌜ Laid t (length (now work)) × (e .0 < points → c .0 < t .count) × (k < 2 ^ 32) × (line < 2 ^ 32) ⌝ }
+    requires { ⌜ Laid t (length (now work)) × (e .0 < points → c .0 < t .count) × (points ≤ 2 ^ 32) × (k < 2 ^ 32) × (line < 2 ^ 32) ⌝ }
     ensures { λ r. ⌜ Added (listed t) (these (useOf points line k (e .0))) (c .0) (now (work .entry)) (r .0) (now (work .exit)) ⌝ }
 {
-    if e.0 < wide(points) {
+    if e.0 < points {
         list_corner(work, t, c, e, k, line);
         return CornerNumber(c.0 + 1);
     }
@@ -72,7 +72,7 @@ fn list_run(
     let mut c = first;
     let mut j = 0;
     while j < n {
-        c = list_entry(work, t, points, c, point_at(run, j), start + j, line);
+        c = list_entry(work, t, wide(points), c, point_at(run, j), start + j, line);
         j += 1;
     }
     c

@@ -50,7 +50,7 @@ fn put_line(
 // One entry, read as a point. `numbers` has the vertex numbers of the corners.
 fn put_entry(
     e: PointNumber,
-    points: u32,
+    points: usize,
     numbers: &[u32],
     w: Progress,
     indices: &mut [u32],
@@ -60,7 +60,7 @@ fn put_entry(
     ensures { λ r. ⌜ Stepped points (e .0) (now (numbers .entry)) w (now (indices .entry)) r (now (indices .exit)) ⌝ }
 {
     let corner = w.corner;
-    if e.0 < wide(points) {
+    if e.0 < points {
         let c = corner.0;
         let next = VertexNumber(wide(numbers[c]));
         let at = put_line(indices, w.at, w.after, w.last, next);
@@ -101,7 +101,7 @@ fn put_run(
     };
     let mut j = 0;
     while j < n {
-        w = put_entry(point_at(run, j), points, numbers, w, indices);
+        w = put_entry(point_at(run, j), wide(points), numbers, w, indices);
         j += 1;
     }
     w

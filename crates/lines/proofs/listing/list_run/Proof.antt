@@ -18,6 +18,9 @@ abbrev μ-loop : tie.MeasureT-loop
 loop-holds : tie.Need-loop-holds Inv-loop μ-loop
 loop-holds c = (refl, run-start)
 
+wide-requires : tie.Need-wide-requires Inv-loop μ-loop
+wide-requires c κs = search needs
+
 point-at-requires : tie.Need-point-at-requires Inv-loop μ-loop
 point-at-requires c κs = search needs
 
@@ -25,7 +28,7 @@ add-list-entry : tie.Need-add-list-entry Inv-loop μ-loop
 add-list-entry c = search needs
 
 list-entry-requires : tie.Need-list-entry-requires Inv-loop μ-loop
-list-entry-requires c κs = let bs = c .before .before .before .before .before .before .args .run .now in let l = entries-length bs in let L = c .before .before .before .loop .inv .1 in let h : c .before .before .before .loop .j < length (entries bs) = omega arith in rw (c .point-at .ensures, L .left .len) (c .before .before .before .before .before .before .pre .0, entry-here L h (c .before .before .before .before .before .before .pre .1), omega (arith, c .before .before .before .before .before .before .pre .2), c .before .before .before .before .before .before .pre .3)
+list-entry-requires c κs = let bs = c .before .before .before .before .before .before .before .args .run .now in let l = entries-length bs in let L = c .before .before .before .before .loop .inv .1 in let h : c .before .before .before .before .loop .j < length (entries bs) = omega arith in rw (c .point-at .ensures, c .before .wide .ensures, L .left .len) (c .before .before .before .before .before .before .before .pre .0, entry-here L h (c .before .before .before .before .before .before .before .pre .1), omega arith, omega (arith, c .before .before .before .before .before .before .before .pre .2), c .before .before .before .before .before .before .before .pre .3)
 
 add-j : tie.Need-add-j Inv-loop μ-loop
 add-j c = search needs
@@ -34,7 +37,7 @@ loop-less : tie.Need-loop-less Inv-loop μ-loop
 loop-less c = search needs
 
 loop-again : tie.Need-loop-again Inv-loop μ-loop
-loop-again c = let bs = c .before .before .before .before .before .before .before .before .before .args .run .now in let l = entries-length bs in let L = c .before .before .before .before .before .before .loop .inv .1 in let h : c .before .before .before .before .before .before .loop .j < length (entries bs) = omega arith in (c .before .before .before .before .before .before .loop .inv .0, entry-next L h (rw (c .before .before .before .point-at .ensures) at (c .before .before .list-entry .ensures)))
+loop-again c = let bs = c .before .before .before .before .before .before .before .before .before .before .args .run .now in let l = entries-length bs in let L = c .before .before .before .before .before .before .before .loop .inv .1 in let h : c .before .before .before .before .before .before .before .loop .j < length (entries bs) = omega arith in (c .before .before .before .before .before .before .before .loop .inv .0, entry-next L h (rw (c .before .before .before .point-at .ensures, c .before .before .before .before .wide .ensures) at (c .before .before .list-entry .ensures)))
 
 same-length : tie.Need-same-length Inv-loop μ-loop
 same-length c = c .before .loop .inv .1 .left .len
@@ -49,6 +52,7 @@ list-run-spec =
     Inv-loop
     μ-loop
     loop-holds
+    wide-requires
     point-at-requires
     add-list-entry
     list-entry-requires

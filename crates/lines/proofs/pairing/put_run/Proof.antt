@@ -25,8 +25,11 @@ loop-holds c = (refl, record { fits = omega arith; corners = refl; left = left-a
 point-at-requires : tie.Need-point-at-requires Inv-loop μ-loop
 point-at-requires c κs = search needs
 
+wide-requires : tie.Need-wide-requires Inv-loop μ-loop
+wide-requires c κs = search needs
+
 put-entry-requires : tie.Need-put-entry-requires Inv-loop μ-loop
-put-entry-requires c κs = let bs = c .before .before .before .before .before .before .before .before .args .run .now in let l = entries-length bs in let P = c .before .before .before .loop .inv .1 in let h : c .before .before .before .loop .j < length (entries bs) = omega arith in rw (c .before .point-at .ensures) (pairing-here P h (c .before .before .before .before .before .before .before .before .pre .0), P .fits, pairing-room P h (c .before .before .before .before .before .before .before .before .pre .1))
+put-entry-requires c κs = let bs = c .before .before .before .before .before .before .before .before .before .args .run .now in let l = entries-length bs in let P = c .before .before .before .before .loop .inv .1 in let h : c .before .before .before .before .loop .j < length (entries bs) = omega arith in rw (c .before .before .point-at .ensures, c .before .wide .ensures) (pairing-here P h (c .before .before .before .before .before .before .before .before .before .pre .0), P .fits, pairing-room P h (c .before .before .before .before .before .before .before .before .before .pre .1))
 
 add-j : tie.Need-add-j Inv-loop μ-loop
 add-j c = search needs
@@ -35,7 +38,7 @@ loop-less : tie.Need-loop-less Inv-loop μ-loop
 loop-less c = search needs
 
 loop-again : tie.Need-loop-again Inv-loop μ-loop
-loop-again c = let bs = c .before .before .before .before .before .before .before .before .before .before .before .args .run .now in let l = entries-length bs in let P = c .before .before .before .before .before .before .loop .inv .1 in let h : c .before .before .before .before .before .before .loop .j < length (entries bs) = omega arith in (c .before .before .before .before .before .before .loop .inv .0, pairing-next P h (rw (c .before .before .before .before .point-at .ensures) at (c .before .before .put-entry .ensures)))
+loop-again c = let bs = c .before .before .before .before .before .before .before .before .before .before .before .before .args .run .now in let l = entries-length bs in let P = c .before .before .before .before .before .before .before .loop .inv .1 in let h : c .before .before .before .before .before .before .before .loop .j < length (entries bs) = omega arith in (c .before .before .before .before .before .before .before .loop .inv .0, pairing-next P h (rw (c .before .before .before .before .before .point-at .ensures, c .before .before .before .before .wide .ensures) at (c .before .before .put-entry .ensures)))
 
 same-length : tie.Need-same-length Inv-loop μ-loop
 same-length c = c .before .loop .inv .1 .left .len
@@ -51,6 +54,7 @@ put-run-spec =
     μ-loop
     loop-holds
     point-at-requires
+    wide-requires
     put-entry-requires
     add-j
     loop-less
