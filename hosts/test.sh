@@ -52,12 +52,10 @@ if [ "${#callers[@]}" -ne 0 ]; then
     line target/example_rs "$duct"
     examples+=(target/example_rs)
 fi
-if [ -n "$(command -v g++)" ]; then
+if have 'the call from C++' g++; then
     g++ -x c++ -Wall -Wextra -Werror -I hosts hosts/example.c -x none "$archive" -o "$out/example_cpp"
     tally 'hosts/example.c compiles as C++' $?
     examples+=("$out/example_cpp")
-else
-    left_out+=('the call from C++ (g++ is not here)')
 fi
 
 # Header bytes, then as many zeros.
