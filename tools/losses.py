@@ -181,6 +181,8 @@ def index_lacks(text, name, index, place):
 
 def grid_losses(text):
     x, z = sides(text)
+    if text.count('height') > x * z:
+        yield text.line_number('height'), f"{entries_of('height', text.count('height'))} for the {x * z} points of the grid"
     for name in ATTRIBUTES:
         per_vertex = text.fields.get(name + 'PerVertex', True)
         needed = x * z if per_vertex else (x - 1) * (z - 1)

@@ -227,6 +227,7 @@ faulty 'shape Extrusion\nendCap TRUE\ncrossSection\n' 3 'crossSection has no ent
 
 # What would not be drawn (FORMAT 6).
 faces='shape IndexedFaceSet\npoint 0 0 0, 1 0 0\n  1 1 0, 0 1 0\n'
+warned 'shape ElevationGrid\nxDimension 2\nzDimension 2\nheight 1 234.5 0 0 0\n' 4 'height has 5 entries for the 4 points of the grid'
 warned "${faces}coordIndex 0 1 2 -1\n0\n1 4 -1\n" 5 'run 1 is not drawn: 4 names no point (there are 4'
 warned "${faces}coordIndex 0 1 2 -1 -1 -7\n0 1 -1\n" 5 'run 3 is not drawn: a face has 3 .*, and it has 2'
 warned "${faces}coordIndex 0 1 2 -1\n\n0" 6 'run 1 is not drawn: .* it has 1'
