@@ -1,27 +1,28 @@
 -- FORMAT 4, 14: how many vertices and indices a mesh has, by the sizes of its block; and by the slices that the program lends.
 use Prim.Native.Nat.{ℕ, zero, suc, _≤_}
 use mathlib.Core.Path.{_≡_, refl, sym, ap, _∙_, subst}
-use mathlib.Core.Bool.{Bool, true, false, cond}
 use mathlib.Core.List.{List}
 use native.Mathlib.Omega.{arith}
-use lib.Dec.{eqb}
 use lib.ListN.{length, length-map}
 use Rattle.bits.specs.declared.Words4.{Words4}
+use Rattle.block.specs.declared.kind.Kind.{Kind}
+use Rattle.block.specs.declared.kind.Kind.the-variants.{FaceSet, LineSet, Grid, Extrusion, Other}
+use Rattle.block.specs.Kind.{byKind}
 use Rattle.block.specs.Header.{headerOf}
 use Rattle.mesh.specs.Lists.{total}
 use Rattle.mesh.specs.Soup.{Face, Frame}
 use Rattle.mesh.specs.Vertices.{Key, vertices, width}
-use Rattle.mesh.specs.Mesh.{Mesh, meshOf, mesh}
+use Rattle.mesh.specs.Mesh.{Mesh, noMesh, meshOf, mesh}
 use Rattle.mesh.specs.FaceSet.{restOf, coordIn, runsIn, faceSetMesh}
 use Rattle.mesh.specs.Lines.{lineVertices, lineFaces, lineFrame, linesOf, lineSetMesh}
 use Rattle.mesh.specs.Grid.{gridOf, gridFaces, gridFrame, gridMesh}
 use Rattle.mesh.specs.Extrusion.{extrusionOf, extrusionFaces, extrusionFrame, extrusionMesh}
-use Rattle.mesh.specs.Sizes.{Sizes, faceSetSizes, lineSetSizes, gridSizes, extrusionSizes, sizesOf}
+use Rattle.mesh.specs.Sizes.{Sizes, faceSetSizes, lineSetSizes, gridSizes, extrusionSizes, noSizes, sizesOf}
 use Rattle.mesh.specs.Result.{blockMesh, resultOf}
 use Rattle.mesh.proofs.Facts.{length-indices, length-vertices, face-set-indices, face-set-vertices}
 use Rattle.mesh.proofs.LineSoup.{line-soup}
 use Rattle.mesh.proofs.Sizes.{line-set-corners, line-set-indices, grid-corners, grid-indices, extrusion-corners, extrusion-indices}
-use Rattle.geometry.specs.Answer.{white, resultFor, Saying, refused, made, said}
+use Rattle.geometry.specs.Answer.{plain, resultFor, Saying, refused, made, said}
 use Rattle.geometry.proofs.Refusing.{asked-of}
 use Rattle.answer.specs.Lending.{fresh, number}
 
@@ -64,22 +65,23 @@ module _ (missing : Words4) (bs : List ℕ) where
 
   pub block-sized : Sized (blockMesh missing bs) (sizesOf bs (headerOf bs))
   unfolding blockMesh sizesOf
-  block-sized = go (eqb (headerOf bs .kind) 0) (eqb (headerOf bs .kind) 1) (eqb (headerOf bs .kind) 2)
+  block-sized = go (headerOf bs .kind)
     where
-      go : (a b c : Bool)
-          → Sized (cond a (faceSetMesh missing bs) (cond b (lineSetMesh missing bs) (cond c (gridMesh missing bs) (extrusionMesh bs))))
-          (cond a (faceSetSizes bs (headerOf bs)) (cond b (lineSetSizes bs (headerOf bs)) (cond c (gridSizes (headerOf bs)) (extrusionSizes bs (headerOf bs)))))
-      go true b c = face-set-sized
-      go false true c = line-set-sized
-      go false false true = grid-sized
-      go false false false = extrusion-sized
+      go : (k : Kind)
+          → Sized (byKind k (faceSetMesh missing bs) (lineSetMesh missing bs) (gridMesh missing bs) (extrusionMesh bs) noMesh)
+          (byKind k (faceSetSizes bs (headerOf bs)) (lineSetSizes bs (headerOf bs)) (gridSizes (headerOf bs)) (extrusionSizes bs (headerOf bs)) noSizes)
+      go FaceSet = face-set-sized
+      go LineSet = line-set-sized
+      go Grid = grid-sized
+      go Extrusion = extrusion-sized
+      go Other = record { vertices = omega arith; indices = refl }
 
 -- FORMAT 14: of a block that the program does not refuse
-few : (bs : List ℕ) → number bs ≡ 0 → (resultFor bs .vertices ≤ 256) × (resultFor bs .indices ≤ 768)
+few : (bs : List ℕ) → number bs ≡ 0 → (resultFor plain bs .vertices ≤ 256) × (resultFor plain bs .indices ≤ 768)
 unfolding resultFor resultOf fresh
 few bs e =
     let E = asked-of bs fresh e .enough in
-    let S = block-sized white bs in
+    let S = block-sized (plain .colour) bs in
     (omega (arith, E .sources, S .vertices), omega (arith, E .indices, S .indices))
 
 -- of what an answer says
@@ -87,9 +89,9 @@ abbrev pub Few : Saying → Type 0
 Few (refused n) = Unit {0}
 Few (made r) = (r .vertices ≤ 256) × (r .indices ≤ 768)
 
-pub said-few : (bs : List ℕ) (s : Saying) → s ≡ said (number bs) (resultFor bs) → Few s
+pub said-few : (bs : List ℕ) (s : Saying) → s ≡ said (number bs) (resultFor plain bs) → Few s
 said-few bs s e = subst Few (sym e) (go (number bs) refl)
   where
-    go : (n : ℕ) → number bs ≡ n → Few (said n (resultFor bs))
+    go : (n : ℕ) → number bs ≡ n → Few (said n (resultFor plain bs))
     go zero z = few bs z
     go (suc n) z = tt

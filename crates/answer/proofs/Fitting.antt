@@ -10,13 +10,13 @@ use lib.Seq.{take-at, length-sets, length-take-le}
 use Rattle.block.specs.Header.{headerOf}
 use Rattle.polygon.specs.Loops.{pick}
 use Rattle.mesh.specs.Mesh.{Slices}
-use Rattle.geometry.specs.Answer.{resultFor, Saying, refused, made, said}
+use Rattle.geometry.specs.Answer.{plain, resultFor, Saying, refused, made, said}
 use Rattle.text.specs.declared.lines.Parts.{Parts}
 use Rattle.text.specs.Answer.{longText, textRoom}
 use Rattle.text.specs.Wrote.{Printed}
 use Rattle.text.proofs.TextFits.{text-fits, refusal-fits, long-fits}
 use Rattle.answer.specs.Lending.{number, left}
-use Rattle.answer.specs.Text.{headOf, partsOf, textOf, blockText, answerText}
+use Rattle.answer.specs.Text.{longest, headOf, partsOf, textOf, blockText, answerText}
 use Rattle.answer.proofs.Counts.{Few, said-few}
 
 saying-fits : (s : Saying) (parts : Parts) (S : Slices) → Few s → length (textOf s parts S) ≤ textRoom
@@ -26,12 +26,12 @@ saying-fits (made r) parts S h = text-fits (headOf r) parts S (h .0) (h .1)
 
 pub fits : (bs : List ℕ) → length (answerText bs) ≤ textRoom
 unfolding answerText blockText textRoom
-fits bs = go (ltb 8192 (length bs))
+fits bs = go (ltb longest (length bs))
   where
     go : (b : Bool) → length (pick b longText (blockText bs)) ≤ textRoom
     go true = omega (arith, long-fits)
     go false =
-        saying-fits (said (number bs) (resultFor bs)) (partsOf (headerOf bs)) (left bs) (said-few bs (said (number bs) (resultFor bs)) refl)
+        saying-fits (said (number bs) (resultFor plain bs)) (partsOf (headerOf bs)) (left bs) (said-few bs (said (number bs) (resultFor plain bs)) refl)
 
 -- ---- a text in a buffer that has room for every answer
 

@@ -6,22 +6,22 @@ use borrow.Author.Tests.{lt-ltb, le-ltb}
 use lib.ListN.{length}
 use Rattle.block.specs.Header.{headerOf}
 use Rattle.geometry.specs.declared.answer.Answer.{Answer}
-use Rattle.geometry.specs.Answer.{saying}
+use Rattle.geometry.specs.Answer.{plain, saying}
 use Rattle.geometry.specs.Converted.{Lending, Converted}
 use Rattle.text.specs.declared.lines.Parts.{Parts}
 use Rattle.text.specs.Answer.{longText}
 use Rattle.text.specs.Wrote.{Printed}
 use Rattle.answer.specs.declared.lending.Conversion.{Conversion}
 use Rattle.answer.specs.Lending.{fresh, left, slicesIn, Left}
-use Rattle.answer.specs.Text.{partsOf, textOf, blockText, answerText}
+use Rattle.answer.specs.Text.{longest, partsOf, textOf, blockText, answerText}
 use Rattle.answer.proofs.Counts.{Few, said-few}
 
-pub left-of : (bs : List ℕ) (m : Lending) (r : Answer) → Converted bs fresh m r
+pub left-of : (bs : List ℕ) (m : Lending) (r : Answer) → Converted plain bs fresh m r
     → Left bs (record { answer = r; positions = m .slices .positions; normals = m .slices .normals; colours = m .slices .colours; textures = m .slices .textures; sources = m .slices .sources; indices = m .slices .indices })
 unfolding left
 left-of bs m r k = record {
   answer = k .answer;
-  slices = λ i. record { sources = k .sources i; positions = k .positions i; normals = k .normals i; colours = k .colours i; textures = k .textures i; indices = k .indices i };
+  slices = k .slices;
 }
 
 -- the text of what c says
@@ -36,10 +36,10 @@ pub answer-few : (bs : List ℕ) (c : Conversion) (r : Answer) → Left bs c →
 answer-few bs c r L e = said-few bs (saying r) (ap saying (sym e) ∙ L .answer)
 
 -- FORMAT 14: the text of an input, by its length
-pub long-printed : (bs l m : List ℕ) (k : ℕ) → 8192 < length bs → Printed l longText m k → Printed l (answerText bs) m k
+pub long-printed : (bs l m : List ℕ) (k : ℕ) → longest < length bs → Printed l longText m k → Printed l (answerText bs) m k
 unfolding answerText
-long-printed bs l m k h p = rw (lt-ltb 8192 (length bs) h) p
+long-printed bs l m k h p = rw (lt-ltb longest (length bs) h) p
 
-pub block-printed : (bs l m : List ℕ) (k : ℕ) → length bs ≤ 8192 → Printed l (blockText bs) m k → Printed l (answerText bs) m k
+pub block-printed : (bs l m : List ℕ) (k : ℕ) → length bs ≤ longest → Printed l (blockText bs) m k → Printed l (answerText bs) m k
 unfolding answerText
-block-printed bs l m k h p = rw (le-ltb 8192 (length bs) h) p
+block-printed bs l m k h p = rw (le-ltb longest (length bs) h) p

@@ -6,8 +6,8 @@ use lib.ListN.{replicate}
 use lib.Ieee.{binary32, ofBits}
 use Rattle.mesh.specs.Mesh.{Slices}
 use Rattle.mesh.specs.Result.{made}
-use Rattle.geometry.specs.Answer.{white, resultFor, saying, said}
-use Rattle.geometry.specs.Converted.{Lending, numberFor, after}
+use Rattle.geometry.specs.Answer.{plain, resultFor, saying, said}
+use Rattle.geometry.specs.Converted.{Lending, numberFor, afterAll}
 use Rattle.answer.specs.declared.lending.Conversion.{Conversion}
 
 -- FORMAT 14: for C and P of 256 each, and 768 indices
@@ -32,15 +32,7 @@ number bs = numberFor bs fresh
 
 -- FORMAT 5, 14: the six slices of the mesh after the call
 unfoldable pub left : List ℕ → Slices
-left bs =
-    record {
-      sources = after (number bs) (made white bs .sources) (fresh .slices .sources);
-      positions = after (number bs) (made white bs .positions) (fresh .slices .positions);
-      normals = after (number bs) (made white bs .normals) (fresh .slices .normals);
-      colours = after (number bs) (made white bs .colours) (fresh .slices .colours);
-      textures = after (number bs) (made white bs .textures) (fresh .slices .textures);
-      indices = after (number bs) (made white bs .indices) (fresh .slices .indices);
-    }
+left bs = afterAll (number bs) (made (plain .colour) bs) (fresh .slices)
 
 -- the six slices that came back
 abbrev pub slicesIn : Conversion → Slices
@@ -56,5 +48,5 @@ slicesIn c =
 
 -- FORMAT 14: c is the answer of the call, and what it left
 pub record Left (bs : List ℕ) (c : Conversion) : Type 0 where
-  pub answer : saying (c .answer) ≡ said (number bs) (resultFor bs)
+  pub answer : saying (c .answer) ≡ said (number bs) (resultFor plain bs)
   pub slices : slicesIn c ≡ left bs

@@ -4,7 +4,9 @@ ghost use Rattle.block.specs.Header.{headerOf};
 ghost use Rattle.mesh.specs.Result.{makesTextures};
 ghost use Rattle.answer.specs.Text.{partsOf};
 use block::Header;
+use block::Kind;
 use block::read_header;
+use sizes::either;
 use sizes::flags_of;
 use text::Parts;
 
@@ -12,19 +14,14 @@ use text::Parts;
 fn makes_texture(h: Header) -> bool
     ensures { λ r. ⌜ r ≡ makesTextures h ⌝ }
 {
-    if h.kind == 1 {
-        return false;
+    let kind = h.kind;
+    match kind {
+        Kind::FaceSet => either(h.need_uvs, h.texture_points),
+        Kind::LineSet => false,
+        Kind::Grid => either(h.need_uvs, h.texture_points),
+        Kind::Extrusion => h.need_uvs,
+        Kind::Other => false,
     }
-    if h.need_uvs {
-        return true;
-    }
-    if h.kind == 0 {
-        return h.texture_points;
-    }
-    if h.kind == 2 {
-        return h.texture_points;
-    }
-    false
 }
 
 // A line set has no normals, and its indices are lines.

@@ -10,6 +10,9 @@ use text::put_long;
 use text::put_mesh;
 use text::put_refusal;
 
+// The longest input that is looked at.
+pub const LONGEST: usize = 8192;
+
 // Room for the text of every answer.
 pub const TEXT_ROOM: usize = 41747;
 
@@ -51,11 +54,11 @@ pub fn block_text(block: &[u8], out: &mut [u8]) -> usize
     }
 }
 
-// More than 8,192 bytes are told before anything is looked at.
+// A longer input is told before anything is looked at.
 pub fn answer_text(input: &[u8], out: &mut [u8]) -> usize
     ensures { λ r. ⌜ Printed (now (out .entry)) (answerText (now (input .entry))) (now (out .exit)) r ⌝ }
 {
-    if input.len() > 8192 {
+    if input.len() > LONGEST {
         return put_long(out);
     }
     block_text(input, out)

@@ -1,4 +1,6 @@
 -- The laws that other crates cite.
+pub mod EditionLaws
+pub mod Reading
 pub mod ListLaws
 pub mod Table
 pub mod TableRows

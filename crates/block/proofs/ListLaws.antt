@@ -5,41 +5,37 @@ use mathlib.Core.Bool.{Bool, true, false, cond}
 use mathlib.Core.List.{List, [], _∷_}
 use native.Mathlib.Nat.{add-zero, add-suc, lt-of-le-of-lt, mul-le-mul-left, le-of-lt, mul-lt-mul-of-pos-right}
 use native.Mathlib.Omega.{arith}
-use lib.Dec.{lit<, eqb, ltb}
+use lib.Dec.{lit<}
 use lib.ListN.{length, getD, take, length-take, length-drop, List·getD-eq-default}
 use lib.Seq.{take-all}
-use borrow.Author.Tests.{lt-ltb, le-ltb, eq-eqb, ne-eqb}
 use Rattle.bits.specs.Bits.{entries}
 use Rattle.bits.proofs.Entries.{entries-length}
-use Rattle.block.specs.Lists.{setWidths, gridWidths, extrusionWidths, widths, wordsIn, wordCount, listAt, listSize, placeOf, listBytes}
+use Rattle.block.specs.Lists.{widthsBy, widths, ahead, wordsIn, wordCount, listAt, listSize, placeOf, listBytes}
+use Rattle.block.specs.declared.kind.Kind.{Kind}
+use Rattle.block.specs.declared.kind.Kind.the-variants.{FaceSet, LineSet, Grid, Extrusion, Other}
 use Rattle.block.specs.declared.header.Header.{Header}
 
-module _ (kind : ℕ) (alpha : Bool) where
-  pub widths-set : kind < 2 → widths kind alpha ≡ setWidths alpha
+module _ (h : Header) where
+  -- the widths of a kind, where it is known
+  pub widths-of : {k : Kind} → h .kind ≡ k → widths h ≡ widthsBy k (h .alpha)
   unfolding widths
-  widths-set p = rw (lt-ltb kind 2 p)
-
-  pub widths-grid : kind ≡ 2 → widths kind alpha ≡ gridWidths alpha
-  unfolding widths
-  widths-grid p = rw (le-ltb kind 2 (omega arith), eq-eqb kind 2 p)
-
-  pub widths-extrusion : 2 < kind → widths kind alpha ≡ extrusionWidths
-  unfolding widths
-  widths-extrusion p = rw (le-ltb kind 2 (omega arith), ne-eqb kind 2 (λ e. omega arith))
+  widths-of e = rw e
 
   -- the words of list k, where the widths are known
-  pub size-by : (ns ws : List ℕ) (k : ℕ) → widths kind alpha ≡ ws → listSize kind alpha ns k ≡ getD ws k 0 * getD ns k 0
+  pub size-by : (ws : List ℕ) (k : ℕ) → widths h ≡ ws → listSize h k ≡ getD ws k 0 * getD (h .counts) k 0
   unfolding listSize
-  size-by ns ws k p = rw p
+  size-by ws k p = rw p
 
-  pub widths-length : length (widths kind alpha) ≡ 8
+  pub widths-length : length (widths h) ≡ 8
   unfolding widths
-  widths-length = go (ltb kind 2) (eqb kind 2)
+  widths-length = go (h .kind)
     where
-      go : (a b : Bool) → length (cond a (setWidths alpha) (cond b (gridWidths alpha) extrusionWidths)) ≡ 8
-      go true b = refl
-      go false true = refl
-      go false false = refl
+      go : (k : Kind) → length (widthsBy k (h .alpha)) ≡ 8
+      go FaceSet = refl
+      go LineSet = refl
+      go Grid = refl
+      go Extrusion = refl
+      go Other = refl
 
 -- the words of one list more
 pub words-more : (ws ns : List ℕ) (k : ℕ) → wordsIn (take (suc k) ws) ns ≡ wordsIn (take k ws) ns + getD ws k 0 * getD ns k 0
@@ -65,42 +61,43 @@ pub below-product : (a b : ℕ) → a < 2 ^ 8 → b < 2 ^ 32 → a * b < 2 ^ 40
 below-product a b ha hb = lt-of-le-of-lt (mul-le-mul-left a (le-of-lt hb)) (mul-lt-mul-of-pos-right ha (lit< tt))
 
 -- ---- where a list lies, from the widths w and the words t before it
-module _ (h : Header) (w : List ℕ) (p : w ≡ widths (h .kind) (h .alpha)) (t : ℕ) where
+module _ (h : Header) (w : List ℕ) (p : w ≡ widthsBy (h .kind) (h .alpha)) (t : ℕ) where
   wide : length w ≡ 8
-  wide = ap length p ∙ widths-length (h .kind) (h .alpha)
+  unfolding widths
+  wide = ap length p ∙ widths-length h
 
-  pub count-is : t ≡ wordsIn (take 8 w) (h .counts) → 4 * (17 + t) ≡ 4 * wordCount (h .kind) (h .alpha) (h .counts)
-  unfolding wordCount
+  pub count-is : t ≡ wordsIn (take 8 w) (h .counts) → 4 * (ahead h + t) ≡ 4 * wordCount h
+  unfolding wordCount widths
   count-is q = rw (q, take-all 8 w (omega (arith, wide)), p)
 
-  pub place-is : (k m : ℕ) → t ≡ wordsIn (take k w) (h .counts) → m ≡ getD w k 0 * getD (h .counts) k 0 → record { at = 4 * (17 + t); len = 4 * m } ≡ placeOf h k
-  unfolding placeOf listAt listSize
+  pub place-is : (k m : ℕ) → t ≡ wordsIn (take k w) (h .counts) → m ≡ getD w k 0 * getD (h .counts) k 0 → record { at = 4 * (ahead h + t); len = 4 * m } ≡ placeOf h k
+  unfolding placeOf listAt listSize widths
   place-is k m q r = rw (q, r, p)
 
-  pub place-past : (k : ℕ) → 8 ≤ k → t ≡ wordsIn (take 8 w) (h .counts) → record { at = 4 * (17 + t); len = 0 } ≡ placeOf h k
+  pub place-past : (k : ℕ) → 8 ≤ k → t ≡ wordsIn (take 8 w) (h .counts) → record { at = 4 * (ahead h + t); len = 0 } ≡ placeOf h k
   place-past k l q =
       let e : take 8 w ≡ take k w = take-all 8 w (omega (arith, wide)) ∙ sym (take-all k w (omega (arith, wide))) in
       let z : getD w k 0 ≡ 0 = List·getD-eq-default w 0 {n = k} (omega (arith, wide)) in
       place-is k 0 (q ∙ rw e) (rw z (omega arith))
 
 module _ (h : Header) (k : ℕ) where
-  pub place-at : placeOf h k .at ≡ 4 * listAt (h .kind) (h .alpha) (h .counts) k
+  pub place-at : placeOf h k .at ≡ 4 * listAt h k
   unfolding placeOf
   place-at = refl
 
-  pub place-len : placeOf h k .len ≡ 4 * listSize (h .kind) (h .alpha) (h .counts) k
+  pub place-len : placeOf h k .len ≡ 4 * listSize h k
   unfolding placeOf
   place-len = refl
 
 -- ---- a block of the length that its header tells
-module _ (bs : List ℕ) (h : Header) (k : ℕ) (whole : length bs ≡ 4 * wordCount (h .kind) (h .alpha) (h .counts)) where
+module _ (bs : List ℕ) (h : Header) (k : ℕ) (whole : length bs ≡ 4 * wordCount h) where
   pub list-within : placeOf h k .at + placeOf h k .len ≤ length bs
   unfolding placeOf listAt listSize wordCount
-  list-within = omega (arith, words-within (widths (h .kind) (h .alpha)) (h .counts) k)
+  list-within = omega (arith, words-within (widths h) (h .counts) k)
 
-  pub list-length : length (listBytes bs h k) ≡ 4 * listSize (h .kind) (h .alpha) (h .counts) k
+  pub list-length : length (listBytes bs h k) ≡ 4 * listSize h k
   unfolding placeOf
   list-length = simp (length-take, length-drop) (omega (arith, list-within))
 
-  pub list-entries : length (entries (listBytes bs h k)) ≡ listSize (h .kind) (h .alpha) (h .counts) k
+  pub list-entries : length (entries (listBytes bs h k)) ≡ listSize h k
   list-entries = entries-length (listBytes bs h k) ∙ omega (arith, list-length)

@@ -5,8 +5,9 @@ use mathlib.Core.List.{List, [], _∷_, _++_}
 use lib.Ieee.{Float, binary32, ofBits, le}
 use lib.ListN.{replicate}
 use Rattle.bits.specs.Bits.{field}
-use Rattle.block.specs.Crease.{zero, creaseOf}
-use Rattle.block.specs.Texture.{one}
+use Rattle.math.specs.Vector.{zeroF, oneF}
+use Rattle.block.specs.Edition.{edition1, editionOf, editionIn}
+use Rattle.block.specs.Crease.{creaseOf}
 use Rattle.block.specs.Settings.{pairOr, transformOf, settingsOf}
 use Rattle.block.proofs.TableRows.{bytesOf}
 use Rattle.block.specs.declared.crease.CreaseRule.the-variants.{Own}
@@ -30,19 +31,19 @@ twoF = ofBits binary32 two
 pub settings-row : settingsOf oddBlock
     ≡ record {
       crease = Own;
-      «x_spacing» = one;
+      «x_spacing» = oneF;
       «z_spacing» = twoF;
       transform =
           record {
-            «center_s» = zero;
-            «center_t» = zero;
-            sine = zero;
-            cosine = one;
+            «center_s» = zeroF;
+            «center_t» = zeroF;
+            sine = zeroF;
+            cosine = oneF;
             «scale_s» = twoF;
             «scale_t» = twoF;
-            «translation_s» = zero;
-            «translation_t» = zero;
+            «translation_s» = zeroF;
+            «translation_t» = zeroF;
           };
     }
-unfolding oddBlock settingsOf transformOf pairOr creaseOf field ofBits le
+unfolding oddBlock settingsOf transformOf pairOr creaseOf field ofBits le editionOf edition1
 settings-row = refl

@@ -7,10 +7,13 @@ use native.Mathlib.Omega.{arith}
 use lib.Dec.{T, ltb, eqb}
 use lib.ListN.{length, getD, List·getD-eq-default}
 use borrow.Author.Tests.{lt-ltb, le-ltb, eq-eqb, ne-eqb, ltb-false, ltb-true, eqb-true, not-false}
+use Rattle.block.specs.Edition.{edition1, isKnown, limitOf, headerBytes}
+use Rattle.block.specs.Kind.{isOther}
 use Rattle.block.specs.Lists.{wordCount}
 use Rattle.block.specs.Runs.{allBelow}
+use Rattle.block.proofs.EditionLaws.{limit-low}
 use Rattle.block.proofs.RunLaws.{below-at}
-use Rattle.block.specs.Refusal.{numberOf, isOverLimit, isOtherLength, conditionsOf, firstFrom, firstOf, Taken}
+use Rattle.block.specs.Refusal.{numberOf, Row, row, isOverLimit, isOtherLength, blockRows, firstOf, Taken}
 use Rattle.block.specs.declared.header.Header.{Header}
 use Rattle.block.specs.declared.refusal.Refusal.{Refusal}
 use Rattle.block.specs.declared.refusal.Refusal.the-variants.{Stub, Edition, Kind, ListLimit, Length, NoShape, Corners, Buffer, Nothing}
@@ -45,58 +48,65 @@ number-one-to-one a b e = sym (answer-of-number a) ∙ ap answerOf e ∙ answer-
 -- ---- a row for each return
 -- what the first three rows leave
 pub record Known (bs : List ℕ) (h : Header) : Type 0 where
-  pub whole : 20 ≤ length bs
-  pub edition-is : h .edition ≡ 1
-  pub kind-is : h .kind ≤ 3
+  pub whole : headerBytes edition1 ≤ length bs
+  pub edition-is : isKnown (h .edition) ≡ true
+  pub kind-is : isOther (h .kind) ≡ false
   pub zeros-are : h .zeros ≡ 0
 
-module _ (limit : ℕ) (bs : List ℕ) (h : Header) where
-  pub row-stub : length bs < 20 → 1 ≡ firstOf (conditionsOf limit bs h)
-  unfolding conditionsOf firstFrom
-  row-stub p = rw (lt-ltb _ 20 p)
+module _ (bs : List ℕ) (h : Header) where
+  pub row-stub : length bs < headerBytes edition1 → 1 ≡ firstOf (blockRows bs h)
+  unfolding blockRows firstOf
+  row-stub p = rw (lt-ltb _ (headerBytes edition1) p)
 
-  module _ (p : 20 ≤ length bs) where
-    pub row-edition : (h .edition ≡ 1 → ⊥) → 2 ≡ firstOf (conditionsOf limit bs h)
-    unfolding conditionsOf firstFrom
-    row-edition q = rw (le-ltb _ 20 p, ne-eqb _ 1 q)
+  module _ (p : headerBytes edition1 ≤ length bs) where
+    pub row-edition : isKnown (h .edition) ≡ false → 2 ≡ firstOf (blockRows bs h)
+    unfolding blockRows firstOf
+    row-edition q = rw (le-ltb _ (headerBytes edition1) p, q)
 
-    pub row-kind : h .edition ≡ 1 → 3 < h .kind → 3 ≡ firstOf (conditionsOf limit bs h)
-    unfolding conditionsOf firstFrom
-    row-kind q r = rw (le-ltb _ 20 p, eq-eqb _ 1 q, lt-ltb 3 _ r)
+    pub row-kind : isKnown (h .edition) ≡ true → isOther (h .kind) ≡ true → 3 ≡ firstOf (blockRows bs h)
+    unfolding blockRows firstOf
+    row-kind q r = rw (le-ltb _ (headerBytes edition1) p, q, r)
 
-    pub row-zeros : h .edition ≡ 1 → h .kind ≤ 3 → (h .zeros ≡ 0 → ⊥) → 3 ≡ firstOf (conditionsOf limit bs h)
-    unfolding conditionsOf firstFrom
-    row-zeros q r s = rw (le-ltb _ 20 p, eq-eqb _ 1 q, le-ltb 3 _ r, ne-eqb _ 0 s)
+    pub row-zeros : isKnown (h .edition) ≡ true → isOther (h .kind) ≡ false → (h .zeros ≡ 0 → ⊥) → 3 ≡ firstOf (blockRows bs h)
+    unfolding blockRows firstOf
+    row-zeros q r s = rw (le-ltb _ (headerBytes edition1) p, q, r, ne-eqb _ 0 s)
 
   module _ (k : Known bs h) where
     -- the rows from 4 on decide
-    rest : firstOf (conditionsOf limit bs h) ≡ firstFrom 4 (isOverLimit limit h ∷ isOtherLength bs h ∷ [])
-    unfolding conditionsOf firstFrom
-    rest = rw (le-ltb _ 20 (k .whole), eq-eqb _ 1 (k .edition-is), le-ltb 3 _ (k .kind-is), eq-eqb _ 0 (k .zeros-are))
+    rest : firstOf (blockRows bs h) ≡ firstOf (row ListLimit (isOverLimit h) ∷ row Length (isOtherLength bs h) ∷ [])
+    unfolding blockRows firstOf
+    rest = rw (le-ltb _ (headerBytes edition1) (k .whole), k .edition-is, k .kind-is, eq-eqb _ 0 (k .zeros-are))
 
-    pub row-limit : not (allBelow (suc limit) (h .counts)) ≡ true → 4 ≡ firstOf (conditionsOf limit bs h)
-    unfolding firstFrom
+    pub row-limit : not (allBelow (suc (limitOf (h .edition))) (h .counts)) ≡ true → 4 ≡ firstOf (blockRows bs h)
+    unfolding firstOf
     row-limit t = rw (rest, t)
 
-    module _ (t : not (allBelow (suc limit) (h .counts)) ≡ false) where
-      pub row-length : (length bs ≡ 4 * wordCount (h .kind) (h .alpha) (h .counts) → ⊥) → 5 ≡ firstOf (conditionsOf limit bs h)
-      unfolding firstFrom
+    module _ (t : not (allBelow (suc (limitOf (h .edition))) (h .counts)) ≡ false) where
+      pub row-length : (length bs ≡ 4 * wordCount h → ⊥) → 5 ≡ firstOf (blockRows bs h)
+      unfolding firstOf
       row-length u = rw (rest, t, ne-eqb _ _ u)
 
-      pub row-none : length bs ≡ 4 * wordCount (h .kind) (h .alpha) (h .counts) → 0 ≡ firstOf (conditionsOf limit bs h)
-      unfolding firstFrom
+      pub row-none : length bs ≡ 4 * wordCount h → 0 ≡ firstOf (blockRows bs h)
+      unfolding firstOf
       row-none u = rw (rest, t, eq-eqb _ _ u)
 
--- ---- the way back: where the number is 0 no condition holds
-abbrev NoneOf : List Bool → Type 0
+-- ---- the way back: where the number is 0 no condition holds, if each row answers something
+abbrev pub NoneOf : List Row → Type 0
 NoneOf [] = Unit {0}
-NoneOf (b ∷ bs) = (b ≡ false) × NoneOf bs
+NoneOf (r ∷ rs) = (r .holds ≡ false) × NoneOf rs
 
-none-of : (k : ℕ) (bs : List Bool) → firstFrom (suc k) bs ≡ 0 → NoneOf bs
-unfolding firstFrom
-none-of k [] e = tt
-none-of k (true ∷ bs) e = absurd (let h : suc k ≡ 0 = e in omega arith)
-none-of k (false ∷ bs) e = (refl, none-of (suc k) bs e)
+abbrev pub Answered : List Row → Type 0
+Answered [] = Unit {0}
+Answered (r ∷ rs) = (numberOf (r .answer) ≡ 0 → ⊥) × Answered rs
+
+pub none-of : (rs : List Row) → Answered rs → firstOf rs ≡ 0 → NoneOf rs
+unfolding firstOf
+none-of [] a e = tt
+none-of (r ∷ rs) a e = go (r .holds) refl (λ z. none-of rs (a .1) z) e
+  where
+    go : (b : Bool) → r .holds ≡ b → (firstOf rs ≡ 0 → NoneOf rs) → cond b (numberOf (r .answer)) (firstOf rs) ≡ 0 → (r .holds ≡ false) × NoneOf rs
+    go true q k z = absurd (a .0 z)
+    go false q k z = (q, k z)
 
 pub or-none : (a b : Bool) → (a || b) ≡ false → (a ≡ false) × (b ≡ false)
 or-none false false e = (refl, refl)
@@ -111,34 +121,48 @@ counts-within limit ns e k = go (ltb k (length ns)) refl
     go true q = omega (arith, below-at (suc limit) ns (subst T (sym e) tt) k (ltb-true k _ q))
     go false q = omega (arith, List·getD-eq-default ns 0 {n = k} (ltb-false k _ q))
 
-pub taken-of : (limit : ℕ) (bs : List ℕ) (h : Header) → firstOf (conditionsOf limit bs h) ≡ 0 → Taken limit bs h
-unfolding conditionsOf
-taken-of limit bs h e =
-    let a = none-of 0 (conditionsOf limit bs h) e in
-    let k = or-none (ltb 3 (h .kind)) (not (eqb (h .zeros) 0)) (a .1 .1 .0) in
+-- each of the first five rows answers something
+pub block-answered : (bs : List ℕ) (h : Header) → Answered (blockRows bs h)
+unfolding blockRows
+block-answered bs h = ((λ z. omega arith), ((λ z. omega arith), ((λ z. omega arith), ((λ z. omega arith), ((λ z. omega arith), tt)))))
+
+pub taken-of : (bs : List ℕ) (h : Header) → firstOf (blockRows bs h) ≡ 0 → Taken bs h
+unfolding blockRows
+taken-of bs h e =
+    let a = none-of (blockRows bs h) (block-answered bs h) e in
+    let k = or-none (isOther (h .kind)) (not (eqb (h .zeros) 0)) (a .1 .1 .0) in
     record {
-      whole = ltb-false (length bs) 20 (a .0);
-      edition-is = eqb-true _ _ (not-false _ (a .1 .0));
-      kind-is = ltb-false 3 _ (k .0);
+      whole = ltb-false (length bs) (headerBytes edition1) (a .0);
+      edition-is = not-false _ (a .1 .0);
+      kind-is = k .0;
       zeros-are = eqb-true _ _ (not-false _ (k .1));
-      counts-are = λ k. counts-within limit (h .counts) (not-false _ (a .1 .1 .1 .0)) k;
+      counts-are = λ k. counts-within (limitOf (h .edition)) (h .counts) (not-false _ (a .1 .1 .1 .0)) k;
       length-is = eqb-true _ _ (not-false _ (a .1 .1 .1 .1 .0));
     }
 
+-- no count of a block that is not refused is above the highest limit
+pub count-low : {bs : List ℕ} {h : Header} → Taken bs h → (k : ℕ) → getD (h .counts) k 0 ≤ 131072
+count-low {bs} {h} T k = omega (arith, T .counts-are k, limit-low (h .edition))
+
 -- ---- a table that goes on with ys
-pub first-before : (k : ℕ) (xs ys : List Bool) → (firstFrom (suc k) xs ≡ 0 → ⊥) → firstFrom (suc k) (xs ++ ys) ≡ firstFrom (suc k) xs
-unfolding firstFrom
-first-before k [] ys h = absurd (h refl)
-first-before k (true ∷ xs) ys h = refl
-first-before k (false ∷ xs) ys h = first-before (suc k) xs ys h
+pub answered-append : (xs ys : List Row) → Answered xs → Answered ys → Answered (xs ++ ys)
+answered-append [] ys a b = b
+answered-append (x ∷ xs) ys a b = (a .0, answered-append xs ys (a .1) b)
 
-pub first-after : (k : ℕ) (xs ys : List Bool) → firstFrom (suc k) xs ≡ 0 → firstFrom (suc k) (xs ++ ys) ≡ firstFrom (suc k + length xs) ys
-unfolding firstFrom
-first-after k [] ys h = let e : suc k + 0 ≡ suc k = omega arith in rw e
-first-after k (true ∷ xs) ys h = absurd (let z : suc k ≡ 0 = h in omega arith)
-first-after k (false ∷ xs) ys h = let e : suc k + suc (length xs) ≡ suc (suc k) + length xs = omega arith in rw e (first-after (suc k) xs ys h)
+pub first-before : (xs ys : List Row) → (firstOf xs ≡ 0 → ⊥) → firstOf (xs ++ ys) ≡ firstOf xs
+unfolding firstOf
+first-before [] ys h = absurd (h refl)
+first-before (x ∷ xs) ys h = go (x .holds) (λ k. first-before xs ys k) h
+  where
+    go : (b : Bool) → ((firstOf xs ≡ 0 → ⊥) → firstOf (xs ++ ys) ≡ firstOf xs) → (cond b (numberOf (x .answer)) (firstOf xs) ≡ 0 → ⊥) → cond b (numberOf (x .answer)) (firstOf (xs ++ ys)) ≡ cond b (numberOf (x .answer)) (firstOf xs)
+    go true f k = refl
+    go false f k = f k
 
--- the rows 6 and on, where none of the first five holds
-pub first-of-rest : (limit : ℕ) (bs : List ℕ) (h : Header) (ys : List Bool) → firstOf (conditionsOf limit bs h) ≡ 0 → firstOf (conditionsOf limit bs h ++ ys) ≡ firstFrom 6 ys
-unfolding conditionsOf
-first-of-rest limit bs h ys e = first-after 0 (conditionsOf limit bs h) ys e
+pub first-after : (xs ys : List Row) → Answered xs → firstOf xs ≡ 0 → firstOf (xs ++ ys) ≡ firstOf ys
+unfolding firstOf
+first-after [] ys a h = refl
+first-after (x ∷ xs) ys a h = go (x .holds) (λ z. first-after xs ys (a .1) z) h
+  where
+    go : (b : Bool) → (firstOf xs ≡ 0 → firstOf (xs ++ ys) ≡ firstOf ys) → cond b (numberOf (x .answer)) (firstOf xs) ≡ 0 → cond b (numberOf (x .answer)) (firstOf (xs ++ ys)) ≡ firstOf ys
+    go true f z = absurd (a .0 z)
+    go false f z = f z

@@ -1,13 +1,15 @@
--- Rows of the table of refusals, of whole blocks, at the limit 8,192. FORMAT 3.
+-- Rows of the table of refusals, of whole blocks. FORMAT 3.
 use Prim.Native.Nat.{ℕ, _/_, _%_, _^_}
 use mathlib.Core.Path.{_≡_, refl}
 use mathlib.Core.List.{List, [], _∷_, _++_}
 use lib.ListN.{take, set}
 use Rattle.bits.specs.Bits.{field}
+use Rattle.block.specs.Edition.{edition1, editionOf, editionIn, countsAt, zerosAt, headerBytes, wordsAhead}
+use Rattle.block.specs.Kind.{kindOf}
 use Rattle.block.specs.Header.{headerOf, countsOf}
 use Rattle.block.specs.Lists.{widths, wordsIn, wordCount}
 use Rattle.block.specs.Runs.{allBelow}
-use Rattle.block.specs.Refusal.{conditionsOf, conditions, firstFrom, firstOf}
+use Rattle.block.specs.Refusal.{blockRows, firstOf}
 
 -- the bytes of words
 abbrev pub bytesOf : List ℕ → List ℕ
@@ -30,11 +32,11 @@ unfoldable pub grid : List ℕ → List ℕ
 grid header = header ++ gridRest
 
 pub grid-counts : headerOf (grid gridHeader) .counts ≡ 2 ∷ 2 ∷ 0 ∷ 4 ∷ 0 ∷ 0 ∷ 0 ∷ 0 ∷ []
-unfolding grid gridHeader gridRest headerOf countsOf field
+unfolding grid gridHeader gridRest headerOf countsOf editionOf edition1 field
 grid-counts = refl
 
 abbrev pub number : List ℕ → ℕ
-number bs = firstOf (conditions 8192 bs)
+number bs = firstOf (blockRows bs (headerOf bs))
 
 -- byte 0 is 4 bits of edition, 3 of kind, ccw; count 0 is the last 4 bits of byte 2, byte 3 and the first 2 bits of byte 4
 pub table-rows : (number (grid gridHeader) ≡ 0)  -- the grid is taken
@@ -45,5 +47,5 @@ pub table-rows : (number (grid gridHeader) ≡ 0)  -- the grid is taken
     × (number (grid (set (set gridHeader 2 8) 4 64)) ≡ 4)  -- count 0 is 8,193
     × (number (grid (set (set gridHeader 2 8) 4 0)) ≡ 0)  -- count 0 is 8,192: a side has no words
     × (number (grid gridHeader ++ 0 ∷ []) ≡ 5)  -- a byte too many
-unfolding grid gridHeader gridRest conditionsOf firstFrom allBelow headerOf countsOf widths wordsIn wordCount field
+unfolding grid gridHeader gridRest blockRows firstOf allBelow headerOf countsOf editionOf edition1 widths wordsIn wordCount field
 table-rows = (refl, refl, refl, refl, refl, refl, refl, refl)

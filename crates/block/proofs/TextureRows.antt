@@ -4,21 +4,21 @@ use mathlib.Core.Path.{_≡_, refl}
 use mathlib.Core.Bool.{true, false}
 use lib.Ieee.{ofBits, toBits, add, sub, mul}
 use Rattle.bits.specs.declared.Words2.{Words2}
-use Rattle.block.specs.Crease.{zero}
-use Rattle.block.specs.Texture.{one, applied, uvWords}
+use Rattle.math.specs.Vector.{zeroF, oneF}
+use Rattle.block.specs.Texture.{applied, uvWords}
 use Rattle.block.specs.declared.texture.TexTransform.{TexTransform}
 
 unfoldable pub identity : TexTransform
 identity =
     record {
-      «center_s» = zero;
-      «center_t» = zero;
-      sine = zero;
-      cosine = one;
-      «scale_s» = one;
-      «scale_t» = one;
-      «translation_s» = zero;
-      «translation_t» = zero;
+      «center_s» = zeroF;
+      «center_t» = zeroF;
+      sine = zeroF;
+      cosine = oneF;
+      «scale_s» = oneF;
+      «scale_t» = oneF;
+      «translation_s» = zeroF;
+      «translation_t» = zeroF;
     }
 
 abbrev words : ℕ → ℕ → Words2

@@ -1,4 +1,6 @@
 -- The definitions that the contracts of `block` cite.
+pub mod Edition
+pub mod Kind
 pub mod Header
 pub mod Lists
 pub mod Refusal

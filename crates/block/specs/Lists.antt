@@ -2,8 +2,10 @@
 use Prim.Native.Nat.{ℕ, _+_, _*_}
 use mathlib.Core.Bool.{Bool, cond}
 use mathlib.Core.List.{List, [], _∷_}
-use lib.Dec.{eqb, ltb}
 use lib.ListN.{getD, take, drop}
+use Rattle.block.specs.Edition.{editionOf, wordsAhead}
+use Rattle.block.specs.Kind.{byKind}
+use Rattle.block.specs.declared.kind.Kind.{Kind}
 use Rattle.block.specs.declared.header.Header.{Header}
 use Rattle.block.specs.declared.lists.Place.{Place}
 
@@ -23,9 +25,16 @@ gridWidths alpha = 0 ∷ 0 ∷ colorWidth alpha ∷ 1 ∷ 3 ∷ 0 ∷ 2 ∷ 0 �
 abbrev pub extrusionWidths : List ℕ
 extrusionWidths = 3 ∷ 2 ∷ 2 ∷ 5 ∷ 0 ∷ 0 ∷ 0 ∷ 0 ∷ []
 
+-- FORMAT 2.4: a kind that there is not has no lists
+abbrev pub noWidths : List ℕ
+noWidths = 0 ∷ 0 ∷ 0 ∷ 0 ∷ 0 ∷ 0 ∷ 0 ∷ 0 ∷ []
+
 -- FORMAT 2.4: the words of an entry of each list, by kind and alpha
-unfoldable pub widths : ℕ → Bool → List ℕ
-widths kind alpha = cond (ltb kind 2) (setWidths alpha) (cond (eqb kind 2) (gridWidths alpha) extrusionWidths)
+abbrev pub widthsBy : Kind → Bool → List ℕ
+widthsBy kind alpha = byKind kind (setWidths alpha) (setWidths alpha) (gridWidths alpha) extrusionWidths noWidths
+
+unfoldable pub widths : Header → List ℕ
+widths h = widthsBy (h .kind) (h .alpha)
 
 -- FORMAT 2.5: the words of lists with these widths and counts
 unfoldable pub wordsIn : List ℕ → List ℕ → ℕ
@@ -33,21 +42,24 @@ wordsIn [] ns = 0
 wordsIn (w ∷ ws) [] = 0
 wordsIn (w ∷ ws) (n ∷ ns) = w * n + wordsIn ws ns
 
--- FORMAT 2.5: the header's 5 words, twelve words, the lists
-unfoldable pub wordCount : ℕ → Bool → List ℕ → ℕ
-wordCount kind alpha ns = 17 + wordsIn (widths kind alpha) ns
+-- FORMAT 2.5: the header's words and twelve words, then the lists
+abbrev pub ahead : Header → ℕ
+ahead h = wordsAhead (editionOf (h .edition))
+
+unfoldable pub wordCount : Header → ℕ
+wordCount h = ahead h + wordsIn (widths h) (h .counts)
 
 -- FORMAT 2.5: the word at which list k starts
-unfoldable pub listAt : ℕ → Bool → List ℕ → ℕ → ℕ
-listAt kind alpha ns k = 17 + wordsIn (take k (widths kind alpha)) ns
+unfoldable pub listAt : Header → ℕ → ℕ
+listAt h k = ahead h + wordsIn (take k (widths h)) (h .counts)
 
 -- FORMAT 2.5: the words of list k; from 8 on there are none
-unfoldable pub listSize : ℕ → Bool → List ℕ → ℕ → ℕ
-listSize kind alpha ns k = getD (widths kind alpha) k 0 * getD ns k 0
+unfoldable pub listSize : Header → ℕ → ℕ
+listSize h k = getD (widths h) k 0 * getD (h .counts) k 0
 
 -- FORMAT 2.5: where list k lies, in bytes
 unfoldable pub placeOf : Header → ℕ → Place
-placeOf h k = record { at = 4 * listAt (h .kind) (h .alpha) (h .counts) k; len = 4 * listSize (h .kind) (h .alpha) (h .counts) k }
+placeOf h k = record { at = 4 * listAt h k; len = 4 * listSize h k }
 
 -- FORMAT 2.5: the bytes of list k
 abbrev pub listBytes : List ℕ → Header → ℕ → List ℕ

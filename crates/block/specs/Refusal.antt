@@ -1,11 +1,12 @@
 -- The table of refusals: the number of each answer, and the conditions of the rows 1 to 5. FORMAT 3.
 use Prim.Native.Nat.{ℕ, suc, _*_, _≤_}
 use mathlib.Core.Path.{_≡_}
-use mathlib.Core.Bool.{Bool, false, not, _||_, cond}
+use mathlib.Core.Bool.{Bool, true, false, not, _||_, cond}
 use mathlib.Core.List.{List, [], _∷_}
 use lib.Dec.{eqb, ltb}
 use lib.ListN.{length, getD}
-use Rattle.block.specs.Header.{headerOf}
+use Rattle.block.specs.Edition.{edition1, isKnown, limitOf, headerBytes}
+use Rattle.block.specs.Kind.{isOther}
 use Rattle.block.specs.Lists.{wordCount}
 use Rattle.block.specs.Runs.{allBelow}
 use Rattle.block.specs.declared.header.Header.{Header}
@@ -24,48 +25,48 @@ numberOf Corners = 7
 numberOf Buffer = 8
 numberOf Nothing = 0
 
--- FORMAT 3, 1, stub: fewer than 20 bytes
+-- FORMAT 3, 1, stub: fewer bytes than the header of edition 1
 abbrev pub isStub : List ℕ → Bool
-isStub bs = ltb (length bs) 20
+isStub bs = ltb (length bs) (headerBytes edition1)
 
 -- FORMAT 3, 2, edition: edition is not 1
 abbrev pub isOtherEdition : Header → Bool
-isOtherEdition h = not (eqb (h .edition) 1)
+isOtherEdition h = not (isKnown (h .edition))
 
--- FORMAT 3, 3, kind: kind 4 to 7, or one of the 28 bits set
+-- FORMAT 3, 3, kind: kind 4 to 7, or one of the zero bits set
 abbrev pub isOtherKind : Header → Bool
-isOtherKind h = ltb 3 (h .kind) || not (eqb (h .zeros) 0)
+isOtherKind h = isOther (h .kind) || not (eqb (h .zeros) 0)
 
--- FORMAT 3, 4, list limit: a count above the limit
-abbrev pub isOverLimit : ℕ → Header → Bool
-isOverLimit limit h = not (allBelow (suc limit) (h .counts))
+-- FORMAT 3, 4, list limit: a count above the edition's limit
+abbrev pub isOverLimit : Header → Bool
+isOverLimit h = not (allBelow (suc (limitOf (h .edition))) (h .counts))
 
 -- FORMAT 3, 5, length: bytes do not end with the last word
 abbrev pub isOtherLength : List ℕ → Header → Bool
-isOtherLength bs h = not (eqb (length bs) (4 * wordCount (h .kind) (h .alpha) (h .counts)))
+isOtherLength bs h = not (eqb (length bs) (4 * wordCount h))
 
--- FORMAT 3: the conditions 1 to 5 in the table's order, of bytes and a header
-unfoldable pub conditionsOf : ℕ → List ℕ → Header → List Bool
-conditionsOf limit bs h = isStub bs ∷ isOtherEdition h ∷ isOtherKind h ∷ isOverLimit limit h ∷ isOtherLength bs h ∷ []
+-- FORMAT 3: a row of the table: its answer, and whether its condition holds
+pub record Row : Type 0 where
+  pub answer : Refusal
+  pub holds : Bool
 
--- FORMAT 3: the conditions 1 to 5 of a block
-abbrev pub conditions : ℕ → List ℕ → List Bool
-conditions limit bs = conditionsOf limit bs (headerOf bs)
+abbrev pub row : Refusal → Bool → Row
+row answer holds = record { answer = answer; holds = holds }
 
--- FORMAT 3: the number of the first that holds, where the first of all has number k; 0 where none does
-unfoldable pub firstFrom : ℕ → List Bool → ℕ
-firstFrom k [] = 0
-firstFrom k (b ∷ bs) = cond b k (firstFrom (suc k) bs)
+-- FORMAT 3: the rows that bytes and a header decide, in the order in which they are tested
+unfoldable pub blockRows : List ℕ → Header → List Row
+blockRows bs h = row Stub (isStub bs) ∷ row Edition (isOtherEdition h) ∷ row Kind (isOtherKind h) ∷ row ListLimit (isOverLimit h) ∷ row Length (isOtherLength bs h) ∷ []
 
--- FORMAT 3: the table's answer, where its rows are numbered from 1
-abbrev pub firstOf : List Bool → ℕ
-firstOf bs = firstFrom 1 bs
+-- FORMAT 3: the number of the first row that holds, 0 where none does
+unfoldable pub firstOf : List Row → ℕ
+firstOf [] = 0
+firstOf (r ∷ rs) = cond (r .holds) (numberOf (r .answer)) (firstOf rs)
 
 -- what is known of a block where none of the five holds
-pub record Taken (limit : ℕ) (bs : List ℕ) (h : Header) : Type 0 where
-  pub whole : 20 ≤ length bs
-  pub edition-is : h .edition ≡ 1
-  pub kind-is : h .kind ≤ 3
+pub record Taken (bs : List ℕ) (h : Header) : Type 0 where
+  pub whole : headerBytes edition1 ≤ length bs
+  pub edition-is : isKnown (h .edition) ≡ true
+  pub kind-is : isOther (h .kind) ≡ false
   pub zeros-are : h .zeros ≡ 0
-  pub counts-are : (k : ℕ) → getD (h .counts) k 0 ≤ limit
-  pub length-is : length bs ≡ 4 * wordCount (h .kind) (h .alpha) (h .counts)
+  pub counts-are : (k : ℕ) → getD (h .counts) k 0 ≤ limitOf (h .edition)
+  pub length-is : length bs ≡ 4 * wordCount h

@@ -5,15 +5,16 @@ use mathlib.Core.List.{List}
 use lib.Ieee.{Float, binary32, ofBits}
 use lib.Ieee.Scale.{finite}
 use Rattle.bits.specs.Bits.{field}
-use Rattle.block.specs.Crease.{zero, creaseOf}
-use Rattle.block.specs.Texture.{one}
+use Rattle.math.specs.Vector.{zeroF, oneF}
+use Rattle.block.specs.Edition.{editionIn}
+use Rattle.block.specs.Crease.{creaseOf}
 use Rattle.block.specs.declared.texture.Pair.{Pair}
 use Rattle.block.specs.declared.texture.TexTransform.{TexTransform}
 use Rattle.block.specs.declared.settings.Settings.{Settings}
 
--- FORMAT 2.3: float k of the twelve, after 160 bits
+-- FORMAT 2.3: float k of the twelve, after the words of the header
 abbrev pub floatAt : List ℕ → ℕ → Float
-floatAt bs k = ofBits binary32 (field bs (160 + 32 * k) 32)
+floatAt bs k = ofBits binary32 (field bs (32 * (editionIn bs .«header_words» + k)) 32)
 
 -- FORMAT 2.3: x, or the other where x is not finite
 abbrev pub finiteOr : Float → Float → Float
@@ -30,10 +31,10 @@ pairAt bs k s t = pairOr (record { s = floatAt bs k; t = floatAt bs (k + 1) }) (
 -- FORMAT 2.3, TexTransform::from_node: centre, sine and cosine of the rotation, scale, translation
 unfoldable pub transformOf : List ℕ → TexTransform
 transformOf bs =
-    let center = pairAt bs 4 zero zero in
-    let rotation = pairAt bs 6 zero one in
-    let scale = pairAt bs 8 one one in
-    let translation = pairAt bs 10 zero zero in
+    let center = pairAt bs 4 zeroF zeroF in
+    let rotation = pairAt bs 6 zeroF oneF in
+    let scale = pairAt bs 8 oneF oneF in
+    let translation = pairAt bs 10 zeroF zeroF in
     record {
       «center_s» = center .s;
       «center_t» = center .t;
@@ -49,8 +50,8 @@ transformOf bs =
 unfoldable pub settingsOf : List ℕ → Settings
 settingsOf bs =
     record {
-      crease = creaseOf (finiteOr (floatAt bs 0) zero) (floatAt bs 1);
-      «x_spacing» = finiteOr (floatAt bs 2) one;
-      «z_spacing» = finiteOr (floatAt bs 3) one;
+      crease = creaseOf (finiteOr (floatAt bs 0) zeroF) (floatAt bs 1);
+      «x_spacing» = finiteOr (floatAt bs 2) oneF;
+      «z_spacing» = finiteOr (floatAt bs 3) oneF;
       transform = transformOf bs;
     }

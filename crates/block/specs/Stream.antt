@@ -11,6 +11,8 @@ use Rattle.bits.specs.Bits.{entries}
 use Rattle.bits.specs.declared.Words2.{Words2}
 use Rattle.bits.specs.declared.Words3.{Words3}
 use Rattle.bits.specs.declared.Words4.{Words4}
+use Rattle.block.specs.Kind.{isIndexed}
+use Rattle.block.specs.declared.kind.Kind.{Kind}
 use Rattle.block.specs.declared.value.Found.{Found}
 use Rattle.block.specs.declared.value.Found.the-variants.{At, Missing}
 use Rattle.block.specs.declared.stream.Stream.{Stream}
@@ -19,8 +21,8 @@ use Rattle.block.specs.Lists.{placeOf}
 use Rattle.block.specs.Value.{countOf, value2At, value3At, value4At}
 
 -- FORMAT 2.4: only face and line sets have index lists
-abbrev pub indexBytes : ℕ → ℕ → ℕ
-indexBytes kind len = cond (ltb kind 2) len 0
+abbrev pub indexBytes : Kind → ℕ → ℕ
+indexBytes kind len = cond (isIndexed kind) len 0
 
 -- FORMAT 2.4: the attribute whose values are list k, and whose own index list is the next one
 unfoldable pub streamOf : Header → Bool → ℕ → Stream

@@ -2,6 +2,7 @@
 use Prim.Native.Nat.{ℕ}
 use mathlib.Core.Bool.{Bool, cond}
 use lib.Ieee.{Float, binary32, ofBits, toBits, add, sub, mul}
+use Rattle.math.specs.Vector.{oneF}
 use Rattle.bits.specs.declared.Words2.{Words2}
 use Rattle.block.specs.declared.texture.Pair.{Pair}
 use Rattle.block.specs.declared.texture.TexTransform.{TexTransform}
@@ -15,13 +16,9 @@ applied x p =
     let d = add binary32 (mul binary32 (x .sine) a) (mul binary32 (x .cosine) b) in
     record { s = sub binary32 (mul binary32 c (x .«scale_s»)) (x .«center_s»); t = sub binary32 (mul binary32 d (x .«scale_t»)) (x .«center_t») }
 
--- the f32 1, by its bits
-abbrev pub one : Float
-one = ofBits binary32 0x3f80_0000
-
 -- FORMAT 7.3: the word of 1 - t; a NaN is 7fc00000
 abbrev pub flipped : Float → ℕ
-flipped t = toBits binary32 (sub binary32 one t)
+flipped t = toBits binary32 (sub binary32 oneF t)
 
 -- FORMAT 7.3: the words of a pair that is written
 abbrev pub written : Pair → Words2

@@ -1,6 +1,8 @@
 // The block of a shape (FORMAT 2, 3, 6 and 7): its header, lists and twelve words, what is refused of it, its runs, and what an attribute gives at a corner.
 pub mod crease;
+pub mod edition;
 pub mod header;
+pub mod kind;
 pub mod lists;
 pub mod number;
 pub mod refusal;
@@ -12,8 +14,16 @@ pub mod value;
 
 pub use crease::CreaseRule;
 pub use crease::crease_of;
+pub use edition::Edition;
+pub use edition::LIMIT;
+pub use edition::edition_in;
+pub use edition::edition_of;
+pub use edition::limit_of;
 pub use header::Header;
 pub use header::read_header;
+pub use kind::Kind;
+pub use kind::is_indexed;
+pub use kind::is_lines;
 pub use lists::Place;
 pub use lists::block_bytes;
 pub use lists::list_part;

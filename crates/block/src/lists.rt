@@ -2,8 +2,10 @@
 ghost use mathlib.Core.Path.{_≡_};
 ghost use Prim.Native.Nat.{_*_, _^_, _≤_, _<_};
 ghost use lib.ListN.{take};
-ghost use Rattle.block.specs.Lists.{colorWidth, widths, wordsIn, wordCount, placeOf, listBytes};
+ghost use Rattle.block.specs.Lists.{colorWidth, widthsBy, ahead, wordsIn, wordCount, placeOf, listBytes};
+use crate::edition::edition_of;
 use crate::header::Header;
+use crate::kind::Kind;
 
 // Where a list lies, in bytes.
 pub struct Place {
@@ -18,17 +20,25 @@ fn color_width(alpha: bool) -> u8
 }
 
 // The words of an entry of each list.
-fn list_widths(kind: u32, alpha: bool) -> [u8; 8]
-    ensures { λ r. ⌜ r ≡ widths kind alpha ⌝ }
+fn list_widths(kind: Kind, alpha: bool) -> [u8; 8]
+    ensures { λ r. ⌜ r ≡ widthsBy kind alpha ⌝ }
 {
     let c = color_width(alpha);
-    if kind < 2 {
-        return [3, 1, c, 1, 3, 1, 2, 1];
+    match kind {
+        Kind::FaceSet => [3, 1, c, 1, 3, 1, 2, 1],
+        Kind::LineSet => [3, 1, c, 1, 3, 1, 2, 1],
+        Kind::Grid => [0, 0, c, 1, 3, 0, 2, 0],
+        Kind::Extrusion => [3, 2, 2, 5, 0, 0, 0, 0],
+        Kind::Other => [0, 0, 0, 0, 0, 0, 0, 0],
     }
-    if kind == 2 {
-        return [0, 0, c, 1, 3, 0, 2, 0];
-    }
-    [3, 2, 2, 5, 0, 0, 0, 0]
+}
+
+// The words before the lists: those of the header, and twelve.
+fn words_ahead(h: Header) -> usize
+    ensures { λ r. ⌜ (r ≡ ahead h) × (r < 2 ^ 40) ⌝ }
+{
+    let e = edition_of(h.edition);
+    e.header_words as usize + 12
 }
 
 fn list_words(width: u8, count: u32) -> usize
@@ -51,11 +61,12 @@ fn words_before(w: [u8; 8], n: [u32; 8], k: usize) -> usize
 
 // How many bytes a block with this header has.
 pub fn block_bytes(h: Header) -> usize
-    ensures { λ r. ⌜ r ≡ 4 * wordCount (h .kind) (h .alpha) (h .counts) ⌝ }
+    ensures { λ r. ⌜ r ≡ 4 * wordCount h ⌝ }
 {
     let n = h.counts;
-    let w = list_widths(h.kind, h.alpha);
-    4 * (17 + words_before(w, n, 8))
+    let kind = h.kind;
+    let w = list_widths(kind, h.alpha);
+    4 * (words_ahead(h) + words_before(w, n, 8))
 }
 
 // Where list `k` lies. There is none from 8 on: no bytes, at the block's end.
@@ -63,15 +74,16 @@ pub fn list_place(h: Header, k: usize) -> Place
     ensures { λ r. ⌜ r ≡ placeOf h k ⌝ }
 {
     let n = h.counts;
-    let w = list_widths(h.kind, h.alpha);
+    let kind = h.kind;
+    let w = list_widths(kind, h.alpha);
     if k < 8 {
         return Place {
-            at: 4 * (17 + words_before(w, n, k)),
+            at: 4 * (words_ahead(h) + words_before(w, n, k)),
             len: 4 * list_words(w[k], n[k]),
         };
     }
     Place {
-        at: 4 * (17 + words_before(w, n, 8)),
+        at: 4 * (words_ahead(h) + words_before(w, n, 8)),
         len: 0,
     }
 }

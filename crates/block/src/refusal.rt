@@ -3,9 +3,14 @@ ghost use mathlib.Core.Path.{_≡_};
 ghost use mathlib.Core.Bool.{not};
 ghost use Prim.Native.Nat.{suc};
 ghost use lib.Dec.{eqb};
+ghost use Rattle.block.specs.Edition.{edition1, headerBytes};
 ghost use Rattle.block.specs.Runs.{allBelow};
-ghost use Rattle.block.specs.Refusal.{conditions, firstOf, numberOf};
-use crate::header::read_header;
+ghost use Rattle.block.specs.Refusal.{blockRows, firstOf, numberOf};
+use crate::edition::edition_of;
+use crate::edition::is_known;
+use crate::edition::limit_of;
+use crate::header::Header;
+use crate::kind::is_other;
 use crate::lists::block_bytes;
 
 pub enum Refusal {
@@ -43,6 +48,13 @@ pub fn is_taken(answer: Refusal) -> bool
     number_of(answer) == 0
 }
 
+// The bytes of the header of edition 1: no block is shorter.
+fn header_bytes() -> usize
+    ensures { λ r. ⌜ r ≡ headerBytes edition1 ⌝ }
+{
+    4 * edition_of(1).header_words as usize
+}
+
 fn over_limit(n: [u32; 8], limit: u32) -> bool
     ensures { λ r. ⌜ r ≡ not (allBelow (suc limit) n) ⌝ }
 {
@@ -55,24 +67,24 @@ fn over_limit(n: [u32; 8], limit: u32) -> bool
 }
 
 // The first of the rows 1 to 5 that holds.
-pub fn refusal_of(block: &[u8], limit: u32) -> Refusal
-    ensures { λ r. ⌜ numberOf r ≡ firstOf (conditions limit (now (block .entry))) ⌝ }
+pub fn refusal_of(block: &[u8], h: Header) -> Refusal
+    ensures { λ r. ⌜ numberOf r ≡ firstOf (blockRows (now (block .entry)) h) ⌝ }
 {
-    if block.len() < 20 {
+    if block.len() < header_bytes() {
         return Refusal::Stub;
     }
-    let h = read_header(block);
-    if h.edition != 1 {
+    if is_known(h.edition) {} else {
         return Refusal::Edition;
     }
-    if 3 < h.kind {
+    let kind = h.kind;
+    if is_other(kind) {
         return Refusal::Kind;
     }
     if h.zeros != 0 {
         return Refusal::Kind;
     }
     let n = h.counts;
-    if over_limit(n, limit) {
+    if over_limit(n, limit_of(h.edition)) {
         return Refusal::ListLimit;
     }
     if block.len() != block_bytes(h) {

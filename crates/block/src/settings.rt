@@ -4,6 +4,7 @@ ghost use Prim.Native.Nat.{_<_};
 ghost use Rattle.block.specs.Settings.{floatAt, finiteOr, pairOr, pairAt, transformOf, settingsOf};
 use crate::crease::CreaseRule;
 use crate::crease::crease_of;
+use crate::edition::edition_in;
 use crate::texture::Pair;
 use crate::texture::TexTransform;
 
@@ -19,7 +20,8 @@ fn float_at(block: &[u8], k: u32) -> f32
     requires { ⌜ k < 12 ⌝ }
     ensures { λ r. ⌜ r ≡ floatAt (now (block .entry)) k ⌝ }
 {
-    math::of_bits(bits::field_at(block, 160 + 32 * k, 32))
+    let e = edition_in(block);
+    math::of_bits(bits::field_at(block, 32 * (e.header_words + k), 32))
 }
 
 fn finite_or(x: f32, other: f32) -> f32

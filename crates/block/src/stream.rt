@@ -4,6 +4,8 @@ ghost use Prim.Native.Nat.{_<_};
 ghost use mathlib.Core.Bool.{true};
 ghost use Rattle.block.specs.Stream.{indexBytes, streamOf, isNegative, chosen, numberIn, numberAt, foundAt, get2At, get3At, get4At};
 use crate::header::Header;
+use crate::kind::Kind;
+use crate::kind::is_indexed;
 use crate::lists::list_place;
 use crate::value::Found;
 use crate::value::value2;
@@ -23,10 +25,10 @@ pub struct Stream {
 }
 
 // The bytes of an attribute's own index list. Grids have none.
-fn index_bytes(kind: u32, len: usize) -> usize
+fn index_bytes(kind: Kind, len: usize) -> usize
     ensures { λ r. ⌜ r ≡ indexBytes kind len ⌝ }
 {
-    if kind < 2 {
+    if is_indexed(kind) {
         return len;
     }
     0
@@ -39,12 +41,13 @@ fn stream_of(h: Header, per_vertex: bool, k: usize) -> Stream
 {
     let values = list_place(h, k);
     let index = list_place(h, k + 1);
+    let kind = h.kind;
     Stream {
         per_vertex,
         values_at: values.at,
         values_len: values.len,
         index_at: index.at,
-        index_len: index_bytes(h.kind, index.len),
+        index_len: index_bytes(kind, index.len),
     }
 }
 

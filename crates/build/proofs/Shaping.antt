@@ -23,10 +23,12 @@ unfolding madeOf slicesOf
 shaped-of {h} {widths} {M} {o} {m} {r} n c t B = record {
   vertices = B .vertices;
   count = B .count;
-  sources = B .sources;
-  positions = B .positions;
-  normals = B .normals ∙ ap (λ (b : Bool). over (cond b (slicesOf M .normals) []) (o .normals)) (sym n);
-  colours = B .colours ∙ ap (λ (l : List ℕ). over l (o .colours)) (ap (λ (k : ℕ). part k (slicesOf M .colours)) c ∙ part-made (makesColours h) 3 (slicesOf M .colours));
-  textures = B .textures ∙ ap (λ (l : List ℕ). over l (o .textures)) (ap (λ (k : ℕ). part k (slicesOf M .textures)) t ∙ part-made (makesTextures h) 1 (slicesOf M .textures));
-  indices = B .indices;
+  slices = λ i. record {
+    sources = (B .sources) i;
+    positions = (B .positions) i;
+    normals = (B .normals ∙ ap (λ (b : Bool). over (cond b (slicesOf M .normals) []) (o .normals)) (sym n)) i;
+    colours = (B .colours ∙ ap (λ (l : List ℕ). over l (o .colours)) (ap (λ (k : ℕ). part k (slicesOf M .colours)) c ∙ part-made (makesColours h) 3 (slicesOf M .colours))) i;
+    textures = (B .textures ∙ ap (λ (l : List ℕ). over l (o .textures)) (ap (λ (k : ℕ). part k (slicesOf M .textures)) t ∙ part-made (makesTextures h) 1 (slicesOf M .textures))) i;
+    indices = (B .indices) i;
+  };
 }

@@ -2,20 +2,21 @@
 use mathlib.Core.Path.{_≡_, refl, sym, ap, _∙_}
 use mathlib.Core.Bool.{false}
 use mathlib.Core.List.{List}
-use Prim.Native.Nat.{ℕ, _+_, _*_, _≤_, _<_}
+use Prim.Native.Nat.{ℕ, _+_, _*_, _^_, _≤_, _<_}
 use native.Mathlib.Nat.{mul-assoc, mul-comm}
 use native.Mathlib.Omega.{arith}
 use borrow.Author.Tests.{ltb-false}
 use lib.Dec.{ltb}
 use lib.ListN.{length, getD}
-use Rattle.bits.proofs.Fields.{field-lt}
+use Rattle.block.specs.declared.kind.Kind.the-variants.{Extrusion}
 use Rattle.block.specs.declared.header.Header.{Header}
-use Rattle.block.specs.Header.{countsOf, headerOf}
+use Rattle.block.specs.Header.{headerOf}
 use Rattle.block.specs.Settings.{settingsOf}
 use Rattle.block.specs.Refusal.{Taken}
 use Rattle.block.specs.Lists.{extrusionWidths, listBytes}
+use Rattle.block.proofs.EditionLaws.{count-narrow}
 use Rattle.block.proofs.Table.{or-none}
-use Rattle.block.proofs.ListLaws.{widths-extrusion, size-by, list-length}
+use Rattle.block.proofs.ListLaws.{widths-of, size-by, list-length}
 use Rattle.polygon.specs.Loops.{tab}
 use Rattle.polygon.proofs.Tabs.{tab-same}
 use Rattle.mesh.specs.Lists.{flat}
@@ -37,7 +38,7 @@ module _ {bs : List ℕ} {h : Header} (G : Given bs h) where
   list-size : (k : ℕ) → length (listBytes bs h k) ≡ 4 * (getD extrusionWidths k 0 * getD (h .counts) k 0)
   list-size k =
       list-length bs h k (G .whole)
-      ∙ ap (λ (s : ℕ). 4 * s) (size-by (h .kind) (h .alpha) (h .counts) extrusionWidths k (widths-extrusion (h .kind) (h .alpha) (omega (arith, G .kind))))
+      ∙ ap (λ (s : ℕ). 4 * s) (size-by h extrusionWidths k (widths-of h (G .kind)))
 
   -- room for n values of a list, in its bytes b
   pub spine-room : (b : List ℕ) (n : ℕ) → b ≡ listBytes bs h 0 → n ≡ spineCount h → 12 * n ≤ length b
@@ -80,15 +81,13 @@ pub points-put : {bs : List ℕ} {h : Header} (G : Given bs h) (l made a b c d :
 points-put {bs} {h} G l made a b c d n m i j k ea en eb em ec ei ed ej e =
     e ∙ (λ t. spliced l k (rowsBy (threes (ea t) (en t)) (twos (eb t) (em t)) (twos (ec t) (ei t)) (tab (turnIn (ed t)) (ej t) 0) (en t))) ∙ ap (spliced l k) (points-of bs h (G .head))
 
--- a count has 14 bits
+-- a count is small enough to be a float
 module _ {bs : List ℕ} {h : Header} (G : Given bs h) where
-  pub spine-few : spineCount h < 16384
-  unfolding headerOf countsOf
-  spine-few = rw (G .head) (field-lt bs 20 14)
+  pub spine-few : spineCount h < 2 ^ 16
+  spine-few = rw (G .head) (count-narrow bs 0)
 
-  pub section-few : sectionCount h < 16384
-  unfolding headerOf countsOf
-  section-few = rw (G .head) (field-lt bs 34 14)
+  pub section-few : sectionCount h < 2 ^ 16
+  section-few = rw (G .head) (count-narrow bs 1)
 
 pub section-of : (bs : List ℕ) (h : Header) → h ≡ headerOf bs → twos (listBytes bs h 1) (sectionCount h) ≡ extrusionOf bs .section
 unfolding extrusionOf sectionOf
@@ -118,9 +117,9 @@ settings-are bs = refl
 -- ---- a block that is not refused
 
 -- FORMAT 3: rows 1 to 5 let it pass, and row 6
-pub given-of : {limit : ℕ} {bs : List ℕ} {h : Header} → Taken limit bs h → h ≡ headerOf bs → h .kind ≡ 3 → isNoShape h ≡ false → Given bs h
+pub given-of : {bs : List ℕ} {h : Header} → Taken bs h → h ≡ headerOf bs → h .kind ≡ Extrusion → isNoShape h ≡ false → Given bs h
 unfolding isNoShape
-given-of {limit} {bs} {h} T e k s =
+given-of {bs} {h} T e k s =
     let q : isNoExtrusion h ≡ false = rw k at s in
     let r = or-none (ltb (spineCount h) 2) (ltb (sectionCount h) 2) q in
     record { head = e; kind = k; whole = T .length-is; spine = ltb-false _ _ (r .0); section = ltb-false _ _ (r .1) }

@@ -32,11 +32,11 @@ use Rattle.extrusion.proofs.Blocks.{section-of, spine-few, section-few,
 use Rattle.extrusion.proofs.Lengths.{length-arcs}
 
 -- the product of the sides fits
-pub sides-fit : {bs : List ℕ} {h : Header} → Given bs h → (n m : ℕ) → n ≡ spineCount h → m ≡ sectionCount h → (n - 1) * (m - 1) ≤ 16384 * 16384
+pub sides-fit : {bs : List ℕ} {h : Header} → Given bs h → (n m : ℕ) → n ≡ spineCount h → m ≡ sectionCount h → (n - 1) * (m - 1) ≤ 65536 * 65536
 sides-fit G n m en em =
     let a = spine-few G in
     let b = section-few G in
-    let p : (n - 1) * (m - 1) ≤ (n - 1) * 16384 = mul-le-mul-left (n - 1) (omega arith) in
+    let p : (n - 1) * (m - 1) ≤ (n - 1) * 65536 = mul-le-mul-left (n - 1) (omega arith) in
     omega arith
 
 -- ---- a point's row and column

@@ -3,6 +3,7 @@ use mathlib.Core.Path.{_≡_}
 use mathlib.Core.List.{List}
 use Prim.Native.Nat.{ℕ, _*_, _≤_}
 use lib.ListN.{length, getD}
+use Rattle.block.specs.declared.kind.Kind.the-variants.{Extrusion}
 use Rattle.block.specs.declared.header.Header.{Header}
 use Rattle.block.specs.Header.{headerOf}
 use Rattle.block.specs.Lists.{wordCount}
@@ -18,7 +19,7 @@ turnCount h = getD (h .counts) 3 0
 -- FORMAT 3: the block's header, its kind, its length, and two points or more of the spine and of the cross-section
 pub record Given (bs : List ℕ) (h : Header) : Type 0 where
   pub head : h ≡ headerOf bs
-  pub kind : h .kind ≡ 3
-  pub whole : length bs ≡ 4 * wordCount (h .kind) (h .alpha) (h .counts)
+  pub kind : h .kind ≡ Extrusion
+  pub whole : length bs ≡ 4 * wordCount h
   pub spine : 2 ≤ spineCount h
   pub section : 2 ≤ sectionCount h

@@ -5,6 +5,7 @@ use mathlib.Core.List.{List}
 use Prim.Native.Nat.{ℕ, _+_, _-_, _*_, _^_, _≤_}
 use native.Mathlib.Nat.{mul-le-mul-left, mul-comm}
 use native.Mathlib.Omega.{arith}
+use Rattle.block.specs.declared.kind.Kind.the-variants.{Extrusion}
 use Rattle.block.specs.declared.header.Header.{Header}
 use Rattle.block.specs.declared.settings.Settings.{Settings}
 use Rattle.mesh.specs.Mesh.{Slices}
@@ -53,7 +54,7 @@ indices-fit h cap = go (sideCount h) (hasCap (h .«begin_cap») cap) (hasCap (h 
     go k false true = omega arith
     go k false false = omega arith
 
-module _ {bs : List ℕ} {h : Header} {s : Settings} {o : Slices} {w f : ℕ} (A : Asked 3 bs h s o w f) where
+module _ {bs : List ℕ} {h : Header} {s : Settings} {o : Slices} {w f : ℕ} (A : Asked Extrusion bs h s o w f) where
   -- the corners of a cap
   k : ℕ
   k = capLength (sectionOf bs h)
@@ -70,11 +71,11 @@ module _ {bs : List ℕ} {h : Header} {s : Settings} {o : Slices} {w f : ℕ} (A
 
   points-low : spineCount h * sectionCount h ≤ most
   unfolding extrusionSizes
-  points-low = let p = subst (λ (z : Sizes). z .points ≤ A .limit) sizes-are (sizes-low (A .accepted) .0) in omega (arith, p, A .accepted .low)
+  points-low = subst (λ (z : Sizes). z .points ≤ most) sizes-are (sizes-low (A .accepted) .0)
 
   corners-low : 4 * sideCount h + capCount h k * k ≤ most
   unfolding extrusionSizes k
-  corners-low = let p = subst (λ (z : Sizes). z .corners ≤ A .limit) sizes-are (sizes-low (A .accepted) .1) in omega (arith, p, A .accepted .low)
+  corners-low = subst (λ (z : Sizes). z .corners ≤ most) sizes-are (sizes-low (A .accepted) .1)
 
   words-enough : 8 * (4 * sideCount h + capCount h k * k + spineCount h * sectionCount h) + 8 ≤ w
   unfolding extrusionSizes k

@@ -7,6 +7,7 @@ use native.Mathlib.Omega.{arith}
 use native.Mathlib.Nat.{le-refl}
 use lib.ListN.{length, replicate}
 use lib.Ieee.{Float, binary32, ofBits}
+use Rattle.block.specs.declared.kind.Kind.the-variants.{Extrusion}
 use Rattle.block.specs.declared.header.Header.{Header}
 use Rattle.block.specs.declared.settings.Settings.{Settings}
 use Rattle.mesh.specs.Mesh.{Slices}
@@ -30,7 +31,7 @@ use Rattle.extrusionshape.proofs.Bounds.{enough, given, planned-at, arc
 use Rattle.extrusionshape.proofs.Telling.{three-at, Written, told}
 
 -- a cap's corners `cap` and the plan t; the words w lent, then w₁ with the tables and w₂ with the textures; the floats d lent, then e
-module _ {bs : List ℕ} {h : Header} {s : Settings} {o : Slices} {w w₁ w₂ : List ℕ} {d e : List Float} (A : Asked 3 bs h s o (length w) (length d)) {cap : ℕ} (k : cap ≡ capLength (sectionOf bs h))
+module _ {bs : List ℕ} {h : Header} {s : Settings} {o : Slices} {w w₁ w₂ : List ℕ} {d e : List Float} (A : Asked Extrusion bs h s o (length w) (length d)) {cap : ℕ} (k : cap ≡ capLength (sectionOf bs h))
     {t : Plan} (p : t ≡ extrusionPlan h cap) (T : Tabled bs h s cap t w w₁ d e) (X : TexturesAt bs h t w₁ w₂) where
   len : length w₂ ≡ length w
   len = X .kept .len ∙ T .len

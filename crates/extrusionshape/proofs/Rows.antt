@@ -7,10 +7,12 @@ use Prim.Native.Nat.{ℕ}
 use lib.ListN.{replicate}
 use lib.Ieee.{ofBits, eq}
 use Rattle.bits.specs.Bits.{field}
+use Rattle.block.specs.Edition.{edition1, editionOf}
+use Rattle.block.specs.declared.kind.Kind.the-variants.{Extrusion}
 use Rattle.block.specs.Header.{countsOf, headerOf}
 use Rattle.block.specs.Lists.{widths, wordsIn, wordCount, listSize, listAt, placeOf}
 use Rattle.block.specs.Runs.{allBelow}
-use Rattle.block.specs.Refusal.{conditionsOf, firstFrom}
+use Rattle.block.specs.Refusal.{blockRows, firstOf}
 use Rattle.block.specs.Settings.{settingsOf}
 use Rattle.block.proofs.Table.{taken-of}
 use Rattle.block.proofs.TableRows.{bytesOf, oneWord, number}
@@ -31,22 +33,21 @@ prism =
     ∷ 0 ∷ 0 ∷ oneWord ∷ 0 ∷ 0 ∷ oneWord ∷ 0 ∷ 0 ∷ [])
 
 taken : number prism ≡ 0
-unfolding conditionsOf firstFrom allBelow headerOf countsOf widths wordsIn wordCount field
+unfolding blockRows firstOf allBelow headerOf countsOf editionOf edition1 widths wordsIn wordCount field
 taken = refl
 
 sizes : (sizesOf prism (headerOf prism) ≡ record { points = 8; corners = 18; indices = 24 })
     × (isNoShape (headerOf prism) ≡ false)
-    × (isOverCorners 8192 prism (headerOf prism) ≡ false)
-    × (headerOf prism .kind ≡ 3)
-unfolding sizesOf extrusionSizes isNoShape isOverCorners sectionOf capLength closes at2 tab headerOf countsOf placeOf listAt listSize widths wordsIn field ofBits eq
+    × (isOverCorners prism (headerOf prism) ≡ false)
+    × (headerOf prism .kind ≡ Extrusion)
+unfolding sizesOf extrusionSizes isNoShape isOverCorners sectionOf capLength closes at2 tab headerOf countsOf editionOf edition1 placeOf listAt listSize widths wordsIn field ofBits eq
 sizes = (refl, refl, refl, refl)
 
-accepted : Accepted 8192 prism (headerOf prism) (settingsOf prism)
+accepted : Accepted prism (headerOf prism) (settingsOf prism)
 accepted = record {
-  low = omega arith;
   header = refl;
   settings = refl;
-  taken = taken-of 8192 prism (headerOf prism) taken;
+  taken = taken-of prism (headerOf prism) taken;
   shape = sizes .1;
   corners = sizes .2;
 }
@@ -54,9 +55,8 @@ accepted = record {
 abbrev slices : Slices
 slices = record { sources = replicate 18 7; positions = replicate 54 7; normals = replicate 54 7; colours = replicate 72 7; textures = replicate 36 7; indices = replicate 24 7 }
 
-pub met : Asked 3 prism (headerOf prism) (settingsOf prism) slices 216 216
+pub met : Asked Extrusion prism (headerOf prism) (settingsOf prism) slices 216 216
 met = record {
-  limit = 8192;
   accepted = accepted;
   kind = sizes .3;
   enough = subst (λ (z : Sizes). Enough z slices 216 216) (sym (sizes .0))

@@ -1,4 +1,5 @@
 // FORMAT 8.4, extrusion: all of it.
+ghost use Rattle.block.specs.declared.kind.Kind.the-variants.{Extrusion};
 ghost use mathlib.Core.Path.{_≡_};
 ghost use mathlib.Core.Bool.{cond};
 ghost use lib.ListN.{length};
@@ -81,7 +82,7 @@ pub fn make_extrusion(
     work: &mut [u32],
     floats: &mut [f32],
 ) -> Counts
-    requires { ⌜ Asked 3 (now block) h s
+    requires { ⌜ Asked Extrusion (now block) h s
         (record { sources = now sources; positions = now positions; normals = now normals; colours = now colours; textures = now textures; indices = now indices })
         (length (now work)) (length (now floats)) ⌝ }
     ensures { λ r. ⌜ Shaped h (extrusionMesh (now (block .entry)))

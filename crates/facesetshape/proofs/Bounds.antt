@@ -6,12 +6,14 @@ use native.Mathlib.Omega.{arith}
 use lib.ListN.{length, getD, take}
 use lib.Seq.{take-all}
 use Rattle.bits.specs.Bits.{entries}
+use Rattle.block.specs.declared.kind.Kind.the-variants.{FaceSet}
 use Rattle.block.specs.declared.header.Header.{Header}
 use Rattle.block.specs.declared.settings.Settings.{Settings}
 use Rattle.block.specs.Lists.{setWidths, listSize, listBytes}
 use Rattle.block.specs.declared.runs.Totals.{Totals}
 use Rattle.block.specs.Runs.{runs, faces, corners, sumOver, totals}
-use Rattle.block.proofs.ListLaws.{widths-set, size-by, list-length, list-entries}
+use Rattle.block.proofs.Table.{count-low}
+use Rattle.block.proofs.ListLaws.{widths-of, size-by, list-length, list-entries}
 use Rattle.mesh.specs.Mesh.{Slices}
 use Rattle.mesh.specs.Sizes.{Sizes, coordRuns, listedPoints, faceSetSizes, sizesOf}
 use Rattle.tables.specs.declared.layout.Plan.{Plan}
@@ -39,7 +41,7 @@ module _ (bs : List ℕ) (h : Header) {coord : List ℕ} {p : ℕ} {n : Totals} 
       → (p ≤ most) × (n .corners ≤ most) × (n .faces ≤ most)
   plan-low-by a = (omega (arith, q, a .0), omega (arith, ap (λ (n : Totals). n .corners) totals-are, a .1), omega (arith, ap (λ (n : Totals). n .faces) totals-are, a .2))
 
-module _ {bs : List ℕ} {h : Header} {s : Settings} {o : Slices} {w f : ℕ} (A : Asked 0 bs h s o w f) where
+module _ {bs : List ℕ} {h : Header} {s : Settings} {o : Slices} {w f : ℕ} (A : Asked FaceSet bs h s o w f) where
   sizes-are : sizesOf bs h ≡ faceSetSizes bs h
   unfolding sizesOf
   sizes-are = rw (A .kind) refl
@@ -50,8 +52,8 @@ module _ {bs : List ℕ} {h : Header} {s : Settings} {o : Slices} {w f : ℕ} (A
   -- ---- the lists
 
   -- FORMAT 2.4: the words of a list, by its width
-  size-of : (k : ℕ) → listSize (h .kind) (h .alpha) (h .counts) k ≡ getD (setWidths (h .alpha)) k 0 * getD (h .counts) k 0
-  size-of k = size-by (h .kind) (h .alpha) (h .counts) (setWidths (h .alpha)) k (widths-set (h .kind) (h .alpha) (omega (arith, A .kind)))
+  size-of : (k : ℕ) → listSize h k ≡ getD (setWidths (h .alpha)) k 0 * getD (h .counts) k 0
+  size-of k = size-by h (setWidths (h .alpha)) k (widths-of h (A .kind))
 
   module _ {list : List ℕ} (l : list ≡ listBytes bs h 0) where
     -- the points, three words each, are all of their list
@@ -66,17 +68,17 @@ module _ {bs : List ℕ} {h : Header} {s : Settings} {o : Slices} {w f : ℕ} (A
 
   -- FORMAT 3, 4: no list has more entries than the limit
   entries-few : length (listBytes bs h 1) / 4 ≤ most
-  entries-few = omega (arith, list-length bs h 1 (A .accepted .taken .length-is), size-of 1, A .accepted .taken .counts-are 1, A .accepted .low)
+  entries-few = omega (arith, list-length bs h 1 (A .accepted .taken .length-is), size-of 1, count-low (A .accepted .taken) 1)
 
   -- ---- the sizes
 
   pub points-low : listedPoints h ≤ most
   unfolding faceSetSizes
-  points-low = let p = subst (λ (z : Sizes). z .points ≤ A .limit) sizes-are (sizes-low (A .accepted) .0) in omega (arith, p, A .accepted .low)
+  points-low = subst (λ (z : Sizes). z .points ≤ most) sizes-are (sizes-low (A .accepted) .0)
 
   pub corners-low : sumOver (corners (listedPoints h)) (coordRuns bs h) ≤ most
   unfolding faceSetSizes
-  corners-low = let p = subst (λ (z : Sizes). z .corners ≤ A .limit) sizes-are (sizes-low (A .accepted) .1) in omega (arith, p, A .accepted .low)
+  corners-low = subst (λ (z : Sizes). z .corners ≤ most) sizes-are (sizes-low (A .accepted) .1)
 
   words-enough : 8 * (sumOver (corners (listedPoints h)) (coordRuns bs h) + listedPoints h) + 8 ≤ w
   unfolding faceSetSizes

@@ -9,6 +9,7 @@ use lib.ListN.{length, replicate}
 use lib.Ieee.{Float, binary32, ofBits}
 use Rattle.bits.specs.Bits.{entries}
 use Rattle.bits.specs.declared.Words4.{Words4}
+use Rattle.block.specs.declared.kind.Kind.the-variants.{FaceSet}
 use Rattle.block.specs.declared.header.Header.{Header}
 use Rattle.block.specs.declared.settings.Settings.{Settings}
 use Rattle.block.specs.Lists.{listBytes}
@@ -36,7 +37,7 @@ use Rattle.facesetshape.proofs.Bounds.{enough, planned, floats-enough, 
 use Rattle.facesetshape.proofs.Telling.{long-at, Written, told}
 
 -- the plan t, the words w lent, then w₁ with the tables and w₂ with the textures; the floats d lent, then e
-module _ {bs : List ℕ} {h : Header} {s : Settings} {o : Slices} {w w₁ w₂ : List ℕ} {d e : List Float} (missing : Words4) (A : Asked 0 bs h s o (length w) (length d))
+module _ {bs : List ℕ} {h : Header} {s : Settings} {o : Slices} {w w₁ w₂ : List ℕ} {d e : List Float} (missing : Words4) (A : Asked FaceSet bs h s o (length w) (length d))
     {t : Plan} (p : t ≡ faceSetPlan bs h) (T : Tabled bs h s t w w₁ d e) (X : TexturesAt bs h s t w₁ w₂) where
   len : length w₂ ≡ length w
   len = X .kept .len ∙ T .len

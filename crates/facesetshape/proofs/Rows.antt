@@ -6,11 +6,13 @@ use native.Mathlib.Omega.{arith}
 use Prim.Native.Nat.{ℕ}
 use lib.ListN.{replicate}
 use Rattle.bits.specs.Bits.{field, table, entries}
+use Rattle.block.specs.Edition.{edition1, editionOf}
+use Rattle.block.specs.declared.kind.Kind.the-variants.{FaceSet}
 use Rattle.block.specs.Header.{countsOf, headerOf}
 use Rattle.block.specs.Settings.{settingsOf}
 use Rattle.block.specs.Lists.{widths, wordsIn, wordCount, listAt, listSize, placeOf}
 use Rattle.block.specs.Runs.{allBelow, endsRun, runsFrom, kept, corners, triangles, sumOver}
-use Rattle.block.specs.Refusal.{conditionsOf, firstFrom}
+use Rattle.block.specs.Refusal.{blockRows, firstOf}
 use Rattle.block.proofs.Table.{taken-of}
 use Rattle.block.proofs.TableRows.{bytesOf, number}
 use Rattle.mesh.specs.Mesh.{Slices}
@@ -22,24 +24,22 @@ unfoldable pub triangle : List ℕ
 triangle = bytesOf ((0x1000_0000 ∷ 0xc003_0000 ∷ 0 ∷ 0 ∷ 0 ∷ []) ++ (replicate 21 0 ++ (0 ∷ 1 ∷ 2 ∷ [])))
 
 accepted : (number triangle ≡ 0)
-    × (headerOf triangle .kind ≡ 0)
+    × (headerOf triangle .kind ≡ FaceSet)
     × (sizesOf triangle (headerOf triangle) ≡ record { points = 3; corners = 3; indices = 3 })
     × (isNoShape (headerOf triangle) ≡ false)
-    × (isOverCorners 8192 triangle (headerOf triangle) ≡ false)
-unfolding triangle conditionsOf firstFrom allBelow headerOf countsOf widths wordsIn wordCount listAt listSize placeOf field table entries endsRun runsFrom kept corners triangles sumOver sizesOf faceSetSizes isNoShape isOverCorners
+    × (isOverCorners triangle (headerOf triangle) ≡ false)
+unfolding triangle blockRows firstOf allBelow headerOf countsOf editionOf edition1 widths wordsIn wordCount listAt listSize placeOf field table entries endsRun runsFrom kept corners triangles sumOver sizesOf faceSetSizes isNoShape isOverCorners
 accepted = (refl, refl, refl, refl, refl)
 
 abbrev slices : Slices
 slices = record { sources = replicate 3 7; positions = replicate 9 7; normals = replicate 9 7; colours = replicate 12 7; textures = replicate 6 7; indices = replicate 3 7 }
 
-pub met : Asked 0 triangle (headerOf triangle) (settingsOf triangle) slices 56 56
+pub met : Asked FaceSet triangle (headerOf triangle) (settingsOf triangle) slices 56 56
 met = record {
-  limit = 8192;
   accepted = record {
-    low = omega arith;
     header = refl;
     settings = refl;
-    taken = taken-of 8192 triangle (headerOf triangle) (accepted .0);
+    taken = taken-of triangle (headerOf triangle) (accepted .0);
     shape = accepted .3;
     corners = accepted .4;
   };

@@ -1,5 +1,6 @@
 -- FORMAT 7, 8.1, 11: the tables of a face set hold its soup, and give each corner its key.
 use mathlib.Core.Path.{_≡_, refl, sym, ap, _∙_, subst, subst₂}
+use mathlib.Core.Bool.{true}
 use mathlib.Core.List.{List}
 use Prim.Native.Nat.{ℕ, suc, _+_, _≤_, _<_}
 use native.Mathlib.Omega.{arith}
@@ -8,6 +9,8 @@ use lib.Ieee.{Float}
 use Rattle.bits.specs.Bits.{entries}
 use Rattle.bits.specs.declared.Words2.{Words2}
 use Rattle.bits.specs.declared.Words4.{Words4}
+use Rattle.block.specs.Kind.{isIndexed}
+use Rattle.block.specs.declared.kind.Kind.the-variants.{FaceSet}
 use Rattle.block.specs.declared.header.Header.{Header}
 use Rattle.block.specs.declared.settings.Settings.{Settings}
 use Rattle.block.specs.Header.{headerOf}
@@ -48,7 +51,7 @@ long-at points ws j b = All-getD (λ (l : Listing). 3 ≤ length (l .uses)) (lis
 
 -- what the words and floats of a face set hold
 pub record Written (bs : List ℕ) (t : Plan) (w w₁ w₂ : List ℕ) (d e : List Float) (h : Header) (s : Settings) : Type 0 where
-  pub kind : h .kind ≡ 0
+  pub kind : h .kind ≡ FaceSet
   pub tabled : Tabled bs h s t w w₁ d e
   pub textures : TexturesAt bs h s t w₁ w₂
 
@@ -73,8 +76,8 @@ module _ (missing : Words4) {bs : List ℕ} {t : Plan} {w w₁ w₂ : List ℕ} 
     default : ℕ → Words2
     default p = defaultAt (entries (listBytes bs (headerOf bs) 0)) fit p
 
-    set : headerOf bs .kind < 2
-    set = omega (arith, P .kind)
+    set : isIndexed (headerOf bs .kind) ≡ true
+    set = ap isIndexed (P .kind)
 
     reads : Reads read (attributesOf missing (headerOf bs)) (faceWidths (headerOf bs)) (cornerUse missing R coord)
     unfolding cornerUse restOf R read default fit

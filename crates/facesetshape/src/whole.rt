@@ -1,4 +1,5 @@
 // FORMAT 8.1, indexed_face_set: all of it.
+ghost use Rattle.block.specs.declared.kind.Kind.the-variants.{FaceSet};
 ghost use mathlib.Core.Path.{_≡_};
 ghost use lib.ListN.{length};
 ghost use Rattle.mesh.specs.FaceSet.{faceSetMesh};
@@ -45,7 +46,7 @@ pub fn make_face_set(
     work: &mut [u32],
     floats: &mut [f32],
 ) -> Counts
-    requires { ⌜ Asked 0 (now block) h s
+    requires { ⌜ Asked FaceSet (now block) h s
         (record { sources = now sources; positions = now positions; normals = now normals; colours = now colours; textures = now textures; indices = now indices })
         (length (now work)) (length (now floats)) ⌝ }
     ensures { λ r. ⌜ Shaped h (faceSetMesh missing (now (block .entry)))

@@ -1,30 +1,34 @@
 -- FORMAT 13: of two calls on blocks that are equal but inside one run, whatever their slices held before, the elements that each made show the same triangles in
 -- every other run.
 use mathlib.Core.Path.{_≡_, refl, sym, ap, _∙_, subst}
-use mathlib.Core.Bool.{Bool, true, false, cond}
+use mathlib.Core.Bool.{Bool, true, false, not, cond}
 use mathlib.Core.List.{List, [], map, map-map}
 use Prim.Native.Nat.{ℕ, zero, suc, _*_}
 use native.Mathlib.Omega.{arith}
 use lib.ListN.{length, getD, take, drop, length-map}
 use lib.Seq.{take-at, take-nil, drop-nil}
+use Rattle.bits.specs.declared.Words4.{Words4}
 use Rattle.block.specs.declared.header.Header.{Header}
+use Rattle.block.specs.declared.kind.Kind.{Kind}
+use Rattle.block.specs.declared.kind.Kind.the-variants.{FaceSet}
+use Rattle.block.specs.Kind.{byKind, isLines}
 use Rattle.block.specs.Header.{headerOf}
-use Rattle.mesh.specs.Mesh.{Mesh, meshOf, mesh, Slices, slicesOf, Shown, shownAt, normalAt}
+use Rattle.mesh.specs.Mesh.{Mesh, noMesh, meshOf, mesh, Slices, slicesOf, over, overAll, Shown, shownAt, normalAt}
 use Rattle.mesh.specs.FaceSet.{restOf, coordIn, facesOf, frameOf, faceSetMesh}
 use Rattle.mesh.specs.Vertices.{Key, vertices, indicesOf}
 use Rattle.mesh.specs.Lines.{lineSetMesh}
 use Rattle.mesh.specs.Grid.{gridMesh}
 use Rattle.mesh.specs.Extrusion.{extrusionMesh}
-use Rattle.mesh.specs.Sizes.{byKind}
 use Rattle.mesh.specs.Result.{Result, blockMesh, makesNormals, makesColours, makesTextures, madeOf, made, resultOf}
 use Rattle.mesh.specs.OneRun.{OneRun, runPart, OthersStay}
 use Rattle.mesh.proofs.Facts.{Sized, slices-sized}
 use Rattle.mesh.proofs.Bytes.{heads}
 use Rattle.mesh.proofs.OneRun.{one-run}
 use Rattle.geometry.specs.declared.answer.Answer.the-variants.{Made}
+use Rattle.geometry.specs.declared.answer.Call.{Call}
 use Rattle.geometry.specs.declared.answer.Report.{Report}
-use Rattle.geometry.specs.Answer.{white, resultFor, saying, said}
-use Rattle.geometry.specs.Converted.{numberFor, after}
+use Rattle.geometry.specs.Answer.{resultFor, saying, said}
+use Rattle.geometry.specs.Converted.{numberFor, afterAll}
 use Rattle.geometry.specs.Apart.{AcceptedCall, elements, elementsOf}
 use Rattle.geometry.proofs.Calls.{numberIn, resultIn}
 
@@ -39,41 +43,41 @@ result-said p n r z e = ap (resultIn r) (e ∙ ap (λ (k : ℕ). said k r) z)
 
 -- ---- the front of a slice after such a call is what was made
 
-front : (number n : ℕ) (new held left : List ℕ) → number ≡ 0 → length new ≡ n → left ≡ after number new held → take n left ≡ new
-front number n new held left z long e = ap (take n) (e ∙ ap (λ (k : ℕ). after k new held) z) ∙ take-at new (drop (length new) held) n long
+front : (n : ℕ) (new held left : List ℕ) → length new ≡ n → left ≡ over new held → take n left ≡ new
+front n new held left long e = ap (take n) e ∙ take-at new (drop (length new) held) n long
 
 -- of an attribute, where made
-front-where : (b : Bool) (number n : ℕ) (new held left : List ℕ) → number ≡ 0 → length new ≡ n → left ≡ after number (cond b new []) held
+front-where : (b : Bool) (n : ℕ) (new held left : List ℕ) → length new ≡ n → left ≡ over (cond b new []) held
     → cond b (take n left) [] ≡ cond b new []
-front-where true number n new held left z long e = front number n new held left z long e
-front-where false number n new held left z long e = refl
+front-where true n new held left long e = front n new held left long e
+front-where false n new held left long e = refl
 
 -- ---- the elements that a call on a face set made are those of its mesh, where made
 
 -- FORMAT 4: how long the slices of a face set's mesh are
-face-set-sized : (bs : List ℕ) → Sized (slicesOf (faceSetMesh white bs)) (length (faceSetMesh white bs .sources))
+face-set-sized : (missing : Words4) (bs : List ℕ) → Sized (slicesOf (faceSetMesh missing bs)) (length (faceSetMesh missing bs .sources))
 unfolding faceSetMesh mesh meshOf
-face-set-sized bs =
+face-set-sized missing bs =
     let F = frameOf (restOf bs) in
-    let fs = facesOf white (restOf bs) (coordIn bs) in
+    let fs = facesOf missing (restOf bs) (coordIn bs) in
     let vs = vertices F fs in
     subst (Sized (slicesOf (mesh F fs))) (sym (length-map vs (λ (k : Key). k .point))) (slices-sized F vs (indicesOf F fs vs))
 
-module _ (bs : List ℕ) (face-set : headerOf bs .kind ≡ 0) (x : AcceptedCall bs) where
+module _ {call : Call} (bs : List ℕ) (face-set : headerOf bs .kind ≡ FaceSet) (x : AcceptedCall call bs) where
   abbrev M : Mesh
-  M = faceSetMesh white bs
+  M = faceSetMesh (call .colour) bs
 
   accepted : numberFor bs (x .lent) ≡ 0
-  accepted = not-refused (x .report) (numberFor bs (x .lent)) (resultFor bs) (x .converted .answer)
+  accepted = not-refused (x .report) (numberFor bs (x .lent)) (resultFor call bs) (x .converted .answer)
 
-  block-mesh : blockMesh white bs ≡ M
+  block-mesh : blockMesh (call .colour) bs ≡ M
   unfolding blockMesh
-  block-mesh = ap (λ (k : ℕ). byKind k (faceSetMesh white bs) (lineSetMesh white bs) (gridMesh white bs) (extrusionMesh bs)) face-set
+  block-mesh = ap (λ (k : Kind). byKind k (faceSetMesh (call .colour) bs) (lineSetMesh (call .colour) bs) (gridMesh (call .colour) bs) (extrusionMesh bs) noMesh) face-set
 
-  result-is : resultIn (resultFor bs) (saying (Made (x .report))) ≡ resultOf (headerOf bs) M
+  result-is : resultIn (resultFor call bs) (saying (Made (x .report))) ≡ resultOf (headerOf bs) M
   unfolding resultFor
   result-is =
-      result-said (x .report) (numberFor bs (x .lent)) (resultFor bs) accepted (x .converted .answer) ∙ ap (resultOf (headerOf bs)) block-mesh
+      result-said (x .report) (numberFor bs (x .lent)) (resultFor call bs) accepted (x .converted .answer) ∙ ap (resultOf (headerOf bs)) block-mesh
 
   vertices-are : x .report .vertices ≡ length (M .sources)
   unfolding resultOf
@@ -84,34 +88,38 @@ module _ (bs : List ℕ) (face-set : headerOf bs .kind ≡ 0) (x : AcceptedCall 
   indices-are = ap (λ (r : Result). r .indices) result-is
 
   sized : Sized (slicesOf M) (x .report .vertices)
-  sized = subst (Sized (slicesOf M)) (sym vertices-are) (face-set-sized bs)
+  sized = subst (Sized (slicesOf M)) (sym vertices-are) (face-set-sized (call .colour) bs)
 
-  made-is : made white bs ≡ madeOf (headerOf bs) (slicesOf M)
+  made-is : made (call .colour) bs ≡ madeOf (headerOf bs) (slicesOf M)
   unfolding made
   made-is = ap (λ (N : Mesh). madeOf (headerOf bs) (slicesOf N)) block-mesh
 
+  left-is : x .left .slices ≡ overAll (madeOf (headerOf bs) (slicesOf M)) (x .lent .slices)
+  left-is =
+      x .converted .slices
+      ∙ ap (λ (k : ℕ). afterAll k (made (call .colour) bs) (x .lent .slices)) accepted
+      ∙ ap (λ (S : Slices). overAll S (x .lent .slices)) made-is
+
   -- one slice, of the attribute that is made where b holds
   slice-made : (f : Slices → List ℕ) (b : Bool) (n : ℕ) → f (madeOf (headerOf bs) (slicesOf M)) ≡ cond b (f (slicesOf M)) [] → length (f (slicesOf M)) ≡ n
-      → f (x .left .slices) ≡ after (numberFor bs (x .lent)) (f (made white bs)) (f (x .lent .slices))
+      → f (x .left .slices) ≡ over (f (madeOf (headerOf bs) (slicesOf M))) (f (x .lent .slices))
       → cond b (take n (f (x .left .slices))) [] ≡ f (madeOf (headerOf bs) (slicesOf M))
   slice-made f b n e long c =
-      let N = numberFor bs (x .lent) in
       let held = f (x .lent .slices) in
-      front-where b N n (f (slicesOf M)) held (f (x .left .slices)) accepted long (c ∙ ap (λ (l : List ℕ). after N l held) (ap f made-is ∙ e)) ∙ sym e
+      front-where b n (f (slicesOf M)) held (f (x .left .slices)) long (c ∙ ap (λ (l : List ℕ). over l held) e) ∙ sym e
 
   pub elements-made : elementsOf x ≡ madeOf (headerOf bs) (slicesOf M)
   unfolding elements madeOf slicesOf
   elements-made =
-      let C = x .converted in
       let n = x .report .vertices in
       let h = headerOf bs in
       λ i. record {
-        sources = slice-made (λ S. S .sources) true n refl (sized .sources) (C .sources) i;
-        positions = slice-made (λ S. S .positions) true (3 * n) refl (sized .positions) (C .positions) i;
-        normals = slice-made (λ S. S .normals) (makesNormals h) (3 * n) refl (sized .normals) (C .normals) i;
-        colours = slice-made (λ S. S .colours) (makesColours h) (4 * n) refl (sized .colours) (C .colours) i;
-        textures = slice-made (λ S. S .textures) (makesTextures h) (2 * n) refl (sized .textures) (C .textures) i;
-        indices = slice-made (λ S. S .indices) true (x .report .indices) refl (sym indices-are) (C .indices) i;
+        sources = slice-made (λ S. S .sources) true n refl (sized .sources) (ap (λ (S : Slices). S .sources) left-is) i;
+        positions = slice-made (λ S. S .positions) true (3 * n) refl (sized .positions) (ap (λ (S : Slices). S .positions) left-is) i;
+        normals = slice-made (λ S. S .normals) (makesNormals h) (3 * n) refl (sized .normals) (ap (λ (S : Slices). S .normals) left-is) i;
+        colours = slice-made (λ S. S .colours) (makesColours h) (4 * n) refl (sized .colours) (ap (λ (S : Slices). S .colours) left-is) i;
+        textures = slice-made (λ S. S .textures) (makesTextures h) (2 * n) refl (sized .textures) (ap (λ (S : Slices). S .textures) left-is) i;
+        indices = slice-made (λ S. S .indices) true (x .report .indices) refl (sym indices-are) (ap (λ (S : Slices). S .indices) left-is) i;
       }
 
 -- ---- what is made of a mesh shows the same at a corner as the mesh, but for what is not made
@@ -144,13 +152,13 @@ module _ (h : Header) where
   shown-at S l = (λ i. map (λ (v : ℕ). shown-made S v i) l) ∙ sym (map-map (whereMade h) (shownAt S) l)
 
   -- FORMAT 5: of a face set the normals are always made
-  normals-made : h .kind ≡ 0 → (S : Slices) (l : List ℕ) → map (normalAt (madeOf h S)) l ≡ map (normalAt S) l
+  normals-made : h .kind ≡ FaceSet → (S : Slices) (l : List ℕ) → map (normalAt (madeOf h S)) l ≡ map (normalAt S) l
   unfolding madeOf normalAt
-  normals-made face-set S l = ap (λ (k : ℕ). map (λ (v : ℕ). take 3 (drop (3 * v) (cond (byKind k true false true true) (S .normals) []))) l) face-set
+  normals-made face-set S l = ap (λ (k : Kind). map (λ (v : ℕ). take 3 (drop (3 * v) (cond (not (isLines k)) (S .normals) []))) l) face-set
 
-  others-made : {b c : List ℕ} {S T : Slices} {r : ℕ} → h .kind ≡ 0 → OthersStay white b c S T r → OthersStay white b c (madeOf h S) (madeOf h T) r
+  others-made : {missing : Words4} {b c : List ℕ} {S T : Slices} {r : ℕ} → h .kind ≡ FaceSet → OthersStay missing b c S T r → OthersStay missing b c (madeOf h S) (madeOf h T) r
   unfolding madeOf
-  others-made {b} {c} {S} {T} {r} face-set O = record {
+  others-made {missing} {b} {c} {S} {T} {r} face-set O = record {
     numbers = O .numbers;
     others = λ j l ne.
         let s = runPart b (S .indices) j in
@@ -166,11 +174,11 @@ module _ (h : Header) where
   }
 
 -- FORMAT 13: b is a face set and c is equal to it but inside run r; x and y are any two calls on them that were not refused
-pub apart : (b c : List ℕ) (r : ℕ) → headerOf b .kind ≡ 0 → OneRun b c r → (x : AcceptedCall b) (y : AcceptedCall c)
-    → OthersStay white b c (elementsOf x) (elementsOf y) r
-apart b c r face-set h x y =
+pub apart : {call : Call} (b c : List ℕ) (r : ℕ) → headerOf b .kind ≡ FaceSet → OneRun b c r → (x : AcceptedCall call b) (y : AcceptedCall call c)
+    → OthersStay (call .colour) b c (elementsOf x) (elementsOf y) r
+apart {call} b c r face-set h x y =
     let e : headerOf b ≡ headerOf c = heads b c r h in
-    let O = others-made (headerOf b) face-set (one-run white b c r h) in
+    let O = others-made (headerOf b) face-set (one-run (call .colour) b c r h) in
     let p = elements-made b face-set x in
-    let q = elements-made c (ap (λ (g : Header). g .kind) (sym e) ∙ face-set) y ∙ ap (λ (g : Header). madeOf g (slicesOf (faceSetMesh white c))) (sym e) in
-    subst (λ (w : Slices × Slices). OthersStay white b c (w .0) (w .1) r) (λ i. (sym p i, sym q i)) O
+    let q = elements-made c (ap (λ (g : Header). g .kind) (sym e) ∙ face-set) y ∙ ap (λ (g : Header). madeOf g (slicesOf (faceSetMesh (call .colour) c))) (sym e) in
+    subst (λ (w : Slices × Slices). OthersStay (call .colour) b c (w .0) (w .1) r) (λ i. (sym p i, sym q i)) O

@@ -5,49 +5,38 @@ use Prim.Native.Nat.{ℕ}
 use lib.Ieee.{binary32, ofBits}
 use lib.ListN.{replicate}
 use Rattle.bits.specs.Bits.{field, table, entries}
+use Rattle.block.specs.Edition.{edition1, editionOf}
 use Rattle.block.specs.Header.{countsOf, headerOf}
 use Rattle.block.specs.Lists.{widths, wordsIn, wordCount, listAt, listSize, placeOf}
-use Rattle.block.specs.Refusal.{conditionsOf, firstFrom}
+use Rattle.block.specs.Refusal.{blockRows, firstOf}
 use Rattle.block.specs.Runs.{endsRun, runsFrom, allBelow, kept, corners, triangles, sumOver}
 use Rattle.mesh.specs.Lists.{flat}
-use Rattle.mesh.specs.Sizes.{faceSetSizes, sizesOf, isNoShape, isOverCorners, shapeConditions}
+use Rattle.mesh.specs.Sizes.{faceSetSizes, sizesOf, isNoShape, isOverCorners, shapeRows}
 use Rattle.mesh.specs.Result.{made}
 use Rattle.mesh.specs.OneRun.{OthersStay}
 use Rattle.mesh.proofs.Blocks.{flatBlock, beside, beside′, pairs}
-use Rattle.geometry.specs.Answer.{limit, white, isShort, refusal, resultFor, said}
-use Rattle.geometry.specs.Converted.{Lending, lengthsOf, numberFor, after, cleared}
+use Rattle.geometry.specs.Answer.{white, plain, rows, isShort, refusal, resultFor, said}
+use Rattle.geometry.specs.Converted.{Lending, lengthsOf, numberFor, afterAll, cleared}
 use Rattle.geometry.specs.Apart.{AcceptedCall, elementsOf}
 use Rattle.geometry.proofs.Apart.{apart}
 
 -- where nothing is refused, the call that leaves and answers what the contract says
-unfoldable pub callOf : (bs : List ℕ) (l : Lending) → numberFor bs l ≡ 0 → AcceptedCall bs
+unfoldable pub callOf : (bs : List ℕ) (l : Lending) → numberFor bs l ≡ 0 → AcceptedCall plain bs
 callOf bs l e =
     let n = numberFor bs l in
-    let R = resultFor bs in
+    let R = resultFor plain bs in
     let M = made white bs in
     record {
       lent = l;
       left = record {
-        slices = record {
-          sources = after n (M .sources) (l .slices .sources);
-          positions = after n (M .positions) (l .slices .positions);
-          normals = after n (M .normals) (l .slices .normals);
-          colours = after n (M .colours) (l .slices .colours);
-          textures = after n (M .textures) (l .slices .textures);
-          indices = after n (M .indices) (l .slices .indices);
-        };
+        slices = afterAll n M (l .slices);
         words = cleared n 0 (l .words);
         floats = cleared n (ofBits binary32 0) (l .floats);
       };
       report = record { vertices = R .vertices; indices = R .indices; solid = R .solid; unlit = R .unlit; «has_colors» = R .hasColours };
       converted = record {
         answer = sym (ap (λ (k : ℕ). said k R) e);
-        positions = refl;
-        normals = refl;
-        colours = refl;
-        textures = refl;
-        sources = refl;
-        indices = refl;
+        slices = refl;
         words = refl;
         floats = refl;
       };
@@ -71,7 +60,7 @@ lending w =
 
 -- FORMAT 3: neither block is refused
 pub accepted : (numberFor (flatBlock beside) (lending 0) ≡ 0) × (numberFor (flatBlock beside′) (lending 7) ≡ 0)
-unfolding refusal limit lengthsOf isShort conditionsOf firstFrom shapeConditions isNoShape isOverCorners sizesOf faceSetSizes headerOf countsOf field entries table placeOf listAt listSize widths wordsIn wordCount runsFrom endsRun allBelow kept corners triangles sumOver flat
+unfolding refusal rows lengthsOf isShort blockRows firstOf shapeRows isNoShape isOverCorners sizesOf faceSetSizes headerOf countsOf editionOf edition1 field entries table placeOf listAt listSize widths wordsIn wordCount runsFrom endsRun allBelow kept corners triangles sumOver flat
 accepted = (refl, refl)
 
 -- FORMAT 13: so of two calls on them, whose slices held different words before, the first face is the same

@@ -16,27 +16,23 @@ use Rattle.sizes.specs.declared.flags.Flags.{Flags}
 use Rattle.sizes.specs.Flagged.{Flagged}
 use Rattle.geometry.specs.declared.answer.Answer.{Answer}
 use Rattle.geometry.specs.declared.answer.Answer.the-variants.{Refused, Made}
+use Rattle.geometry.specs.declared.answer.Call.{Call}
 use Rattle.geometry.specs.declared.answer.Report.{Report}
 use Rattle.geometry.specs.Answer as spec
-use Rattle.geometry.specs.Answer.{Saying, white, refusal, resultFor, saying}
+use Rattle.geometry.specs.Answer.{Saying, white, plain, refusal, resultFor, saying}
 use Rattle.geometry.specs.Converted.{Lending, lengthsOf, Converted}
 
 -- ---- refused
 
 -- FORMAT 3: the first row's number is the answer, and every lent slice is as it was
-pub refused-call : (bs : List ℕ) (l : Lending) (n : Refusal) → numberOf n ≡ refusal bs (lengthsOf l) → (numberOf n ≡ 0 → ⊥) → Converted bs l l (Refused n)
-refused-call bs l n e a = go (refusal bs (lengthsOf l)) refl
+pub refused-call : (call : Call) (bs : List ℕ) (l : Lending) (n : Refusal) → numberOf n ≡ refusal bs (lengthsOf l) → (numberOf n ≡ 0 → ⊥) → Converted call bs l l (Refused n)
+refused-call call bs l n e a = go (refusal bs (lengthsOf l)) refl
   where
-    go : (k : ℕ) → k ≡ refusal bs (lengthsOf l) → Converted bs l l (Refused n)
+    go : (k : ℕ) → k ≡ refusal bs (lengthsOf l) → Converted call bs l l (Refused n)
     go zero q = absurd (a (e ∙ sym q))
     go (suc k) q = record {
       answer = rw (← q) (ap spec.refused (e ∙ sym q));
-      positions = rw (← q);
-      normals = rw (← q);
-      colours = rw (← q);
-      textures = rw (← q);
-      sources = rw (← q);
-      indices = rw (← q);
+      slices = rw (← q);
       words = rw (← q);
       floats = rw (← q);
     }
@@ -47,41 +43,40 @@ refused-call bs l n e a = go (refusal bs (lengthsOf l)) refl
 abbrev pub reportOf : Counts → Flags → Report
 reportOf n f = record { vertices = n .vertices; indices = n .indices; solid = f .solid; unlit = f .unlit; «has_colors» = f .«has_colors» }
 
-module _ (bs : List ℕ) (l m : Lending) (n : Counts) (f : Flags) (z : refusal bs (lengthsOf l) ≡ 0) where
-  made-result : Shaped (headerOf bs) (blockMesh white bs) (l .slices) (m .slices) n → Flagged (headerOf bs) f
-      → saying (Made (reportOf n f)) ≡ spec.made (resultFor bs)
+module _ (call : Call) (bs : List ℕ) (l m : Lending) (n : Counts) (f : Flags) (z : refusal bs (lengthsOf l) ≡ 0) where
+  made-result : Shaped (headerOf bs) (blockMesh (call .colour) bs) (l .slices) (m .slices) n → Flagged (headerOf bs) f
+      → saying (Made (reportOf n f)) ≡ spec.made (resultFor call bs)
   unfolding resultFor resultOf
   made-result S F =
       ap spec.made (λ i. record {
         vertices = S .vertices i;
         indices = S .count i;
-        solid = F .solid (blockMesh white bs) i;
-        unlit = F .unlit (blockMesh white bs) i;
-        hasColours = F .hasColours (blockMesh white bs) i;
+        solid = F .solid (blockMesh (call .colour) bs) i;
+        unlit = F .unlit (blockMesh (call .colour) bs) i;
+        hasColours = F .hasColours (blockMesh (call .colour) bs) i;
       })
 
-  made-of : Shaped (headerOf bs) (blockMesh white bs) (l .slices) (m .slices) n → Cleared (l .words) (m .words) (l .floats) (m .floats) → Flagged (headerOf bs) f
-      → Converted bs l m (Made (reportOf n f))
+  made-of : Shaped (headerOf bs) (blockMesh (call .colour) bs) (l .slices) (m .slices) n → Cleared (l .words) (m .words) (l .floats) (m .floats) → Flagged (headerOf bs) f
+      → Converted call bs l m (Made (reportOf n f))
   unfolding made
   made-of S C F = record {
     answer = rw z (made-result S F);
-    positions = rw z (S .positions);
-    normals = rw z (S .normals);
-    colours = rw z (S .colours);
-    textures = rw z (S .textures);
-    sources = rw z (S .sources);
-    indices = rw z (S .indices);
+    slices = rw z (S .slices);
     words = rw z (C .words);
     floats = rw z (C .floats);
   }
 
   -- FORMAT 5: w is what stands for a missing colour
-  pub made-call : (h : Header) (w : Words4) → h ≡ headerOf bs → w ≡ white
+  pub made-call : (h : Header) (w : Words4) → h ≡ headerOf bs → w ≡ call .colour
       → Shaped h (blockMesh w bs) (l .slices) (m .slices) n × Cleared (l .words) (m .words) (l .floats) (m .floats) → Flagged h f
-      → Converted bs l m (Made (reportOf n f))
+      → Converted call bs l m (Made (reportOf n f))
   made-call h w eh ew S F =
-      made-of (subst (λ (h : Header). Shaped h (blockMesh white bs) (l .slices) (m .slices) n) eh (subst (λ (w : Words4). Shaped h (blockMesh w bs) (l .slices) (m .slices) n) ew (S .0))) (S .1)
+      made-of (subst (λ (h : Header). Shaped h (blockMesh (call .colour) bs) (l .slices) (m .slices) n) eh (subst (λ (w : Words4). Shaped h (blockMesh w bs) (l .slices) (m .slices) n) ew (S .0))) (S .1)
       (subst (λ (h : Header). Flagged h f) eh F)
+
+-- FORMAT 7.2: the call's colour is white
+pub plain-call : (w : Words4) (bs : List ℕ) (l m : Lending) (r : Answer) → w ≡ white → Converted (record { colour = w }) bs l m r → Converted plain bs l m r
+plain-call w bs l m r e C = subst (λ (w : Words4). Converted (record { colour = w }) bs l m r) e C
 
 -- ---- two converters that keep the contract do not differ
 
@@ -99,21 +94,14 @@ saying-one-to-one (Refused a) (Refused b) e = ap Refused (number-one-to-one a b 
 saying-one-to-one (Refused a) (Made p) e = absurd (let z : suc (numberOf a) ≡ 0 = ap numberIn e in omega arith)
 saying-one-to-one (Made p) (Refused b) e = absurd (let z : 0 ≡ suc (numberOf b) = ap numberIn e in omega arith)
 saying-one-to-one (Made p) (Made q) e =
-    let z = ap (resultIn (resultFor [])) e in
+    let z = ap (resultIn (resultFor plain [])) e in
     ap Made (λ i. record { vertices = z i .vertices; indices = z i .indices; solid = z i .solid; unlit = z i .unlit; «has_colors» = z i .hasColours })
 
 -- FORMAT 3, 5: one block and one lending have one answer, and leave the lent slices one way
-pub alike : {bs : List ℕ} {l m m′ : Lending} {r r′ : Answer} → Converted bs l m r → Converted bs l m′ r′ → (m ≡ m′) × (r ≡ r′)
+pub alike : {call : Call} {bs : List ℕ} {l m m′ : Lending} {r r′ : Answer} → Converted call bs l m r → Converted call bs l m′ r′ → (m ≡ m′) × (r ≡ r′)
 alike {r = r} {r′ = r′} C D = (
   (λ i. record {
-    slices = record {
-      sources = (C .sources ∙ sym (D .sources)) i;
-      positions = (C .positions ∙ sym (D .positions)) i;
-      normals = (C .normals ∙ sym (D .normals)) i;
-      colours = (C .colours ∙ sym (D .colours)) i;
-      textures = (C .textures ∙ sym (D .textures)) i;
-      indices = (C .indices ∙ sym (D .indices)) i;
-    };
+    slices = (C .slices ∙ sym (D .slices)) i;
     words = (C .words ∙ sym (D .words)) i;
     floats = (C .floats ∙ sym (D .floats)) i;
   }),

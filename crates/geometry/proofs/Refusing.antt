@@ -9,35 +9,41 @@ use lib.Dec.{ltb}
 use lib.ListN.{length}
 use Rattle.block.specs.declared.header.Header.{Header}
 use Rattle.block.specs.declared.settings.Settings.{Settings}
+use Rattle.block.specs.declared.refusal.Refusal.the-variants.{Buffer}
 use Rattle.block.specs.Header.{headerOf}
 use Rattle.block.specs.Settings.{settingsOf}
-use Rattle.block.specs.Refusal.{conditionsOf, conditions, firstFrom, firstOf}
+use Rattle.block.specs.Refusal.{Row, row, blockRows, firstOf}
 use Rattle.block.proofs.Table.{or-none, first-before, first-after}
-use Rattle.mesh.specs.Sizes.{Sizes as Defined, sizesOf, shapeConditions}
+use Rattle.mesh.specs.Sizes.{Sizes as Defined, sizesOf, shapeRows}
 use Rattle.tables.specs.Layout.{most}
 use Rattle.lent.specs.Lent.{Accepted, Enough, Asked}
 use Rattle.lent.proofs.Accepts.{sizes-low}
 use Rattle.sizes.specs.declared.kinds.Sizes.{Sizes}
 use Rattle.sizes.specs.Known.{Known, Are}
-use Rattle.sizes.proofs.Decided.{rows, accepted-of}
+use Rattle.sizes.proofs.Decided as seven
+use Rattle.sizes.proofs.Decided.{all-answered, accepted-of}
 use Rattle.geometry.specs.declared.answer.Lengths.{Lengths}
-use Rattle.geometry.specs.Answer.{limit, isShort, refusal}
+use Rattle.geometry.specs.Answer.{isShort, rows, refusal}
 use Rattle.geometry.specs.Converted.{Lending, lengthsOf}
 
 -- the sizes as the code returns them
 abbrev pub sizesIn : Sizes → Defined
 sizesIn r = record { points = r .points; corners = r .corners; indices = r .indices }
 
+-- the header as the code reads it
+pub rows-at : (bs : List ℕ) (h : Header) (n : ℕ) → h ≡ headerOf bs → n ≡ seven.rows bs h → n ≡ seven.rows bs (headerOf bs)
+rows-at bs h n eh e = e ∙ ap (seven.rows bs) eh
+
 -- ---- a block that the rows 1 to 7 let pass: n is their answer
 
-module _ (bs : List ℕ) (n : ℕ) (e : n ≡ rows 8192 bs) (z : n ≡ 0) where
-  accepted-by : Accepted 8192 bs (headerOf bs) (settingsOf bs)
-  accepted-by = accepted-of 8192 bs (omega arith) (sym e ∙ z)
+module _ (bs : List ℕ) (n : ℕ) (e : n ≡ seven.rows bs (headerOf bs)) (z : n ≡ 0) where
+  accepted-by : Accepted bs (headerOf bs) (settingsOf bs)
+  accepted-by = accepted-of bs (sym e ∙ z)
 
   -- h is its header, and r its sizes
   module _ (h : Header) (eh : h ≡ headerOf bs) where
     pub known-by : Known bs h
-    known-by = rw eh (record { limit = 8192; low = accepted-by .low; header = refl; taken = accepted-by .taken; shape = accepted-by .shape })
+    known-by = rw eh (record { header = refl; taken = accepted-by .taken; shape = accepted-by .shape })
 
     module _ (r : Sizes) (A : Are (sizesOf bs h) r) where
       same-sizes : sizesIn r ≡ sizesOf bs (headerOf bs)
@@ -52,24 +58,24 @@ module _ (bs : List ℕ) (n : ℕ) (e : n ≡ rows 8192 bs) (z : n ≡ 0) where
 
 -- ---- the rows 1 to 7, and then row 8
 
-module _ (bs : List ℕ) (l : Lengths) (n : ℕ) (e : n ≡ rows 8192 bs) where
-  abbrev seven : List Bool
-  seven = conditions 8192 bs ++ shapeConditions 8192 bs (headerOf bs)
+module _ (bs : List ℕ) (l : Lengths) (n : ℕ) (e : n ≡ seven.rows bs (headerOf bs)) where
+  abbrev before : List Row
+  before = blockRows bs (headerOf bs) ++ shapeRows bs (headerOf bs)
 
   abbrev short : Bool
   short = isShort (sizesOf bs (headerOf bs)) l
 
-  eight : refusal bs l ≡ firstOf (seven ++ (short ∷ []))
-  unfolding refusal limit conditionsOf shapeConditions
+  eight : refusal bs l ≡ firstOf (before ++ row Buffer short ∷ [])
+  unfolding refusal rows
   eight = refl
 
   pub first-seven : (n ≡ 0 → ⊥) → n ≡ refusal bs l
-  first-seven a = e ∙ sym (first-before 0 seven (short ∷ []) (λ z. a (e ∙ z))) ∙ sym eight
+  first-seven a = e ∙ sym (first-before before (row Buffer short ∷ []) (λ z. a (e ∙ z))) ∙ sym eight
 
   module _ (z : n ≡ 0) where
     by-eighth : cond short 8 0 ≡ refusal bs l
-    unfolding conditionsOf shapeConditions firstFrom
-    by-eighth = sym (eight ∙ first-after 0 seven (short ∷ []) (sym e ∙ z))
+    unfolding firstOf
+    by-eighth = sym (eight ∙ first-after before (row Buffer short ∷ []) (all-answered bs (headerOf bs)) (sym e ∙ z))
 
     -- row 8 as it was answered
     pub row-eight : (h : Header) (eh : h ≡ headerOf bs) (r : Sizes) (A : Are (sizesOf bs h) r) (b k : Bool) → b ≡ isShort (sizesIn r) l → b ≡ k → cond k 8 0 ≡ refusal bs l
@@ -106,12 +112,11 @@ no-eighth false e = refl
 -- FORMAT 3, 4: a call that none of the eight rows refuses
 pub asked-of : (bs : List ℕ) (l : Lending) → refusal bs (lengthsOf l) ≡ 0
     → Asked (headerOf bs .kind) bs (headerOf bs) (settingsOf bs) (l .slices) (length (l .words)) (length (l .floats))
-asked-of bs l e = go (rows 8192 bs) refl
+asked-of bs l e = go (seven.rows bs (headerOf bs)) refl
   where
-    go : (n : ℕ) → n ≡ rows 8192 bs → Asked (headerOf bs .kind) bs (headerOf bs) (settingsOf bs) (l .slices) (length (l .words)) (length (l .floats))
+    go : (n : ℕ) → n ≡ seven.rows bs (headerOf bs) → Asked (headerOf bs .kind) bs (headerOf bs) (settingsOf bs) (l .slices) (length (l .words)) (length (l .floats))
     go zero q =
         record {
-          limit = 8192;
           accepted = accepted-by bs 0 q refl;
           kind = refl;
           enough = short-none (sizesOf bs (headerOf bs)) l (no-eighth _ (by-eighth bs (lengthsOf l) 0 q refl ∙ e));

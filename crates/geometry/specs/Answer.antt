@@ -4,21 +4,23 @@ use mathlib.Core.Bool.{Bool, _||_}
 use mathlib.Core.List.{List, [], _∷_, _++_}
 use lib.Dec.{ltb}
 use Rattle.bits.specs.declared.Words4.{Words4}
+use Rattle.block.specs.declared.refusal.Refusal.the-variants.{Buffer}
 use Rattle.block.specs.Header.{headerOf}
-use Rattle.block.specs.Refusal.{conditions, firstOf, numberOf}
-use Rattle.mesh.specs.Sizes.{Sizes, sizesOf, shapeConditions}
+use Rattle.block.specs.Refusal.{numberOf, Row, row, blockRows, firstOf}
+use Rattle.mesh.specs.Sizes.{Sizes, sizesOf, shapeRows}
 use Rattle.mesh.specs.Result.{Result, blockMesh, resultOf}
 use Rattle.geometry.specs.declared.answer.Answer.{Answer}
 use Rattle.geometry.specs.declared.answer.Answer.the-variants.{Refused, Made}
+use Rattle.geometry.specs.declared.answer.Call.{Call}
 use Rattle.geometry.specs.declared.answer.Lengths.{Lengths}
-
--- FORMAT 3: the limit of the rows 4 and 7
-unfoldable pub limit : ℕ
-limit = 8192
 
 -- FORMAT 7.2: a missing colour, (1, 1, 1, 1)
 unfoldable pub white : Words4
 white = record { r = 0x3f80_0000; g = 0x3f80_0000; b = 0x3f80_0000; a = 0x3f80_0000 }
+
+-- FORMAT 7.2: what a call is made with
+abbrev pub plain : Call
+plain = record { colour = white }
 
 -- FORMAT 3, 8, buffer: a lent slice shorter than section 4 says
 unfoldable pub isShort : Sizes → Lengths → Bool
@@ -32,13 +34,17 @@ isShort z l =
     || (ltb (l .words) (8 * (z .corners + z .points) + 8)
     || ltb (l .floats) (8 * (z .corners + z .points) + 8)))))))
 
--- FORMAT 3: the number of the first of the eight rows that holds, 0 where none does
+-- FORMAT 3: the table, in the order in which its rows are tested
+unfoldable pub rows : List ℕ → Lengths → List Row
+rows bs l = let h = headerOf bs in blockRows bs h ++ shapeRows bs h ++ row Buffer (isShort (sizesOf bs h) l) ∷ []
+
+-- FORMAT 3: the number of the first of its rows that holds, 0 where none does
 unfoldable pub refusal : List ℕ → Lengths → ℕ
-refusal bs l = let h = headerOf bs in firstOf (conditions limit bs ++ (shapeConditions limit bs h ++ (isShort (sizesOf bs h) l ∷ [])))
+refusal bs l = firstOf (rows bs l)
 
 -- FORMAT 5: the counts and bits of an accepted block
-unfoldable pub resultFor : List ℕ → Result
-resultFor bs = resultOf (headerOf bs) (blockMesh white bs)
+unfoldable pub resultFor : Call → List ℕ → Result
+resultFor call bs = resultOf (headerOf bs) (blockMesh (call .colour) bs)
 
 -- FORMAT 3, 5: what an answer says: the number of a refusal, or the counts and bits of a mesh
 pub data Saying : Type 0 where

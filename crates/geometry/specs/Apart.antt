@@ -8,15 +8,16 @@ use Rattle.block.specs.Header.{headerOf}
 use Rattle.mesh.specs.Mesh.{Slices}
 use Rattle.mesh.specs.Result.{makesNormals, makesColours, makesTextures}
 use Rattle.geometry.specs.declared.answer.Answer.the-variants.{Made}
+use Rattle.geometry.specs.declared.answer.Call.{Call}
 use Rattle.geometry.specs.declared.answer.Report.{Report}
 use Rattle.geometry.specs.Converted.{Lending, Converted}
 
 -- FORMAT 3, 5: of the block bs: what it was lent, what it left, and the counts and bits it answered
-pub record AcceptedCall (bs : List ℕ) : Type 0 where
+pub record AcceptedCall (call : Call) (bs : List ℕ) : Type 0 where
   pub lent : Lending
   pub left : Lending
   pub report : Report
-  pub converted : Converted bs lent left (Made report)
+  pub converted : Converted call bs lent left (Made report)
 
 -- FORMAT 5: from the start of each slice as many as the answer says, and none of an attribute that is not made
 unfoldable pub elements : Header → Report → Slices → Slices
@@ -31,5 +32,5 @@ elements h p S =
     }
 
 -- FORMAT 13: the elements that a call made
-abbrev pub elementsOf : {bs : List ℕ} → AcceptedCall bs → Slices
-elementsOf {bs} x = elements (headerOf bs) (x .report) (x .left .slices)
+abbrev pub elementsOf : {call : Call} {bs : List ℕ} → AcceptedCall call bs → Slices
+elementsOf {call} {bs} x = elements (headerOf bs) (x .report) (x .left .slices)

@@ -4,11 +4,12 @@ use mathlib.Core.Path.{_≡_}
 use mathlib.Core.List.{List}
 use lib.ListN.{length, replicate}
 use lib.Ieee.{Float, binary32, ofBits}
-use Rattle.mesh.specs.Mesh.{Slices, over}
+use Rattle.mesh.specs.Mesh.{Slices, overAll}
 use Rattle.mesh.specs.Result.{made}
 use Rattle.geometry.specs.declared.answer.Answer.{Answer}
+use Rattle.geometry.specs.declared.answer.Call.{Call}
 use Rattle.geometry.specs.declared.answer.Lengths.{Lengths}
-use Rattle.geometry.specs.Answer.{white, refusal, resultFor, saying, said}
+use Rattle.geometry.specs.Answer.{refusal, resultFor, saying, said}
 
 -- FORMAT 4: what the eight lent slices hold: the six of the mesh, and the two working slices
 pub record Lending : Type 0 where
@@ -34,10 +35,10 @@ lengthsOf l =
 abbrev pub numberFor : List ℕ → Lending → ℕ
 numberFor bs l = refusal bs (lengthsOf l)
 
--- FORMAT 3, 5: a slice after a call: where nothing is refused, what is made and then what it held; else what it held
-abbrev pub after : ℕ → List ℕ → List ℕ → List ℕ
-after zero new held = over new held
-after (suc n) new held = held
+-- FORMAT 3, 5: the six slices after a call: where nothing is refused, what is made and then what they held; else what they held
+abbrev pub afterAll : ℕ → Slices → Slices → Slices
+afterAll zero new held = overAll new held
+afterAll (suc n) new held = held
 
 -- FORMAT 3, 5: a working slice after a call: where nothing is refused, zeros; else what it held
 abbrev pub cleared : {A : Type 0} → ℕ → A → List A → List A
@@ -45,13 +46,8 @@ cleared zero z held = replicate (length held) z
 cleared (suc n) z held = held
 
 -- FORMAT 3, 4, 5: a call on the block bs, with l lent, left m and answered r
-pub record Converted (bs : List ℕ) (l m : Lending) (r : Answer) : Type 0 where
-  pub answer : saying r ≡ said (numberFor bs l) (resultFor bs)
-  pub positions : m .slices .positions ≡ after (numberFor bs l) (made white bs .positions) (l .slices .positions)
-  pub normals : m .slices .normals ≡ after (numberFor bs l) (made white bs .normals) (l .slices .normals)
-  pub colours : m .slices .colours ≡ after (numberFor bs l) (made white bs .colours) (l .slices .colours)
-  pub textures : m .slices .textures ≡ after (numberFor bs l) (made white bs .textures) (l .slices .textures)
-  pub sources : m .slices .sources ≡ after (numberFor bs l) (made white bs .sources) (l .slices .sources)
-  pub indices : m .slices .indices ≡ after (numberFor bs l) (made white bs .indices) (l .slices .indices)
+pub record Converted (call : Call) (bs : List ℕ) (l m : Lending) (r : Answer) : Type 0 where
+  pub answer : saying r ≡ said (numberFor bs l) (resultFor call bs)
+  pub slices : m .slices ≡ afterAll (numberFor bs l) (made (call .colour) bs) (l .slices)
   pub words : m .words ≡ cleared (numberFor bs l) 0 (l .words)
   pub floats : m .floats ≡ cleared (numberFor bs l) (ofBits binary32 0) (l .floats)

@@ -1,5 +1,11 @@
 // What a call answers, and what it was lent (FORMAT 3, 4, 5).
+use bits::Words4;
 use block::Refusal;
+
+// What the caller chooses: the colour of a missing entry (FORMAT 7.2).
+pub struct Call {
+    pub colour: Words4,
+}
 
 // What a mesh has.
 pub struct Report {

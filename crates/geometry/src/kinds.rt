@@ -4,6 +4,7 @@ ghost use Rattle.mesh.specs.Result.{blockMesh};
 ghost use Rattle.lent.specs.Lent.{Asked, Shaped, Cleared};
 use bits::Words4;
 use block::Header;
+use block::Kind;
 use block::Settings;
 use extrusionshape::make_extrusion;
 use facesetshape::make_face_set;
@@ -11,7 +12,7 @@ use gridshape::make_grid;
 use lent::Counts;
 use lineshape::make_line_set;
 
-// FORMAT 2.2: by kind; 3 is the last.
+// FORMAT 2.2: by kind. No block of another kind is accepted.
 pub fn make_kind(
     block: &[u8],
     h: Header,
@@ -34,8 +35,9 @@ pub fn make_kind(
         (record { sources = now (sources .exit); positions = now (positions .exit); normals = now (normals .exit); colours = now (colours .exit); textures = now (textures .exit); indices = now (indices .exit) })
         r × Cleared (now (work .entry)) (now (work .exit)) (now (floats .entry)) (now (floats .exit)) ⌝ }
 {
-    if h.kind == 0 {
-        return make_face_set(
+    let kind = h.kind;
+    match kind {
+        Kind::FaceSet => make_face_set(
             block,
             h,
             s,
@@ -48,10 +50,8 @@ pub fn make_kind(
             indices,
             work,
             floats,
-        );
-    }
-    if h.kind == 1 {
-        return make_line_set(
+        ),
+        Kind::LineSet => make_line_set(
             block,
             h,
             missing,
@@ -63,10 +63,8 @@ pub fn make_kind(
             indices,
             work,
             floats,
-        );
-    }
-    if h.kind == 2 {
-        return make_grid(
+        ),
+        Kind::Grid => make_grid(
             block,
             h,
             s,
@@ -79,19 +77,23 @@ pub fn make_kind(
             indices,
             work,
             floats,
-        );
+        ),
+        Kind::Extrusion => make_extrusion(
+            block,
+            h,
+            s,
+            sources,
+            positions,
+            normals,
+            colours,
+            textures,
+            indices,
+            work,
+            floats,
+        ),
+        Kind::Other => Counts {
+            vertices: 0,
+            indices: 0,
+        },
     }
-    make_extrusion(
-        block,
-        h,
-        s,
-        sources,
-        positions,
-        normals,
-        colours,
-        textures,
-        indices,
-        work,
-        floats,
-    )
 }

@@ -5,6 +5,7 @@ mod refusals;
 mod whole;
 
 pub use answer::Answer;
+pub use answer::Call;
 pub use answer::Lengths;
 pub use answer::Report;
 pub use whole::convert;

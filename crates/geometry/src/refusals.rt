@@ -43,9 +43,10 @@ fn is_short(z: Sizes, l: Lengths) -> bool
 pub fn refusal_for(block: &[u8], l: Lengths) -> Refusal
     ensures { λ r. ⌜ numberOf r ≡ refusal (now (block .entry)) l ⌝ }
 {
-    let first = sizes::refusal_to_7(block, 8192);
+    let h = block::read_header(block);
+    let first = sizes::refusal_to_7(block, h);
     if block::is_taken(first) {
-        let z = sizes::sizes_of(block, block::read_header(block));
+        let z = sizes::sizes_of(block, h);
         if is_short(z, l) {
             return Refusal::Buffer;
         }

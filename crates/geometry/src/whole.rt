@@ -1,8 +1,9 @@
 // One call: a block and eight lent slices (FORMAT 3, 4, 5).
 ghost use mathlib.Core.Path.{_≡_};
-ghost use Rattle.geometry.specs.Answer.{white};
+ghost use Rattle.geometry.specs.Answer.{white, plain};
 ghost use Rattle.geometry.specs.Converted.{numberFor, Converted};
 use crate::answer::Answer;
+use crate::answer::Call;
 use crate::answer::Lengths;
 use crate::answer::Report;
 use crate::kinds::make_kind;
@@ -23,6 +24,7 @@ fn white_words() -> Words4
 
 // A call that nothing refuses.
 fn make(
+    call: Call,
     block: &[u8],
     positions: &mut [u32],
     normals: &mut [u32],
@@ -36,14 +38,14 @@ fn make(
     requires { ⌜ numberFor (now block)
         (record { slices = record { positions = now positions; normals = now normals; colours = now colours; textures = now textures; sources = now sources; indices = now indices }; words = now words; floats = now floats })
         ≡ 0 ⌝ }
-    ensures { λ r. ⌜ Converted (now (block .entry))
+    ensures { λ r. ⌜ Converted call (now (block .entry))
         (record { slices = record { positions = now (positions .entry); normals = now (normals .entry); colours = now (colours .entry); textures = now (textures .entry); sources = now (sources .entry); indices = now (indices .entry) }; words = now (words .entry); floats = now (floats .entry) })
         (record { slices = record { positions = now (positions .exit); normals = now (normals .exit); colours = now (colours .exit); textures = now (textures .exit); sources = now (sources .exit); indices = now (indices .exit) }; words = now (words .exit); floats = now (floats .exit) })
         (Answer.Made r) ⌝ }
 {
     let h = block::read_header(block);
     let s = block::read_settings(block);
-    let missing = white_words();
+    let missing = call.colour;
     let n = make_kind(
         block,
         h,
@@ -68,8 +70,9 @@ fn make(
     }
 }
 
-// The mesh of a block, into the lent slices; or a refusal, and every lent element as it was.
-pub fn convert(
+// A call of any kind.
+fn answer_call(
+    call: Call,
     block: &[u8],
     positions: &mut [u32],
     normals: &mut [u32],
@@ -80,7 +83,7 @@ pub fn convert(
     words: &mut [u32],
     floats: &mut [f32],
 ) -> Answer
-    ensures { λ r. ⌜ Converted (now (block .entry))
+    ensures { λ r. ⌜ Converted call (now (block .entry))
         (record { slices = record { positions = now (positions .entry); normals = now (normals .entry); colours = now (colours .entry); textures = now (textures .entry); sources = now (sources .entry); indices = now (indices .entry) }; words = now (words .entry); floats = now (floats .entry) })
         (record { slices = record { positions = now (positions .exit); normals = now (normals .exit); colours = now (colours .exit); textures = now (textures .exit); sources = now (sources .exit); indices = now (indices .exit) }; words = now (words .exit); floats = now (floats .exit) })
         r ⌝ }
@@ -100,6 +103,7 @@ pub fn convert(
     );
     if block::is_taken(no) {
         return Answer::Made(make(
+            call,
             block,
             positions,
             normals,
@@ -112,4 +116,37 @@ pub fn convert(
         ));
     }
     Answer::Refused(no)
+}
+
+// The mesh of a block, into the lent slices; or a refusal, and every lent element as it was.
+pub fn convert(
+    block: &[u8],
+    positions: &mut [u32],
+    normals: &mut [u32],
+    colours: &mut [u32],
+    textures: &mut [u32],
+    sources: &mut [u32],
+    indices: &mut [u32],
+    words: &mut [u32],
+    floats: &mut [f32],
+) -> Answer
+    ensures { λ r. ⌜ Converted plain (now (block .entry))
+        (record { slices = record { positions = now (positions .entry); normals = now (normals .entry); colours = now (colours .entry); textures = now (textures .entry); sources = now (sources .entry); indices = now (indices .entry) }; words = now (words .entry); floats = now (floats .entry) })
+        (record { slices = record { positions = now (positions .exit); normals = now (normals .exit); colours = now (colours .exit); textures = now (textures .exit); sources = now (sources .exit); indices = now (indices .exit) }; words = now (words .exit); floats = now (floats .exit) })
+        r ⌝ }
+{
+    answer_call(
+        Call {
+            colour: white_words(),
+        },
+        block,
+        positions,
+        normals,
+        colours,
+        textures,
+        sources,
+        indices,
+        words,
+        floats,
+    )
 }

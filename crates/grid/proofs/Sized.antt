@@ -8,11 +8,12 @@ use borrow.Author.Tests.{ltb-false}
 use lib.Dec.{ltb}
 use lib.ListN.{length}
 use Rattle.bits.specs.Bits.{entries}
-use Rattle.bits.proofs.Fields.{field-lt}
+use Rattle.block.specs.declared.kind.Kind.the-variants.{Grid}
 use Rattle.block.specs.declared.header.Header.{Header}
-use Rattle.block.specs.Header.{countsOf, headerOf}
+use Rattle.block.specs.Header.{headerOf}
 use Rattle.block.specs.Lists.{gridWidths, wordCount, listSize, listBytes}
-use Rattle.block.proofs.ListLaws.{widths-grid, size-by, list-entries}
+use Rattle.block.proofs.EditionLaws.{count-narrow}
+use Rattle.block.proofs.ListLaws.{widths-of, size-by, list-entries}
 use Rattle.mesh.specs.Grid.{xDimension, zDimension}
 use Rattle.mesh.specs.Sizes.{quadCount, heightCount, isNoGrid}
 use Rattle.tables.specs.declared.layout.Plan.{Plan}
@@ -24,20 +25,19 @@ use Rattle.grid.specs.Sides.{Sides, Planned}
 use Rattle.grid.specs.Textures.{Placed}
 
 pub sides-of : (bs : List ℕ) (h : Header) → h ≡ headerOf bs → 2 ≤ xDimension h → 2 ≤ zDimension h → xDimension h * zDimension h ≤ most → Sides h
-unfolding headerOf countsOf
 sides-of bs h e x z f = record {
   wide = x;
   deep = z;
-  width = rw e (field-lt bs 20 14);
-  depth = rw e (field-lt bs 34 14);
+  width = rw e (count-narrow bs 0);
+  depth = rw e (count-narrow bs 1);
   few = f;
 }
 
 -- FORMAT 2.4, 2.5: of a block of the right length, the list of heights has as many entries as its count tells
-pub heights-in : (bs : List ℕ) (h : Header) → h .kind ≡ 2 → length bs ≡ 4 * wordCount (h .kind) (h .alpha) (h .counts) → (n : ℕ) → n ≤ heightCount h
+pub heights-in : (bs : List ℕ) (h : Header) → h .kind ≡ Grid → length bs ≡ 4 * wordCount h → (n : ℕ) → n ≤ heightCount h
     → n ≤ length (entries (listBytes bs h 3))
 heights-in bs h k w n l =
-    let s : listSize (h .kind) (h .alpha) (h .counts) 3 ≡ 1 * heightCount h = size-by (h .kind) (h .alpha) (h .counts) (gridWidths (h .alpha)) 3 (widths-grid (h .kind) (h .alpha) k) in
+    let s : listSize h 3 ≡ 1 * heightCount h = size-by h (gridWidths (h .alpha)) 3 (widths-of h k) in
     omega (arith, list-entries bs h 3 w)
 
 -- FORMAT 3, 6: of a grid that has a shape

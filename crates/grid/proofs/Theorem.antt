@@ -1,5 +1,6 @@
 -- FORMAT 8.3: the grid's faces are those of its listings.
 use mathlib.Core.Path.{_≡_, refl, sym, ap₂, _∙_}
+use mathlib.Core.Bool.{false}
 use mathlib.Core.List.{List, [], _∷_, map}
 use Prim.Native.Nat.{ℕ, _+_, _-_, _*_, _/_, _%_, _≤_, _<_}
 use native.Mathlib.Nat.{mul-comm}
@@ -8,6 +9,7 @@ use lib.ListN.{length, getD}
 use Rattle.polygon.proofs.Tabs.{tab-same, map-tab}
 use Rattle.bits.specs.declared.Words4.{Words4}
 use Rattle.block.specs.declared.header.Header.{Header}
+use Rattle.block.specs.Kind.{isIndexed}
 use Rattle.block.specs.Header.{headerOf}
 use Rattle.block.specs.Settings.{settingsOf}
 use Rattle.mesh.specs.FaceSet.{Rest, cornerBy}
@@ -73,7 +75,7 @@ unfolding gridListing quad
 listed-below xd zd q k h l m = rw (sym (getD-map-lt (λ (u : Use). u .point) (quadOf useOf xd q) k 0 noUse m)) (quad-below xd zd q h l k)
 
 -- ---- the texture of a use is the one that is written
-pub use-texture : (missing : Words4) (bs : List ℕ) (num p : ℕ) → 2 ≤ headerOf bs .kind
+pub use-texture : (missing : Words4) (bs : List ℕ) (num p : ℕ) → isIndexed (headerOf bs .kind) ≡ false
     → gridUse missing (gridOf bs) num (useOf p) .texture ≡ gridTexture bs (headerOf bs) (settingsOf bs) p
 unfolding gridUse cornerBy gridTexture gridOf
 use-texture missing bs num p h =

@@ -1,6 +1,6 @@
 -- FORMAT 2.2, 2.4: what is asked of a grid's sides, and of the plan of its tables.
 use mathlib.Core.Path.{_≡_}
-use Prim.Native.Nat.{ℕ, _*_, _≤_, _<_}
+use Prim.Native.Nat.{ℕ, _*_, _^_, _≤_, _<_}
 use Rattle.block.specs.declared.header.Header.{Header}
 use Rattle.mesh.specs.Grid.{xDimension, zDimension}
 use Rattle.mesh.specs.Sizes.{quadCount}
@@ -11,8 +11,8 @@ use Rattle.tables.specs.Layout.{most, Room}
 pub record Sides (h : Header) : Type 0 where
   pub wide : 2 ≤ xDimension h
   pub deep : 2 ≤ zDimension h
-  pub width : xDimension h < 16384
-  pub depth : zDimension h < 16384
+  pub width : xDimension h < 2 ^ 16
+  pub depth : zDimension h < 2 ^ 16
   pub few : xDimension h * zDimension h ≤ most
 
 -- FORMAT 4: a plan for the grid's points, corners and quads, in len words

@@ -6,12 +6,15 @@ use Prim.Native.Nat.{ℕ, _+_, _-_, _*_, _^_, _≤_}
 use native.Mathlib.Omega.{arith}
 use lib.ListN.{length, getD}
 use Rattle.bits.specs.Bits.{entries}
+use Rattle.block.specs.declared.kind.Kind.{Kind}
+use Rattle.block.specs.Kind.{byKind}
+use Rattle.block.specs.declared.kind.Kind.the-variants.{Grid}
 use Rattle.block.specs.declared.header.Header.{Header}
 use Rattle.block.specs.declared.settings.Settings.{Settings}
 use Rattle.block.specs.Lists.{listBytes}
 use Rattle.mesh.specs.Mesh.{Slices}
 use Rattle.mesh.specs.Grid.{xDimension, zDimension}
-use Rattle.mesh.specs.Sizes.{Sizes, quadCount, gridSizes, byKind, sizesOf, isNoGrid, isNoExtrusion, isNoShape}
+use Rattle.mesh.specs.Sizes.{Sizes, quadCount, gridSizes, sizesOf, isNoGrid, isNoExtrusion, isNoShape}
 use Rattle.tables.specs.declared.layout.Plan.{Plan}
 use Rattle.tables.specs.Layout.{most, planOf}
 use Rattle.corners.specs.Laid.{tablesOf, Laid}
@@ -31,7 +34,7 @@ module _ (h : Header) {x z : ℕ} (ex : x ≡ xDimension h) (ez : z ≡ zDimensi
   unfolding gridPlan
   plan-by = ap₂ (λ (x z : ℕ). planOf (x * z) (4 * ((z - 1) * (x - 1))) ((z - 1) * (x - 1))) ex ez
 
-module _ {bs : List ℕ} {h : Header} {s : Settings} {o : Slices} {w f : ℕ} (A : Asked 2 bs h s o w f) where
+module _ {bs : List ℕ} {h : Header} {s : Settings} {o : Slices} {w f : ℕ} (A : Asked Grid bs h s o w f) where
   sizes-are : sizesOf bs h ≡ gridSizes h
   unfolding sizesOf
   sizes-are = rw (A .kind) refl
@@ -41,15 +44,15 @@ module _ {bs : List ℕ} {h : Header} {s : Settings} {o : Slices} {w f : ℕ} (A
 
   shape : (2 ≤ xDimension h) × (2 ≤ zDimension h) × (xDimension h * zDimension h ≤ getD (h .counts) 3 0)
   unfolding isNoShape
-  shape = shape-of h (sym (ap (λ (k : ℕ). byKind k false false (isNoGrid h) (isNoExtrusion h)) (A .kind)) ∙ A .accepted .shape)
+  shape = shape-of h (sym (ap (λ (k : Kind). byKind k false false (isNoGrid h) (isNoExtrusion h) false) (A .kind)) ∙ A .accepted .shape)
 
   points-low : xDimension h * zDimension h ≤ most
   unfolding gridSizes
-  points-low = let p = subst (λ (z : Sizes). z .points ≤ A .limit) sizes-are (sizes-low (A .accepted) .0) in omega (arith, p, A .accepted .low)
+  points-low = subst (λ (z : Sizes). z .points ≤ most) sizes-are (sizes-low (A .accepted) .0)
 
   pub corners-low : 4 * quadCount h ≤ most
   unfolding gridSizes
-  corners-low = let p = subst (λ (z : Sizes). z .corners ≤ A .limit) sizes-are (sizes-low (A .accepted) .1) in omega (arith, p, A .accepted .low)
+  corners-low = subst (λ (z : Sizes). z .corners ≤ most) sizes-are (sizes-low (A .accepted) .1)
 
   pub sides : Sides h
   sides = sides-of bs h (A .accepted .header) (shape .0) (shape .1) points-low

@@ -5,6 +5,8 @@ use native.Mathlib.Omega.{arith}
 use Prim.Native.Nat.{ℕ}
 use lib.ListN.{replicate}
 use Rattle.bits.specs.Bits.{field}
+use Rattle.block.specs.Edition.{edition1, editionOf}
+use Rattle.block.specs.declared.kind.Kind.the-variants.{Grid}
 use Rattle.block.specs.Header.{countsOf, headerOf}
 use Rattle.block.specs.Settings.{settingsOf}
 use Rattle.block.proofs.Table.{taken-of}
@@ -17,12 +19,11 @@ use Rattle.lent.specs.Lent.{Asked, Accepted, Enough}
 abbrev bench : List ℕ
 bench = grid gridHeader
 
-accepted : Accepted 8192 bench (headerOf bench) (settingsOf bench)
+accepted : Accepted bench (headerOf bench) (settingsOf bench)
 accepted = record {
-  low = omega arith;
   header = refl;
   settings = refl;
-  taken = taken-of 8192 bench (headerOf bench) (table-rows .0);
+  taken = taken-of bench (headerOf bench) (table-rows .0);
   shape = grid-soup .3;
   corners = grid-soup .4;
 }
@@ -30,13 +31,12 @@ accepted = record {
 abbrev slices : Slices
 slices = record { sources = replicate 4 7; positions = replicate 12 7; normals = replicate 12 7; colours = replicate 16 7; textures = replicate 8 7; indices = replicate 6 7 }
 
-is-grid : headerOf bench .kind ≡ 2
-unfolding grid gridHeader gridRest headerOf countsOf field
+is-grid : headerOf bench .kind ≡ Grid
+unfolding grid gridHeader gridRest headerOf countsOf editionOf edition1 field
 is-grid = refl
 
-pub met : Asked 2 bench (headerOf bench) (settingsOf bench) slices 72 72
+pub met : Asked Grid bench (headerOf bench) (settingsOf bench) slices 72 72
 met = record {
-  limit = 8192;
   accepted = accepted;
   kind = is-grid;
   enough = subst (λ (z : Sizes). Enough z slices 72 72) (sym (grid-soup .2))

@@ -1,5 +1,6 @@
 -- FORMAT 7, 8.3, 11: the tables of a grid hold its soup, and give each corner its key.
 use mathlib.Core.Path.{_≡_, refl, sym, ap, _∙_, subst, subst₂}
+use mathlib.Core.Bool.{false}
 use mathlib.Core.List.{List, []}
 use Prim.Native.Nat.{ℕ, suc, _+_, _-_, _*_, _/_, _%_, _≤_, _<_}
 use native.Mathlib.Omega.{arith}
@@ -7,6 +8,8 @@ use lib.ListN.{length, getD}
 use lib.Ieee.{Float}
 use Rattle.bits.specs.declared.Words2.{Words2}
 use Rattle.bits.specs.declared.Words4.{Words4}
+use Rattle.block.specs.Kind.{isIndexed}
+use Rattle.block.specs.declared.kind.Kind.the-variants.{Grid}
 use Rattle.block.specs.declared.header.Header.{Header}
 use Rattle.block.specs.declared.settings.Settings.{Settings}
 use Rattle.block.specs.Header.{headerOf}
@@ -64,7 +67,7 @@ module _ (xd zd j : ℕ) (h : j < (zd - 1) * (xd - 1)) where
 
 -- what the words and floats of a grid hold
 pub record Written (bs : List ℕ) (t : Plan) (w w₁ w₂ : List ℕ) (d e : List Float) (h : Header) (s : Settings) : Type 0 where
-  pub kind : h .kind ≡ 2
+  pub kind : h .kind ≡ Grid
   pub wide : 2 ≤ xDimension h
   pub faces : t .faces ≡ quadCount h
   pub tabled : Tabled bs h s t w w₁ d e
@@ -84,12 +87,12 @@ module _ (missing : Words4) {bs : List ℕ} {t : Plan} {w w₁ w₂ : List ℕ} 
     default : ℕ → Words2
     default p = gridDefault (headerOf bs) (p % xDimension (headerOf bs)) (p / xDimension (headerOf bs))
 
-    at-least : 2 ≤ headerOf bs .kind
-    at-least = omega (arith, P .kind)
+    unlisted : isIndexed (headerOf bs .kind) ≡ false
+    unlisted = ap isIndexed (P .kind)
 
     reads : Reads read (attributesOf missing (headerOf bs)) (faceWidths (headerOf bs)) (gridUse missing G)
     unfolding gridUse gridOf G read default
-    reads = reads-of missing (gridOf bs) bs [] e default (grid-streamed bs at-least)
+    reads = reads-of missing (gridOf bs) bs [] e default (grid-streamed bs unlisted)
 
     few : (j : ℕ) → j < t .faces → j < quadCount (headerOf bs)
     few j h = omega (arith, P .faces)
@@ -114,7 +117,7 @@ module _ (missing : Words4) {bs : List ℕ} {t : Plan} {w w₁ w₂ : List ℕ} 
         let from : startIn w₂ t j ≡ startIn v t j = start-kept (kept-then K (X .kept) (omega arith)) t j (omega arith) in
         let point : pointIn w₁ t (startIn v t j + i) ≡ u .point = point-kept K t (startIn v t j + i) (omega arith) ∙ E .points j i h b in
         ap (λ (k : ℕ). textureAt w₂ (tablesOf t) (k + i)) from ∙ X .at made (startIn v t j + i) below
-        ∙ ap (gridTexture bs (headerOf bs) (settingsOf bs)) point ∙ sym (use-texture missing bs n (u .point) at-least)
+        ∙ ap (gridTexture bs (headerOf bs) (settingsOf bs)) point ∙ sym (use-texture missing bs n (u .point) unlisted)
         ∙ sym (ap (λ (u : Use). gridUse missing (gridOf bs) n u .texture) same)
 
     textures : Textures (faceWidths (headerOf bs)) w₂ t ls (gridUse missing G)

@@ -1,4 +1,5 @@
 // FORMAT 8.3, elevation_grid: all of it.
+ghost use Rattle.block.specs.declared.kind.Kind.the-variants.{Grid};
 ghost use mathlib.Core.Path.{_≡_};
 ghost use lib.ListN.{length};
 ghost use Rattle.mesh.specs.Grid.{gridMesh};
@@ -45,7 +46,7 @@ pub fn make_grid(
     work: &mut [u32],
     floats: &mut [f32],
 ) -> Counts
-    requires { ⌜ Asked 2 (now block) h s
+    requires { ⌜ Asked Grid (now block) h s
         (record { sources = now sources; positions = now positions; normals = now normals; colours = now colours; textures = now textures; indices = now indices })
         (length (now work)) (length (now floats)) ⌝ }
     ensures { λ r. ⌜ Shaped h (gridMesh missing (now (block .entry)))

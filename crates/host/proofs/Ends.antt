@@ -5,13 +5,14 @@ use mathlib.Core.List.{List}
 use lib.Seq.{sets}
 use Rattle.block.specs.declared.refusal.Refusal.{Refusal}
 use Rattle.block.specs.Refusal.{numberOf}
+use Rattle.geometry.specs.Answer.{plain}
 use Rattle.geometry.specs.Converted.{Lending, Converted}
 use Rattle.geometry.specs.declared.answer.Answer.{Answer}
 use Rattle.geometry.specs.declared.answer.Answer.the-variants.{Refused, Made}
 use Rattle.geometry.specs.declared.answer.Report.{Report}
 use Rattle.host.specs.Hosted.{wordsOf, returned, resultAfter, Hosted}
 
-module _ {bs : List ℕ} {l m : Lending} {a : Answer} (C : Converted bs l m a) where
+module _ {bs : List ℕ} {l m : Lending} {a : Answer} (C : Converted plain bs l m a) where
   pub refused-ends : {n : Refusal} {x : List ℕ} {r : ℕ} → a ≡ Refused n → r ≡ numberOf n → Hosted bs l m x x r
   refused-ends {n} {x} e q = record { answer = a; converted = C; number = q ∙ sym (ap returned e); result = sym (ap (λ (b : Answer). resultAfter b x) e) }
 

@@ -5,6 +5,7 @@ use mathlib.Core.List.{List, [], _∷_}
 use lib.Seq.{sets}
 use Rattle.block.specs.Refusal.{numberOf}
 use Rattle.mesh.specs.Sizes.{one}
+use Rattle.geometry.specs.Answer.{plain}
 use Rattle.geometry.specs.Converted.{Lending, Converted}
 use Rattle.geometry.specs.declared.answer.Answer.{Answer}
 use Rattle.geometry.specs.declared.answer.Answer.the-variants.{Refused, Made}
@@ -27,6 +28,6 @@ resultAfter (Made p) held = sets held 0 (wordsOf p)
 -- FORMAT 15: a call on the block bs, with l and the result slice x lent, left m and y and returned r
 pub record Hosted (bs : List ℕ) (l m : Lending) (x y : List ℕ) (r : ℕ) : Type 0 where
   pub answer : Answer
-  pub converted : Converted bs l m answer
+  pub converted : Converted plain bs l m answer
   pub number : r ≡ returned answer
   pub result : y ≡ resultAfter answer x

@@ -6,24 +6,23 @@ use Prim.Native.Nat.{ℕ, _+_, _*_, _≤_}
 use lib.ListN.{length, replicate}
 use lib.Ieee.{Float, binary32, ofBits}
 use Rattle.block.specs.declared.header.Header.{Header}
+use Rattle.block.specs.declared.kind.Kind.{Kind}
 use Rattle.block.specs.declared.settings.Settings.{Settings}
 use Rattle.block.specs.Header.{headerOf}
 use Rattle.block.specs.Settings.{settingsOf}
 use Rattle.block.specs.Refusal.{Taken}
-use Rattle.mesh.specs.Mesh.{Mesh, Slices, slicesOf, over}
+use Rattle.mesh.specs.Mesh.{Mesh, Slices, slicesOf, overAll}
 use Rattle.mesh.specs.Sizes.{Sizes, sizesOf, isNoShape, isOverCorners}
 use Rattle.mesh.specs.Result.{madeOf}
-use Rattle.tables.specs.Layout.{most}
 use Rattle.lent.specs.declared.Counts.{Counts}
 
 -- FORMAT 3: h and s are what the block has, and none of the rows 1 to 7 holds
-pub record Accepted (limit : ℕ) (bs : List ℕ) (h : Header) (s : Settings) : Type 0 where
-  pub low : limit ≤ most
+pub record Accepted (bs : List ℕ) (h : Header) (s : Settings) : Type 0 where
   pub header : h ≡ headerOf bs
   pub settings : s ≡ settingsOf bs
-  pub taken : Taken limit bs h
+  pub taken : Taken bs h
   pub shape : isNoShape h ≡ false
-  pub corners : isOverCorners limit bs h ≡ false
+  pub corners : isOverCorners bs h ≡ false
 
 -- FORMAT 4: the slices o, w working numbers and f working floats are long enough for the sizes z
 pub record Enough (z : Sizes) (o : Slices) (w f : ℕ) : Type 0 where
@@ -36,10 +35,9 @@ pub record Enough (z : Sizes) (o : Slices) (w f : ℕ) : Type 0 where
   pub words : 8 * (z .corners + z .points) + 8 ≤ w
   pub floats : 8 * (z .corners + z .points) + 8 ≤ f
 
--- FORMAT 3, 4: a block of kind k is accepted under some limit, and the slices o, w words and f floats are enough for it
-pub record Asked (k : ℕ) (bs : List ℕ) (h : Header) (s : Settings) (o : Slices) (w f : ℕ) : Type 0 where
-  pub limit : ℕ
-  pub accepted : Accepted limit bs h s
+-- FORMAT 3, 4: a block of kind k is accepted, and the slices o, w words and f floats are enough for it
+pub record Asked (k : Kind) (bs : List ℕ) (h : Header) (s : Settings) (o : Slices) (w f : ℕ) : Type 0 where
+  pub accepted : Accepted bs h s
   pub kind : h .kind ≡ k
   pub enough : Enough (sizesOf bs h) o w f
 
@@ -47,12 +45,7 @@ pub record Asked (k : ℕ) (bs : List ℕ) (h : Header) (s : Settings) (o : Slic
 pub record Shaped (h : Header) (M : Mesh) (o m : Slices) (r : Counts) : Type 0 where
   pub vertices : r .vertices ≡ length (M .sources)
   pub count : r .indices ≡ length (M .indices)
-  pub sources : m .sources ≡ over (madeOf h (slicesOf M) .sources) (o .sources)
-  pub positions : m .positions ≡ over (madeOf h (slicesOf M) .positions) (o .positions)
-  pub normals : m .normals ≡ over (madeOf h (slicesOf M) .normals) (o .normals)
-  pub colours : m .colours ≡ over (madeOf h (slicesOf M) .colours) (o .colours)
-  pub textures : m .textures ≡ over (madeOf h (slicesOf M) .textures) (o .textures)
-  pub indices : m .indices ≡ over (madeOf h (slicesOf M) .indices) (o .indices)
+  pub slices : m ≡ overAll (madeOf h (slicesOf M)) o
 
 -- FORMAT 4: the working slices w and f became w′ and f′, which hold zeros
 pub record Cleared (w w′ : List ℕ) (f f′ : List Float) : Type 0 where

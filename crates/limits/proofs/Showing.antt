@@ -5,15 +5,16 @@ use mathlib.Core.List.{List}
 use lib.ListN.{getD}
 use Rattle.block.specs.declared.refusal.Refusal.{Refusal}
 use Rattle.block.specs.Refusal.{numberOf}
+use Rattle.mesh.specs.Mesh.{Slices}
 use Rattle.geometry.specs.declared.answer.Answer.{Answer}
 use Rattle.geometry.specs.declared.answer.Answer.the-variants.{Refused, Made}
 use Rattle.geometry.specs.declared.answer.Report.{Report}
-use Rattle.geometry.specs.Answer.{saying}
+use Rattle.geometry.specs.Answer.{plain, saying}
 use Rattle.geometry.specs.Converted.{Lending, Converted}
 use Rattle.limits.specs.declared.full.Seen.{Seen}
 use Rattle.limits.specs.Shown.{full, numberIn, indicesIn, left, Shows}
 
-module _ {bs : List ℕ} {m : Lending} {r : Answer} (C : Converted bs full m r) where
+module _ {bs : List ℕ} {m : Lending} {r : Answer} (C : Converted plain bs full m r) where
   -- the first three indices are read from what was left
   shows-by : (number indices : ℕ) → number ≡ numberIn (saying r) → indices ≡ indicesIn (saying r)
       → Shows bs (record { number = number; indices = indices; a = getD (m .slices .indices) 0 0; b = getD (m .slices .indices) 1 0; c = getD (m .slices .indices) 2 0 })
@@ -22,9 +23,9 @@ module _ {bs : List ℕ} {m : Lending} {r : Answer} (C : Converted bs full m r) 
       record {
         number = n ∙ ap numberIn (C .answer);
         indices = i ∙ ap indicesIn (C .answer);
-        a = ap (λ (l : List ℕ). getD l 0 0) (C .indices);
-        b = ap (λ (l : List ℕ). getD l 1 0) (C .indices);
-        c = ap (λ (l : List ℕ). getD l 2 0) (C .indices);
+        a = ap (λ (l : List ℕ). getD l 0 0) (ap (λ (S : Slices). S .indices) (C .slices));
+        b = ap (λ (l : List ℕ). getD l 1 0) (ap (λ (S : Slices). S .indices) (C .slices));
+        c = ap (λ (l : List ℕ). getD l 2 0) (ap (λ (S : Slices). S .indices) (C .slices));
       }
 
   pub shows-refused : {no : Refusal} {k : ℕ} → r ≡ Refused no → k ≡ numberOf no

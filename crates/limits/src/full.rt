@@ -1,5 +1,6 @@
-// A call with slices for 8,192 points and 8,192 corners (FORMAT 4).
+// A call with slices for as many points and corners as edition 1 allows (FORMAT 4).
 ghost use Rattle.limits.specs.Shown.{Shows};
+use block::LIMIT;
 use block::number_of;
 use geometry::Answer;
 
@@ -15,14 +16,14 @@ pub struct Seen {
 pub fn convert_full(block: &[u8]) -> Seen
     ensures { λ r. ⌜ Shows (now (block .entry)) r ⌝ }
 {
-    let mut positions = [0u32; 24576];
-    let mut normals = [0u32; 24576];
-    let mut colours = [0u32; 32768];
-    let mut textures = [0u32; 16384];
-    let mut sources = [0u32; 8192];
-    let mut indices = [0u32; 24576];
-    let mut words = [0u32; 131080];
-    let mut floats = [0.0f32; 131080];
+    let mut positions = [0u32; 3 * LIMIT];
+    let mut normals = [0u32; 3 * LIMIT];
+    let mut colours = [0u32; 4 * LIMIT];
+    let mut textures = [0u32; 2 * LIMIT];
+    let mut sources = [0u32; LIMIT];
+    let mut indices = [0u32; 3 * LIMIT];
+    let mut words = [0u32; 16 * LIMIT + 8];
+    let mut floats = [0.0f32; 16 * LIMIT + 8];
     match geometry::convert(
         block,
         &mut positions,

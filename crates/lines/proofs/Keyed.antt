@@ -11,6 +11,8 @@ use Rattle.bits.specs.Bits.{entries}
 use Rattle.bits.specs.declared.Words2.{Words2}
 use Rattle.bits.specs.declared.Words3.{Words3}
 use Rattle.bits.specs.declared.Words4.{Words4}
+use Rattle.block.specs.declared.kind.Kind.{Kind}
+use Rattle.block.specs.declared.kind.Kind.the-variants.{LineSet}
 use Rattle.block.specs.Header.{headerOf}
 use Rattle.block.specs.Lists.{placeOf, listBytes}
 use Rattle.block.specs.Runs.{runs, sumOver}
@@ -40,7 +42,7 @@ use Rattle.lines.proofs.UseKeys.{keyFor, keys-uses}
 
 -- the block bs of a line set is lent, its colours are read by its stream, and they are all that is made
 pub record Coloured (missing : Words4) (bs : List ℕ) (L : Lent) (a : Attributes) (widths : Widths) : Type 0 where
-  pub kind : headerOf bs .kind ≡ 1
+  pub kind : headerOf bs .kind ≡ LineSet
   pub block : L .block ≡ bs
   pub coord : L .coord ≡ coordIn bs
   pub colours : a .colours ≡ streamOf (headerOf bs) (headerOf bs .«color_per_vertex») 2
@@ -73,7 +75,7 @@ module _ {missing : Words4} {bs : List ℕ} {L : Lent} {a : Attributes} {widths 
   colour-read place num =
       let H = headerOf bs in
       (λ i. cond (H .colors) (get4At (A .block i) (L .coord) (A .colours i) (A .alpha i) place num (A .absent i)) no4)
-      ∙ ap (λ (k : ℕ). cond (H .colors)
+      ∙ ap (λ (k : Kind). cond (H .colors)
       (value4At (listBytes bs H 2) (H .alpha) (stream.numberAt (take (stream.indexBytes k (placeOf H 3 .len)) (drop (placeOf H 3 .at) bs)) (L .coord) (H .«color_per_vertex») place num) missing) no4)
       (A .kind)
 

@@ -7,10 +7,11 @@ use native.Mathlib.Omega.{arith}
 use lib.ListN.{length, take}
 use lib.Seq.{take-all}
 use Rattle.bits.specs.Bits.{entries}
+use Rattle.block.specs.declared.kind.Kind.the-variants.{LineSet}
 use Rattle.block.specs.declared.header.Header.{Header}
 use Rattle.block.specs.Lists.{setWidths, listSize, listBytes}
 use Rattle.block.specs.Runs.{runs, sumOver}
-use Rattle.block.proofs.ListLaws.{widths-set, size-by, list-length, list-entries}
+use Rattle.block.proofs.ListLaws.{widths-of, size-by, list-length, list-entries}
 use Rattle.mesh.specs.Mesh.{Slices}
 use Rattle.mesh.specs.FaceSet.{coordIn}
 use Rattle.mesh.specs.Sizes.{Sizes, listedPoints, named, linesAfter, lineSetSizes, sizesOf}
@@ -28,18 +29,18 @@ use Rattle.lineshape.proofs.Tabling.{tables-laid}
 abbrev pub sizesBy : ℕ → List ℕ → Sizes
 sizesBy p es = record { points = p; corners = sumOver (named p) (runs es); indices = 2 * sumOver (linesAfter p false) (runs es) }
 
-module _ {bs : List ℕ} {h : Header} {o : Slices} {w f : ℕ} (A : Asked 1 bs h (settingsOf bs) o w f) where
+module _ {bs : List ℕ} {h : Header} {o : Slices} {w f : ℕ} (A : Asked LineSet bs h (settingsOf bs) o w f) where
   sizes-are : sizesOf bs h ≡ lineSetSizes bs h
   unfolding sizesOf
   sizes-are = rw (A .kind) refl
 
   pub points-low : listedPoints h ≤ most
   unfolding lineSetSizes
-  points-low = let p = subst (λ (z : Sizes). z .points ≤ A .limit) sizes-are (sizes-low (A .accepted) .0) in omega (arith, p, A .accepted .low)
+  points-low = subst (λ (z : Sizes). z .points ≤ most) sizes-are (sizes-low (A .accepted) .0)
 
   -- FORMAT 2.4: the points, three words each, are all of their list
-  points-size : listSize (h .kind) (h .alpha) (h .counts) 0 ≡ 3 * listedPoints h
-  points-size = size-by (h .kind) (h .alpha) (h .counts) (setWidths (h .alpha)) 0 (widths-set (h .kind) (h .alpha) (omega (arith, A .kind)))
+  points-size : listSize h 0 ≡ 3 * listedPoints h
+  points-size = size-by h (setWidths (h .alpha)) 0 (widths-of h (A .kind))
 
   module _ {list : List ℕ} (l : list ≡ listBytes bs h 0) where
     pub points-in : 3 * listedPoints h ≤ length list / 4
@@ -60,7 +61,7 @@ module _ {bs : List ℕ} {h : Header} {o : Slices} {w f : ℕ} (A : Asked 1 bs h
     enough = subst (λ (z : Sizes). Enough z o w f) sizes-by (A .enough)
 
     pub corners-low : sumOver (named (listedPoints h)) (runs (entries coord)) ≤ most
-    corners-low = let p = subst (λ (z : Sizes). z .corners ≤ A .limit) sizes-by (sizes-low (A .accepted) .1) in omega (arith, p, A .accepted .low)
+    corners-low = subst (λ (z : Sizes). z .corners ≤ most) sizes-by (sizes-low (A .accepted) .1)
 
     pub laid-at : {t : CornerTables} → t ≡ lineTables (listedPoints h) (entries coord) → Laid t w
     laid-at e = subst (λ (t : CornerTables). Laid t w) (sym e) (tables-laid (listedPoints h) (entries coord) points-low corners-low w (enough .words))

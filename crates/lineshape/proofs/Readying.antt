@@ -9,6 +9,7 @@ use lib.ListN.{length, getD, take, replicate}
 use lib.Ieee.{Float}
 use Rattle.bits.specs.Bits.{entries}
 use Rattle.bits.specs.declared.Words4.{Words4}
+use Rattle.block.specs.declared.kind.Kind.the-variants.{LineSet}
 use Rattle.block.specs.declared.header.Header.{Header}
 use Rattle.block.specs.Header.{headerOf}
 use Rattle.block.specs.Settings.{settingsOf}
@@ -47,7 +48,7 @@ abbrev pub storeOf : Slices → Store
 storeOf o = record { sources = o .sources; normals = o .normals; colours = o .colours; textures = o .textures }
 
 -- the words w lent, then w₁ with the tables; the floats d; the lists, tables, attributes and widths as the code has them
-module _ (missing : Words4) (d : List Float) {bs : List ℕ} {h : Header} {o : Slices} {w w₁ : List ℕ} (A : Asked 1 bs h (settingsOf bs) o (length w) (length d))
+module _ (missing : Words4) (d : List Float) {bs : List ℕ} {h : Header} {o : Slices} {w w₁ : List ℕ} (A : Asked LineSet bs h (settingsOf bs) o (length w) (length d))
     {list coord : List ℕ} (l : list ≡ listBytes bs h 0) (c : coord ≡ listBytes bs h 1) {t : CornerTables} (e : t ≡ lineTables (listedPoints h) (entries coord))
     (T : Tabled (listedPoints h) (entries list) (entries coord) t w w₁) {a : Attributes} (q : a ≡ attributesOf missing h) {widths : Widths} (v : widths ≡ lineWidths h) where
   read : Lent
@@ -144,12 +145,14 @@ module _ (missing : Words4) (d : List Float) {bs : List ℕ} {h : Header} {o : S
         record {
           vertices = B .vertices;
           count = B .count;
-          sources = B .sources;
-          positions = B .positions;
-          normals = unmade (makesNormals h) (slicesOf M .normals) (o .normals) (rw (A .kind) refl) (B .normals);
-          colours = made-where (makesColours h) (widths .colour) (slicesOf M .colours) (o .colours) (ap (λ (x : Widths). x .colour) v ∙ rw (A .kind) refl) (B .colours) (B .uncoloured);
-          textures = unmade (makesTextures h) (slicesOf M .textures) (o .textures) (rw (A .kind) refl) (B .textures);
-          indices = B .indices;
+          slices = λ i. record {
+            sources = (B .sources) i;
+            positions = (B .positions) i;
+            normals = (unmade (makesNormals h) (slicesOf M .normals) (o .normals) (rw (A .kind) refl) (B .normals)) i;
+            colours = (made-where (makesColours h) (widths .colour) (slicesOf M .colours) (o .colours) (ap (λ (x : Widths). x .colour) v ∙ rw (A .kind) refl) (B .colours) (B .uncoloured)) i;
+            textures = (unmade (makesTextures h) (slicesOf M .textures) (o .textures) (rw (A .kind) refl) (B .textures)) i;
+            indices = (B .indices) i;
+          };
         },
         record { words = D .words ∙ ap (λ (n : ℕ). replicate n 0) len; floats = D .floats },
       )

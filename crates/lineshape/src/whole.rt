@@ -1,4 +1,5 @@
 // FORMAT 8.2, indexed_line_set: all of it.
+ghost use Rattle.block.specs.declared.kind.Kind.the-variants.{LineSet};
 ghost use mathlib.Core.Path.{_≡_};
 ghost use lib.ListN.{length};
 ghost use Rattle.mesh.specs.Lines.{lineSetMesh};
@@ -42,7 +43,7 @@ pub fn make_line_set(
     work: &mut [u32],
     floats: &mut [f32],
 ) -> Counts
-    requires { ⌜ Asked 1 (now block) h (settingsOf (now block))
+    requires { ⌜ Asked LineSet (now block) h (settingsOf (now block))
         (record { sources = now sources; positions = now positions; normals = now normals; colours = now colours; textures = now textures; indices = now indices })
         (length (now work)) (length (now floats)) ⌝ }
     ensures { λ r. ⌜ Shaped h (lineSetMesh missing (now (block .entry)))

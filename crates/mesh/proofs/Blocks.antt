@@ -11,6 +11,7 @@ use lib.Ieee.Fits.{and-l, and-r}
 use Rattle.bits.specs.Bits.{field, table, entries}
 use Rattle.math.specs.Vector.{vlen}
 use Rattle.math.specs.SquareRoot.{rootOf}
+use Rattle.block.specs.Edition.{edition1, editionOf}
 use Rattle.block.specs.Header.{countsOf, headerOf}
 use Rattle.block.specs.Lists.{widths, wordsIn, listAt, listSize, placeOf}
 use Rattle.block.specs.Runs.{endsRun, runsFrom, allBelow, kept}
@@ -84,7 +85,7 @@ suppliedBlock run = block furnished 0x3f49_0fdb 0x3f35_04f3 run (0 ∷ w1 ∷ 0 
 -- ---- what is asked of each pair
 
 pub pairs : OneRun (flatBlock beside) (flatBlock beside′) 1 × OneRun (smoothBlock away) (smoothBlock away′) 1 × OneRun (suppliedBlock beside) (suppliedBlock beside′) 1
-unfolding runsIn coordIn placeOf listAt listSize widths wordsIn headerOf countsOf field entries table runsFrom endsRun byteOf flat
+unfolding runsIn coordIn placeOf listAt listSize widths wordsIn headerOf countsOf editionOf edition1 field entries table runsFrom endsRun byteOf flat
 pairs = (
   record { in-b = lit< tt; in-c = lit< tt; place = refl; long = refl; fore = refl; aft = refl },
   record { in-b = lit< tt; in-c = lit< tt; place = refl; long = refl; fore = refl; aft = refl },
@@ -94,7 +95,7 @@ pairs = (
 pub conditions : NormalsApart no4 (flatBlock beside) (flatBlock beside′) 1 0
     × NormalsApart no4 (smoothBlock away) (smoothBlock away′) 1 0
     × NormalsApart no4 (suppliedBlock beside) (suppliedBlock beside′) 1 0
-unfolding runsIn coordIn placeOf listAt listSize widths wordsIn headerOf countsOf field entries table runsFrom endsRun flat restOf le ofBits names facesOf faceOf cornerOf cornerBy normalOf numberAt numberIn chosen itself valueAt kept allBelow mapN vlen rootOf add mul lt
+unfolding runsIn coordIn placeOf listAt listSize widths wordsIn headerOf countsOf editionOf edition1 field entries table runsFrom endsRun flat restOf le ofBits names facesOf faceOf cornerOf cornerBy normalOf numberAt numberIn chosen itself valueAt kept allBelow mapN vlen rootOf add mul lt
 conditions = (
   own refl refl,
   apart refl (λ p h. (clear-apart (0 ∷ 1 ∷ 2 ∷ []) away tt p h, clear-apart (0 ∷ 1 ∷ 2 ∷ []) away′ tt p h)),

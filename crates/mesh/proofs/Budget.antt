@@ -1,4 +1,4 @@
--- FORMAT 10.2: C corners ask for at most C each, so that 8,192 of them never use up the budget.
+-- FORMAT 10.2: C corners ask for at most C each, so that as many as edition 1 allows never use up the budget.
 use mathlib.Core.Path.{_≡_, refl, sym, subst}
 use mathlib.Core.Bool.{Bool, true, false, cond}
 use mathlib.Core.List.{List, [], _∷_}
@@ -7,6 +7,7 @@ use native.Mathlib.Nat.{le-trans, mul-add, mul-one, mul-le-mul}
 use native.Mathlib.Omega.{arith}
 use lib.Dec.{eqb}
 use lib.ListN.{length, length-append}
+use Rattle.block.specs.Edition.{edition1}
 use Rattle.mesh.specs.Lists.{joinN, total}
 use Rattle.mesh.specs.Soup.{Corner, Face, Frame}
 use Rattle.mesh.specs.Normals.{facing, Hit, hits, hitsOf, incident}
@@ -62,7 +63,7 @@ module _ (F : Frame) where
   unfolding askedInAll
   asked-square fs = total-within (askedBy F fs) length (total length fs) (face-within fs) fs
 
-  -- FORMAT 10.2: up to 8,192 corners the budget is never used up
-  pub budget-holds : (fs : List Face) → total length fs ≤ 8192 → askedInAll F fs ≤ creaseBudget
-  unfolding creaseBudget
+  -- FORMAT 10.2: within the limit of edition 1 the budget is never used up
+  pub budget-holds : (fs : List Face) → total length fs ≤ edition1 .limit → askedInAll F fs ≤ creaseBudget
+  unfolding creaseBudget edition1
   budget-holds fs h = le-trans (asked-square fs) (mul-le-mul h h)

@@ -1,20 +1,17 @@
 -- Two blocks that are equal outside one run of coordIndex have the same header, settings and other lists, and index lists that are equal outside that run.
 use mathlib.Core.Path.{_≡_, refl, sym, ap, _∙_, subst}
-use mathlib.Core.List.{List, [], _∷_}
+use mathlib.Core.List.{List}
 use Prim.Native.Nat.{ℕ, zero, suc, _+_, _*_, _-_, _/_, _%_, _^_, _≤_, _<_}
 use native.Mathlib.Omega.{arith}
-use lib.Dec.{lit<, lit≤, eqb}
-use lib.Ieee.{Float, binary32, ofBits}
 use lib.ListN.{length, getD, take, drop, length-take, length-drop}
 use lib.Seq.{take-take, drop-drop, take-all, getD-take}
 use Rattle.bits.specs.Bits.{field, entries}
 use Rattle.bits.proofs.Entries.{entries-length, entries-part}
-use Rattle.math.specs.Vector.{zeroF, oneF}
 use Rattle.block.specs.declared.header.Header.{Header}
-use Rattle.block.specs.Header.{countsOf, headerOf}
-use Rattle.block.specs.Lists.{widths, listAt, listSize, placeOf, listBytes}
-use Rattle.block.specs.Settings.{floatAt, finiteOr, pairOr, pairAt, transformOf, settingsOf}
-use Rattle.block.specs.Crease.{creaseOf}
+use Rattle.block.specs.Edition.{editionIn, wordsAhead}
+use Rattle.block.specs.Header.{headerOf}
+use Rattle.block.specs.Lists.{widths, ahead, listAt, listSize, placeOf, listBytes}
+use Rattle.block.proofs.Reading.{header-same, settings-same}
 use Rattle.block.proofs.ListLaws.{words-more}
 use Rattle.mesh.specs.FaceSet.{restOf, coordIn, runsIn}
 use Rattle.mesh.specs.OneRun.{runIn, byteOf, OneRun}
@@ -35,72 +32,14 @@ module _ (b c : List ℕ) (m : ℕ) (e : take m b ≡ take m c) where
       let g : getD b ((i + n) / 8) 0 ≡ getD c ((i + n) / 8) 0 = byte-same ((i + n) / 8) (omega arith) in
       λ t. f t * 2 + g t / 2 ^ (7 - (i + n) % 8) % 2
 
-  module _ (long : 68 ≤ m) where
-    word : (i n : ℕ) → i + n ≤ 544 → field b i n ≡ field c i n
-    word i n h = field-same i n (omega arith)
-
-    header-same : headerOf b ≡ headerOf c
-    unfolding headerOf countsOf
-    header-same = λ t. record {
-      edition = word 0 4 (lit≤ tt) t;
-      kind = word 4 3 (lit≤ tt) t;
-      ccw = eqb (word 7 1 (lit≤ tt) t) 1;
-      convex = eqb (word 8 1 (lit≤ tt) t) 1;
-      solid = eqb (word 9 1 (lit≤ tt) t) 1;
-      «color_per_vertex» = eqb (word 10 1 (lit≤ tt) t) 1;
-      «normal_per_vertex» = eqb (word 11 1 (lit≤ tt) t) 1;
-      «need_uvs» = eqb (word 12 1 (lit≤ tt) t) 1;
-      transformed = eqb (word 13 1 (lit≤ tt) t) 1;
-      colors = eqb (word 14 1 (lit≤ tt) t) 1;
-      alpha = eqb (word 15 1 (lit≤ tt) t) 1;
-      normals = eqb (word 16 1 (lit≤ tt) t) 1;
-      «texture_points» = eqb (word 17 1 (lit≤ tt) t) 1;
-      «begin_cap» = eqb (word 18 1 (lit≤ tt) t) 1;
-      «end_cap» = eqb (word 19 1 (lit≤ tt) t) 1;
-      counts = word 20 14 (lit≤ tt) t ∷ word 34 14 (lit≤ tt) t ∷ word 48 14 (lit≤ tt) t ∷ word 62 14 (lit≤ tt) t ∷ word 76 14 (lit≤ tt) t ∷ word 90 14 (lit≤ tt) t ∷ word 104 14 (lit≤ tt) t ∷ word 118 14 (lit≤ tt) t ∷ [];
-      zeros = word 132 28 (lit≤ tt) t;
-    }
-
-    float-same : (k : ℕ) → k < 12 → floatAt b k ≡ floatAt c k
-    float-same k h = ap (ofBits binary32) (word (160 + 32 * k) 32 (omega arith))
-
-    pair-same : (k : ℕ) (x y : Float) → k + 1 < 12 → pairAt b k x y ≡ pairAt c k x y
-    pair-same k x y h =
-        let f = float-same k (omega arith) in
-        let g = float-same (k + 1) h in
-        λ t. pairOr (record { s = f t; t = g t }) (record { s = x; t = y })
-
-    settings-same : settingsOf b ≡ settingsOf c
-    unfolding settingsOf transformOf
-    settings-same =
-        let center = pair-same 4 zeroF zeroF (lit< tt) in
-        let rotation = pair-same 6 zeroF oneF (lit< tt) in
-        let scale = pair-same 8 oneF oneF (lit< tt) in
-        let translation = pair-same 10 zeroF zeroF (lit< tt) in
-        λ t. record {
-          crease = creaseOf (finiteOr (float-same 0 (lit< tt) t) zeroF) (float-same 1 (lit< tt) t);
-          «x_spacing» = finiteOr (float-same 2 (lit< tt) t) oneF;
-          «z_spacing» = finiteOr (float-same 3 (lit< tt) t) oneF;
-          transform = record {
-            «center_s» = center t .s;
-            «center_t» = center t .t;
-            sine = rotation t .s;
-            cosine = rotation t .t;
-            «scale_s» = scale t .s;
-            «scale_t» = scale t .t;
-            «translation_s» = translation t .s;
-            «translation_t» = translation t .t;
-          };
-        }
-
 -- ---- where the lists lie: the points before coordIndex, the others after it
 
 module _ (h : Header) where
   next-place : (k : ℕ) → placeOf h (suc k) .at ≡ placeOf h k .at + placeOf h k .len
   unfolding placeOf listAt listSize
-  next-place k = let e = words-more (widths (h .kind) (h .alpha)) (h .counts) k in omega arith
+  next-place k = let e = words-more (widths h) (h .counts) k in omega arith
 
-  after-words : (k : ℕ) → 68 ≤ placeOf h k .at
+  after-words : (k : ℕ) → 4 * ahead h ≤ placeOf h k .at
   unfolding placeOf listAt
   after-words k = omega arith
 
@@ -175,13 +114,14 @@ module _ (b c : List ℕ) (r : ℕ) (h : OneRun b c r) where
   n : ℕ
   n = length (runIn b r .items)
 
-  fore-long : 68 ≤ byteOf b s
-  unfolding byteOf
-  fore-long = omega (arith, after-words (headerOf b) 1)
+  -- the bits ahead of the lists
+  bits-same : (i n : ℕ) → i + n ≤ 32 * wordsAhead (editionIn b) → field b i n ≡ field c i n
+  unfolding byteOf s headerOf
+  bits-same i n l = field-same b c (byteOf b s) (h .fore) i n (omega (arith, after-words (headerOf b) 1))
 
   pub heads : headerOf b ≡ headerOf c
   unfolding s
-  heads = header-same b c (byteOf b s) (h .fore) fore-long
+  heads = header-same b c bits-same
 
   -- coordIndex in both, by the header of b
   a : ℕ
@@ -246,7 +186,7 @@ module _ (b c : List ℕ) (r : ℕ) (h : OneRun b c r) where
   unfolding restOf s
   rest-same = λ t. record {
     head = heads t;
-    settings = settings-same b c (byteOf b s) (h .fore) fore-long t;
+    settings = settings-same b c bits-same t;
     points = entries (points-same t);
     colours = list-same 0 t;
     colourIndex = list-same 1 t;

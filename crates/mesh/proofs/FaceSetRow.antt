@@ -16,6 +16,7 @@ use Rattle.polygon.specs.Facing.{newellFrom, newell}
 use Rattle.polygon.specs.Plane.{handed, axisOf, flipOf, projected, projection}
 use Rattle.polygon.specs.Ears.{fanFrom, fan, cross2, pointInTri, blocks, isEar, firstEar, remove, goes, clip, areaTerm, area, isReversed, place as turned, order, turn, earClipBy, earClip}
 use Rattle.polygon.specs.Face.{faceTris, triangles}
+use Rattle.block.specs.Edition.{edition1, editionOf}
 use Rattle.block.specs.Header.{countsOf, headerOf}
 use Rattle.block.specs.Lists.{widths, wordsIn, listAt, listSize, placeOf}
 use Rattle.block.specs.Settings.{settingsOf}
@@ -64,5 +65,5 @@ pub face-set-row : faceSetMesh white bytes ≡ record {
   textures = uv 0 w1 ∷ uv w1 w1 ∷ uv w1 0 ∷ uv 0 0 ∷ uv 0 w1 ∷ uv w1 0 ∷ uv w1 w1 ∷ [];
   indices = 3 ∷ 0 ∷ 1 ∷ 1 ∷ 2 ∷ 3 ∷ 4 ∷ 5 ∷ 6 ∷ [];
 }
-unfolding faceSetMesh restOf coordIn headerOf countsOf field entries table placeOf listAt listSize widths wordsIn settingsOf creaseOf frameOf facesOf runsFrom endsRun faceOf kept allBelow cornerOf cornerBy normalOf colourOf numberAt numberIn chosen itself valueAt textureBy uvWords fitOf fitting fitBy sorted insert divisor axisBy spanOf widened coordOf defaultAt minOf maxOf choice isZero negative magnitude isNan mesh vertices keysOf keyOf cornerNormal generated orElse incident hitsOf hits creaseSum facing outline spots spot newell newellFrom handed indicesOf faceIndices locals wound triangles faceTris projection projected axisOf flipOf earClip earClipBy clip goes firstEar isEar blocks pointInTri cross2 remove fan fanFrom order turned turn isReversed area areaTerm any first run tab meshOf mended mendBy orWords renorm pointWords joinN mapN firsts meet has place sameKey sameWords flat unitOf vlen rootOf ofBits toBits add sub mul div neg lt le
+unfolding faceSetMesh restOf coordIn headerOf countsOf editionOf edition1 field entries table placeOf listAt listSize widths wordsIn settingsOf creaseOf frameOf facesOf runsFrom endsRun faceOf kept allBelow cornerOf cornerBy normalOf colourOf numberAt numberIn chosen itself valueAt textureBy uvWords fitOf fitting fitBy sorted insert divisor axisBy spanOf widened coordOf defaultAt minOf maxOf choice isZero negative magnitude isNan mesh vertices keysOf keyOf cornerNormal generated orElse incident hitsOf hits creaseSum facing outline spots spot newell newellFrom handed indicesOf faceIndices locals wound triangles faceTris projection projected axisOf flipOf earClip earClipBy clip goes firstEar isEar blocks pointInTri cross2 remove fan fanFrom order turned turn isReversed area areaTerm any first run tab meshOf mended mendBy orWords renorm pointWords joinN mapN firsts meet has place sameKey sameWords flat unitOf vlen rootOf ofBits toBits add sub mul div neg lt le
 face-set-row = refl

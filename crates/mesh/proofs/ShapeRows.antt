@@ -15,6 +15,7 @@ use Rattle.math.specs.Order.{magnitude, isZero, negative, choice, minOf, maxOf}
 use Rattle.math.specs.Quaternion.{axisTurn, halfTurn, shortestArc, turnTo, between}
 use Rattle.block.specs.declared.crease.CreaseRule.the-variants.{Own}
 use Rattle.block.specs.declared.header.Header.{Header}
+use Rattle.block.specs.Edition.{edition1, editionOf}
 use Rattle.block.specs.Header.{countsOf, headerOf}
 use Rattle.block.specs.Lists.{widths, wordsIn, listAt, listSize, placeOf}
 use Rattle.block.specs.Crease.{creaseOf}
@@ -74,8 +75,8 @@ pub grid-soup : (gridFrame (gridOf bench) ≡ flatFrame)
     × (gridFaces white (gridOf bench) ≡ (plain 0 ∷ plain 2 ∷ plain 3 ∷ plain 1 ∷ []) ∷ [])
     × (sizesOf bench (headerOf bench) ≡ record { points = 4; corners = 4; indices = 6 })
     × (isNoShape (headerOf bench) ≡ false)
-    × (isOverCorners 8192 bench (headerOf bench) ≡ false)
-unfolding grid gridHeader gridRest gridFrame gridOf gridPoints gridPoint gridFaces gridFace gridCorner cornerBy textureBy normalOf colourOf tabs tab flat quad headerOf countsOf settingsOf transformOf pairOr creaseOf placeOf listAt listSize widths wordsIn entries table field ofInt ofBits toBits mul le sizesOf gridSizes isNoShape isOverCorners
+    × (isOverCorners bench (headerOf bench) ≡ false)
+unfolding grid gridHeader gridRest gridFrame gridOf gridPoints gridPoint gridFaces gridFace gridCorner cornerBy textureBy normalOf colourOf tabs tab flat quad headerOf countsOf editionOf edition1 settingsOf transformOf pairOr creaseOf placeOf listAt listSize widths wordsIn entries table field ofInt ofBits toBits mul le sizesOf gridSizes isNoShape isOverCorners
 grid-soup = (refl, refl, refl, refl, refl)
 
 abbrev benchMesh : Mesh
@@ -115,7 +116,7 @@ pub slope-soup : (gridOf slope .points
     ∷ (tinted white 1 (st half w1) ∷ tinted white 4 (st half 0) ∷ tinted white 5 (st w1 0) ∷ tinted white 2 (st w1 w1) ∷ [])
     ∷ [])
     × (sizesOf slope (headerOf slope) ≡ record { points = 6; corners = 8; indices = 12 })
-unfolding gridOf gridPoints gridPoint gridFaces gridFace gridCorner gridDefault cornerBy textureBy normalOf colourOf uvWords numberAt numberIn itself valueAt tabs tab flat quad headerOf countsOf settingsOf transformOf pairOr creaseOf placeOf listAt listSize widths wordsIn entries table field ofInt ofBits toBits sub mul div le sizesOf gridSizes
+unfolding gridOf gridPoints gridPoint gridFaces gridFace gridCorner gridDefault cornerBy textureBy normalOf colourOf uvWords numberAt numberIn itself valueAt tabs tab flat quad headerOf countsOf editionOf edition1 settingsOf transformOf pairOr creaseOf placeOf listAt listSize widths wordsIn entries table field ofInt ofBits toBits sub mul div le sizesOf gridSizes
 slope-soup = (refl, refl, refl)
 
 -- FORMAT 5: neither colours nor texture are made of the bench's grid
@@ -128,7 +129,7 @@ pub made-row : made white bench
       textures = [];
       indices = 0 ∷ 1 ∷ 2 ∷ 0 ∷ 2 ∷ 3 ∷ [];
     }
-unfolding made madeOf blockMesh slicesOf flat grid gridHeader gridRest headerOf countsOf field
+unfolding made madeOf blockMesh slicesOf flat grid gridHeader gridRest headerOf countsOf editionOf edition1 field
 made-row = rw grid-mesh refl
 
 -- ---- FORMAT 3, 6: a 3 by 2 grid of 5 heights and of 7, sides of 1, a spine and a cross-section of 1, and an empty face set
@@ -143,7 +144,7 @@ pub shape-rows : (isNoShape (headed 0x1400_0000 0xc002_0000 0x0050_0000) ≡ tru
     × (isNoShape (headed 0x1600_0000 0x4002_0000 0) ≡ true)
     × (isNoShape (headed 0x1600_0000 0x8001_0000 0) ≡ true)
     × (isNoShape (headed 0x1000_0000 0 0) ≡ false)
-unfolding isNoShape headerOf countsOf field flat
+unfolding isNoShape headerOf countsOf editionOf edition1 field flat
 shape-rows = (refl, refl, refl, refl, refl, refl, refl)
 
 -- ---- an extrusion: 2 spine points, a triangle, both caps; and a closed one, with texture wanted
@@ -171,7 +172,7 @@ pub prism-soup : (extrusionPoints (extrusionOf prism)
     ≡ map (map plain) ((0 ∷ 1 ∷ 4 ∷ 3 ∷ []) ∷ (1 ∷ 2 ∷ 5 ∷ 4 ∷ []) ∷ (2 ∷ 1 ∷ 0 ∷ []) ∷ (3 ∷ 4 ∷ 5 ∷ []) ∷ []))
     × (sizesOf prism (headerOf prism) ≡ record { points = 6; corners = 14; indices = 18 })
     × (isNoShape (headerOf prism) ≡ false)
-unfolding extrusionPoints rowAt rowWords extrusionOf sectionOf turnIn scaleAt turnAt local placed at axesAt firstY yAt firstZ firstOf lastOf yOwn alongEnd closed zOwn zEnd bend prevZ pickZ orElse straight between turnTo halfTurn shortestArc unitOf vlen rootOf extrusionFaces sides caps capFace capLength closes sideCorner capCorner cornerAt at2 tabs tab flat quad headerOf countsOf settingsOf transformOf pairOr creaseOf placeOf listAt listSize widths wordsIn field ofInt ofBits toBits add sub mul div neg lt le eq sizesOf extrusionSizes isNoShape
+unfolding extrusionPoints rowAt rowWords extrusionOf sectionOf turnIn scaleAt turnAt local placed at axesAt firstY yAt firstZ firstOf lastOf yOwn alongEnd closed zOwn zEnd bend prevZ pickZ orElse straight between turnTo halfTurn shortestArc unitOf vlen rootOf extrusionFaces sides caps capFace capLength closes sideCorner capCorner cornerAt at2 tabs tab flat quad headerOf countsOf editionOf edition1 settingsOf transformOf pairOr creaseOf placeOf listAt listSize widths wordsIn field ofInt ofBits toBits add sub mul div neg lt le eq sizesOf extrusionSizes isNoShape
 prism-soup = (refl, refl, refl, refl)
 
 -- parts of the triangle's outline: 1 and 1 + √5 of 3 + √5
@@ -189,7 +190,7 @@ pub prism-texture : map (map (λ (c : Corner). c .texture)) (extrusionFaces (ext
     ∷ (st 0 0 ∷ st half w1 ∷ st 0 w1 ∷ [])
     ∷ (st 0 w1 ∷ st half w1 ∷ st 0 0 ∷ [])
     ∷ []
-unfolding extrusionOf sectionOf at extrusionFaces sides caps capFace capLength closes sideCorner capCorner cornerAt sideTexture capTexture capFit uvWords arcs share lengthTo step3 step2 widened spanOf divisor minOf maxOf choice isZero negative isNan at2 tabs tab flat quad vlen rootOf headerOf countsOf settingsOf transformOf pairOr creaseOf placeOf listAt listSize widths wordsIn field ofInt ofBits toBits add sub mul div lt le eq
+unfolding extrusionOf sectionOf at extrusionFaces sides caps capFace capLength closes sideCorner capCorner cornerAt sideTexture capTexture capFit uvWords arcs share lengthTo step3 step2 widened spanOf divisor minOf maxOf choice isZero negative isNan at2 tabs tab flat quad vlen rootOf headerOf countsOf editionOf edition1 settingsOf transformOf pairOr creaseOf placeOf listAt listSize widths wordsIn field ofInt ofBits toBits add sub mul div lt le eq
 prism-texture = refl
 
 -- ---- points along other spines, as the source makes them
@@ -316,7 +317,7 @@ lined es = (lineSetMesh white (lineBlock es) .sources, lineSetMesh white (lineBl
 pub line-rows : (lined (0 ∷ 1 ∷ 9 ∷ 1 ∷ 0 ∷ []) ≡ (0 ∷ 1 ∷ [], 0 ∷ 1 ∷ 1 ∷ 0 ∷ [], record { points = 2; corners = 4; indices = 4 }))
     × (lined (1 ∷ 1 ∷ []) ≡ (1 ∷ [], 0 ∷ 0 ∷ [], record { points = 2; corners = 2; indices = 2 }))
     × (lined (1 ∷ []) ≡ (1 ∷ [], [], record { points = 2; corners = 1; indices = 0 }))
-unfolding lineSetMesh linesOf lineVertices lineIndices lineKeys lineEnds itemsOf itemOf somes joined restOf coordIn colourOf joinN mapN firsts meet has place sameKey sameWords runsFrom endsRun headerOf countsOf placeOf listAt listSize widths wordsIn entries table field sizesOf lineSetSizes named linesAfter sumOver flat
+unfolding lineSetMesh linesOf lineVertices lineIndices lineKeys lineEnds itemsOf itemOf somes joined restOf coordIn colourOf joinN mapN firsts meet has place sameKey sameWords runsFrom endsRun headerOf countsOf editionOf edition1 placeOf listAt listSize widths wordsIn entries table field sizesOf lineSetSizes named linesAfter sumOver flat
 line-rows = (refl, refl, refl)
 
 -- a colour for each line: the empty run has number 0, so that the line has the second colour
@@ -328,5 +329,5 @@ green = record { r = 0; g = w1; b = 0; a = w1 }
 
 pub line-colours : lineSetMesh white coloured
     ≡ record { sources = 0 ∷ 1 ∷ []; positions = v 0 0 0 ∷ v 0 w1 0 ∷ []; normals = []; colours = green ∷ green ∷ []; textures = []; indices = 0 ∷ 1 ∷ [] }
-unfolding lineSetMesh linesOf lineVertices lineIndices lineKeys lineEnds itemsOf itemOf somes joined restOf coordIn colourOf numberAt numberIn itself valueAt pointWords joinN mapN firsts meet has place sameKey sameWords runsFrom endsRun headerOf countsOf placeOf listAt listSize widths wordsIn entries table field flat
+unfolding lineSetMesh linesOf lineVertices lineIndices lineKeys lineEnds itemsOf itemOf somes joined restOf coordIn colourOf numberAt numberIn itself valueAt pointWords joinN mapN firsts meet has place sameKey sameWords runsFrom endsRun headerOf countsOf editionOf edition1 placeOf listAt listSize widths wordsIn entries table field flat
 line-colours = refl

@@ -20,6 +20,10 @@ pub record Mesh : Type 0 where
   pub textures : List Words2
   pub indices : List ℕ
 
+-- of a kind that there is not
+abbrev pub noMesh : Mesh
+noMesh = record { sources = []; positions = []; normals = []; colours = []; textures = []; indices = [] }
+
 -- FORMAT 5, PolyMesh::build: what stands at each vertex
 unfoldable pub meshOf : Frame → List Key → List ℕ → Mesh
 meshOf F vs is =
@@ -48,6 +52,18 @@ pub record Slices : Type 0 where
 -- FORMAT 5: what is made stands in front, and then what the slice held
 abbrev pub over : List ℕ → List ℕ → List ℕ
 over made held = made ++ drop (length made) held
+
+-- FORMAT 5: the same of every slice
+abbrev pub overAll : Slices → Slices → Slices
+overAll made held =
+    record {
+      sources = over (made .sources) (held .sources);
+      positions = over (made .positions) (held .positions);
+      normals = over (made .normals) (held .normals);
+      colours = over (made .colours) (held .colours);
+      textures = over (made .textures) (held .textures);
+      indices = over (made .indices) (held .indices);
+    }
 
 -- FORMAT 5: three words a vertex for positions and normals, four for colours, two for texture
 unfoldable pub slicesOf : Mesh → Slices

@@ -1,34 +1,33 @@
 -- FORMAT 5: the mesh of a block of any kind, which of its attributes are made, and the words of the lent slices.
 use Prim.Native.Nat.{ℕ}
-use mathlib.Core.Bool.{Bool, true, false, _||_, cond}
+use mathlib.Core.Bool.{Bool, false, not, _||_, cond}
 use mathlib.Core.List.{List, []}
-use lib.Dec.{eqb}
 use lib.ListN.{length}
 use Rattle.bits.specs.declared.Words4.{Words4}
 use Rattle.block.specs.declared.header.Header.{Header}
 use Rattle.block.specs.Header.{headerOf}
-use Rattle.mesh.specs.Mesh.{Mesh, Slices, slicesOf}
+use Rattle.block.specs.Kind.{byKind, isLines}
+use Rattle.mesh.specs.Mesh.{Mesh, noMesh, Slices, slicesOf}
 use Rattle.mesh.specs.FaceSet.{faceSetMesh}
 use Rattle.mesh.specs.Lines.{lineSetMesh}
 use Rattle.mesh.specs.Grid.{gridMesh}
 use Rattle.mesh.specs.Extrusion.{extrusionMesh}
-use Rattle.mesh.specs.Sizes.{byKind}
 
 -- FORMAT 8, convert: by kind
 unfoldable pub blockMesh : Words4 → List ℕ → Mesh
-blockMesh missing bs = byKind (headerOf bs .kind) (faceSetMesh missing bs) (lineSetMesh missing bs) (gridMesh missing bs) (extrusionMesh bs)
+blockMesh missing bs = byKind (headerOf bs .kind) (faceSetMesh missing bs) (lineSetMesh missing bs) (gridMesh missing bs) (extrusionMesh bs) noMesh
 
 -- FORMAT 5: for all but line sets
 abbrev pub makesNormals : Header → Bool
-makesNormals h = byKind (h .kind) true false true true
+makesNormals h = not (isLines (h .kind))
 
 -- FORMAT 5: where present, but never for an extrusion
 abbrev pub makesColours : Header → Bool
-makesColours h = byKind (h .kind) (h .colors) (h .colors) (h .colors) false
+makesColours h = byKind (h .kind) (h .colors) (h .colors) (h .colors) false false
 
 -- FORMAT 5: where wanted or, in face sets and grids, where texture points are present; never for a line set
 abbrev pub makesTextures : Header → Bool
-makesTextures h = byKind (h .kind) (h .«need_uvs» || h .«texture_points») false (h .«need_uvs» || h .«texture_points») (h .«need_uvs»)
+makesTextures h = byKind (h .kind) (h .«need_uvs» || h .«texture_points») false (h .«need_uvs» || h .«texture_points») (h .«need_uvs») false
 
 -- FORMAT 5: what is made is written from the start of its slice, so an attribute that is not made leaves its slice as it was
 unfoldable pub madeOf : Header → Slices → Slices
@@ -60,7 +59,7 @@ resultOf h M =
     record {
       vertices = length (M .sources);
       indices = length (M .indices);
-      solid = byKind (h .kind) (h .solid) true (h .solid) (h .solid);
-      unlit = eqb (h .kind) 1;
+      solid = isLines (h .kind) || h .solid;
+      unlit = isLines (h .kind);
       hasColours = makesColours h;
     }

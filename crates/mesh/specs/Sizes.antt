@@ -2,10 +2,14 @@
 use Prim.Native.Nat.{ℕ, suc, _+_, _-_, _*_}
 use mathlib.Core.Bool.{Bool, true, false, _||_, cond}
 use mathlib.Core.List.{List, [], _∷_}
-use lib.Dec.{eqb, ltb}
+use lib.Dec.{ltb}
 use lib.ListN.{getD}
 use Rattle.bits.specs.Bits.{entries}
 use Rattle.block.specs.declared.header.Header.{Header}
+use Rattle.block.specs.declared.refusal.Refusal.the-variants.{NoShape, Corners}
+use Rattle.block.specs.Edition.{limitOf}
+use Rattle.block.specs.Kind.{byKind}
+use Rattle.block.specs.Refusal.{Row, row}
 use Rattle.block.specs.Lists.{listBytes}
 use Rattle.block.specs.Runs.{Run, runs, corners, triangles, sumOver}
 use Rattle.mesh.specs.Grid.{xDimension, zDimension}
@@ -92,13 +96,13 @@ extrusionSizes bs h =
 
 -- ---- by kind
 
--- FORMAT 2.2: the one of the kind; 3 is the last
-abbrev pub byKind : {A : Type 0} → ℕ → A → A → A → A → A
-byKind kind a b c d = cond (eqb kind 0) a (cond (eqb kind 1) b (cond (eqb kind 2) c d))
+-- FORMAT 4: of a kind that there is not
+abbrev pub noSizes : Sizes
+noSizes = record { points = 0; corners = 0; indices = 0 }
 
 -- FORMAT 4: by kind
 unfoldable pub sizesOf : List ℕ → Header → Sizes
-sizesOf bs h = byKind (h .kind) (faceSetSizes bs h) (lineSetSizes bs h) (gridSizes h) (extrusionSizes bs h)
+sizesOf bs h = byKind (h .kind) (faceSetSizes bs h) (lineSetSizes bs h) (gridSizes h) (extrusionSizes bs h) noSizes
 
 -- FORMAT 2.4: the count of the heights
 abbrev pub heightCount : Header → ℕ
@@ -114,12 +118,12 @@ isNoExtrusion h = ltb (spineCount h) 2 || ltb (sectionCount h) 2
 
 -- FORMAT 3, 6, no shape: grid side below 2, heights fewer than sides multiplied, spine or cross-section below 2
 unfoldable pub isNoShape : Header → Bool
-isNoShape h = byKind (h .kind) false false (isNoGrid h) (isNoExtrusion h)
+isNoShape h = byKind (h .kind) false false (isNoGrid h) (isNoExtrusion h) false
 
--- FORMAT 3, 7, corners: P or C above the limit
-unfoldable pub isOverCorners : ℕ → List ℕ → Header → Bool
-isOverCorners limit bs h = let s = sizesOf bs h in ltb limit (s .points) || ltb limit (s .corners)
+-- FORMAT 3, 7, corners: P or C above the edition's limit
+unfoldable pub isOverCorners : List ℕ → Header → Bool
+isOverCorners bs h = let s = sizesOf bs h in ltb (limitOf (h .edition)) (s .points) || ltb (limitOf (h .edition)) (s .corners)
 
 -- FORMAT 3: the rows 6 and 7, of a block that the rows 1 to 5 let pass
-unfoldable pub shapeConditions : ℕ → List ℕ → Header → List Bool
-shapeConditions limit bs h = isNoShape h ∷ isOverCorners limit bs h ∷ []
+unfoldable pub shapeRows : List ℕ → Header → List Row
+shapeRows bs h = row NoShape (isNoShape h) ∷ row Corners (isOverCorners bs h) ∷ []

@@ -1,6 +1,7 @@
 // A call with a part of the full slices, and the text of its answer.
 ghost use Prim.Native.Nat.{_≤_};
 use answer::parts_of;
+use block::LIMIT;
 use block::number_of;
 use block::read_header;
 use geometry::Answer;
@@ -77,10 +78,10 @@ fn put_answer(
         Answer::Refused(no) => text::put_refusal(number_of(no), out),
         Answer::Made(p) => {
             let head = head_of(p);
-            if head.vertices > 8192 {
+            if head.vertices > LIMIT {
                 return 0;
             }
-            if head.indices > 24576 {
+            if head.indices > 3 * LIMIT {
                 return 0;
             }
             let parts = parts_of(read_header(block));

@@ -4,6 +4,7 @@ mod lending;
 mod reading;
 
 ghost use Prim.Native.Nat.{_<_};
+use block::LIMIT;
 use judging::Verdict;
 use judging::judge_next;
 use libc::STDOUT_FILENO;
@@ -120,19 +121,19 @@ fn run_cases(
     tally
 }
 
-// Slices for 8,192 points and 8,192 corners (FORMAT 4), and room for the longest block and text of the file.
+// Slices for as many points and corners as edition 1 allows (FORMAT 4), and room for the longest block and text of the file.
 fn run(fd: i32) -> Tally {
     let mut block = [0u8; 40960];
     let mut expected = [0u8; 131072];
     let mut out = [0u8; 131072];
-    let mut positions = [0u32; 24576];
-    let mut normals = [0u32; 24576];
-    let mut colours = [0u32; 32768];
-    let mut textures = [0u32; 16384];
-    let mut sources = [0u32; 8192];
-    let mut indices = [0u32; 24576];
-    let mut words = [0u32; 131080];
-    let mut floats = [0.0f32; 131080];
+    let mut positions = [0u32; 3 * LIMIT];
+    let mut normals = [0u32; 3 * LIMIT];
+    let mut colours = [0u32; 4 * LIMIT];
+    let mut textures = [0u32; 2 * LIMIT];
+    let mut sources = [0u32; LIMIT];
+    let mut indices = [0u32; 3 * LIMIT];
+    let mut words = [0u32; 16 * LIMIT + 8];
+    let mut floats = [0.0f32; 16 * LIMIT + 8];
     run_cases(
         fd,
         &mut block,

@@ -1,5 +1,7 @@
 // The stored cases. A case is the number of corners that slices are lent for, the length of a block and its bytes, and the length of a text and its bytes.
 // Numbers are four bytes, most significant first.
+use block::LIMIT;
+
 pub enum Part {
     Got(u32),
     End,
@@ -55,7 +57,7 @@ fn read_part(fd: i32, buffer: &mut [u8]) -> Part {
 fn read_corners(fd: i32) -> Part {
     match read_number(fd) {
         Part::Got(n) => {
-            if n > 8192 {
+            if n as usize > LIMIT {
                 return Part::Bad;
             }
             Part::Got(n)

@@ -9,9 +9,9 @@ fn is_ended() -> bool {
 }
 
 fn main() {
-    let mut input = [0u8; 8193];
+    let mut input = [0u8; answer::LONGEST + 1];
     let n = io::read_full(STDIN_FILENO, &mut input);
-    if n <= 8192 && !is_ended() {
+    if n <= answer::LONGEST && !is_ended() {
         os::fail(b"standard input");
         return;
     }

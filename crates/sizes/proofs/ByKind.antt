@@ -13,7 +13,10 @@ use Rattle.block.specs.declared.header.Header.{Header}
 use Rattle.block.specs.declared.runs.Totals.{Totals}
 use Rattle.block.specs.Lists.{listBytes}
 use Rattle.block.specs.Runs.{runs, corners, triangles, sumOver, totals}
-use Rattle.block.proofs.Table.{or-none}
+use Rattle.block.specs.declared.kind.Kind.{Kind}
+use Rattle.block.specs.declared.kind.Kind.the-variants.{Grid, Extrusion}
+use Rattle.block.specs.Kind.{byKind}
+use Rattle.block.proofs.Table.{or-none, count-low}
 use Rattle.mesh.specs.Extrusion.{spineCount, sectionCount, sectionOf, extrusionOf, capLength}
 use Rattle.mesh.specs.Grid.{xDimension, zDimension}
 use Rattle.mesh.specs.Sizes as spec
@@ -69,20 +72,17 @@ module _ (bs : List ℕ) (h : Header) where
       record { points = ep; corners = λ t. 4 * eq t + m t * ek t; indices = λ t. 6 * eq t + m t * j t }
 
   -- by kind
-  pub of-kind : (r : Sizes) (k : ℕ) → h .kind ≡ k → Are (spec.byKind k (spec.faceSetSizes bs h) (spec.lineSetSizes bs h) (spec.gridSizes h) (spec.extrusionSizes bs h)) r → Are (spec.sizesOf bs h) r
+  pub of-kind : (r : Sizes) {k : Kind} → h .kind ≡ k → Are (byKind k (spec.faceSetSizes bs h) (spec.lineSetSizes bs h) (spec.gridSizes h) (spec.extrusionSizes bs h) spec.noSizes) r → Are (spec.sizesOf bs h) r
   unfolding spec.sizesOf
-  of-kind r k e A = subst (λ (k : ℕ). Are (spec.byKind k (spec.faceSetSizes bs h) (spec.lineSetSizes bs h) (spec.gridSizes h) (spec.extrusionSizes bs h)) r) (sym e) A
+  of-kind r e A = subst (λ (k : Kind). Are (byKind k (spec.faceSetSizes bs h) (spec.lineSetSizes bs h) (spec.gridSizes h) (spec.extrusionSizes bs h) spec.noSizes) r) (sym e) A
 
 -- ---- what is known of each kind
 
 module _ {bs : List ℕ} {h : Header} (K : Known bs h) where
-  count-few : (k : ℕ) → getD (h .counts) k 0 ≤ most
-  count-few k = omega (arith, K .taken .counts-are k, K .low)
+  pub count-few : (k : ℕ) → getD (h .counts) k 0 ≤ most
+  count-few k = omega (arith, count-low (K .taken) k)
 
-  pub last-kind : (h .kind ≡ 0 → ⊥) → (h .kind ≡ 1 → ⊥) → (h .kind ≡ 2 → ⊥) → h .kind ≡ 3
-  last-kind a b c = omega (arith, a, b, c, K .taken .kind-is)
-
-  pub grid-sides : h .kind ≡ 2 → Sides h
+  pub grid-sides : h .kind ≡ Grid → Sides h
   unfolding isNoShape
   grid-sides e =
       let s : isNoGrid h ≡ false = rw e at (K .shape) in
@@ -90,7 +90,7 @@ module _ {bs : List ℕ} {h : Header} (K : Known bs h) where
       let b = or-none (ltb (zDimension h) 2) _ (a .1) in
       record { long = ltb-false _ _ (a .0); wide = ltb-false _ _ (b .0); length-few = count-few 0; width-few = count-few 1 }
 
-  pub extrusion-given : h .kind ≡ 3 → Given bs h × Sides h
+  pub extrusion-given : h .kind ≡ Extrusion → Given bs h × Sides h
   extrusion-given e =
       let G = given-of (K .taken) (K .header) e (K .shape) in
       (G, record { long = G .spine; wide = G .section; length-few = count-few 0; width-few = count-few 1 })

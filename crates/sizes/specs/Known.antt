@@ -13,10 +13,8 @@ use Rattle.sizes.specs.declared.kinds.Sizes.{Sizes}
 
 -- FORMAT 3: h is the block's header, and none of the rows 1 to 6 holds
 pub record Known (bs : List ℕ) (h : Header) : Type 0 where
-  pub limit : ℕ
-  pub low : limit ≤ most
   pub header : h ≡ headerOf bs
-  pub taken : Taken limit bs h
+  pub taken : Taken bs h
   pub shape : isNoShape h ≡ false
 
 -- FORMAT 2.4, 3: the first two counts of a grid or an extrusion that was not refused

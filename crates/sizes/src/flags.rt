@@ -1,6 +1,11 @@
 // FORMAT 5: the bits of the result, by the header alone.
+ghost use mathlib.Core.Path.{_≡_};
+ghost use mathlib.Core.Bool.{false, _||_};
+ghost use Rattle.block.specs.Kind.{byKind};
 ghost use Rattle.sizes.specs.Flagged.{Flagged};
 use block::Header;
+use block::Kind;
+use block::is_lines;
 
 pub struct Flags {
     pub solid: bool,
@@ -8,34 +13,37 @@ pub struct Flags {
     pub has_colors: bool,
 }
 
-// A line set is always solid and unlit; an extrusion has no colours.
+pub fn either(a: bool, b: bool) -> bool
+    ensures { λ r. ⌜ r ≡ (a || b) ⌝ }
+{
+    if a {
+        return true;
+    }
+    b
+}
+
+// Colours are made where they are present, but never for an extrusion.
+fn makes_colours(kind: Kind, colors: bool) -> bool
+    ensures { λ r. ⌜ r ≡ byKind kind colors colors colors false false ⌝ }
+{
+    match kind {
+        Kind::FaceSet => colors,
+        Kind::LineSet => colors,
+        Kind::Grid => colors,
+        Kind::Extrusion => false,
+        Kind::Other => false,
+    }
+}
+
+// A line set is always solid and unlit.
 pub fn flags_of(h: Header) -> Flags
     ensures { λ r. ⌜ Flagged h r ⌝ }
 {
-    if h.kind == 1 {
-        return Flags {
-            solid: true,
-            unlit: true,
-            has_colors: h.colors,
-        };
-    }
-    if h.kind == 0 {
-        return Flags {
-            solid: h.solid,
-            unlit: false,
-            has_colors: h.colors,
-        };
-    }
-    if h.kind == 2 {
-        return Flags {
-            solid: h.solid,
-            unlit: false,
-            has_colors: h.colors,
-        };
-    }
+    let kind = h.kind;
+    let lines = is_lines(kind);
     Flags {
-        solid: h.solid,
-        unlit: false,
-        has_colors: false,
+        solid: either(lines, h.solid),
+        unlit: lines,
+        has_colors: makes_colours(kind, h.colors),
     }
 }

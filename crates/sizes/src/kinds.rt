@@ -7,6 +7,7 @@ ghost use Rattle.mesh.specs.Sizes as spec;
 ghost use Rattle.tables.specs.Layout.{most};
 ghost use Rattle.sizes.specs.Known.{Sides, Known, Are};
 use block::Header;
+use block::Kind;
 use tables::wide;
 
 pub struct Sizes {
@@ -100,19 +101,21 @@ fn extrusion_sizes(block: &[u8], h: Header) -> Sizes
     }
 }
 
-// FORMAT 2.2: by kind; 3 is the last.
+// FORMAT 2.2: by kind.
 pub fn sizes_of(block: &[u8], h: Header) -> Sizes
     requires { ⌜ Known (now block) h ⌝ }
     ensures { λ r. ⌜ Are (spec.sizesOf (now (block .entry)) h) r ⌝ }
 {
-    if h.kind == 0 {
-        return face_set_sizes(block, h);
+    let kind = h.kind;
+    match kind {
+        Kind::FaceSet => face_set_sizes(block, h),
+        Kind::LineSet => line_set_sizes(block, h),
+        Kind::Grid => grid_sizes(h),
+        Kind::Extrusion => extrusion_sizes(block, h),
+        Kind::Other => Sizes {
+            points: 0,
+            corners: 0,
+            indices: 0,
+        },
     }
-    if h.kind == 1 {
-        return line_set_sizes(block, h);
-    }
-    if h.kind == 2 {
-        return grid_sizes(h);
-    }
-    extrusion_sizes(block, h)
 }

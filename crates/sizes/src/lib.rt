@@ -4,6 +4,7 @@ mod kinds;
 mod refusals;
 
 pub use flags::Flags;
+pub use flags::either;
 pub use flags::flags_of;
 pub use kinds::Sizes;
 pub use kinds::sizes_of;

@@ -5,11 +5,11 @@ use mathlib.Core.Logic.{_⊎_, inl, inr}
 use mathlib.Core.List.{List}
 use Prim.Native.Nat.{ℕ, _<_, _≤_}
 use native.Mathlib.Omega.{arith}
-use borrow.Author.Tests.{lt-ltb, le-ltb}
 use lib.Ieee.{Float}
 use Rattle.bits.specs.declared.Words2.{Words2}
 use Rattle.bits.specs.declared.Words3.{Words3}
 use Rattle.bits.specs.declared.Words4.{Words4}
+use Rattle.block.specs.Kind.{isIndexed}
 use Rattle.block.specs.Header.{headerOf}
 use Rattle.block.specs.Stream.{streamOf, valuesIn, indexIn, numberAt, get3At, get4At}
 use Rattle.block.specs.Value.{value3At, value4At}
@@ -81,24 +81,24 @@ textures-of missing R coord default {w} {t} {ls} T = go (R .head .«need_uvs» |
     go false q = inr (ap {B = ℕ} (λ (b : Bool). cond b 2 0) q, λ n u. untextured R coord n (u .place) (default (u .point)) q)
 
 module _ (bs : List ℕ) where
-  pub rest-streamed : headerOf bs .kind < 2 → Streamed bs (restOf bs)
+  pub rest-streamed : isIndexed (headerOf bs .kind) ≡ true → Streamed bs (restOf bs)
   unfolding restOf streamOf
   rest-streamed h = record {
     colours = refl;
-    colourIndex = rw (lt-ltb (headerOf bs .kind) 2 h) refl;
+    colourIndex = rw h refl;
     normals = refl;
-    normalIndex = rw (lt-ltb (headerOf bs .kind) 2 h) refl;
+    normalIndex = rw h refl;
     textures = refl;
-    textureIndex = rw (lt-ltb (headerOf bs .kind) 2 h) refl;
+    textureIndex = rw h refl;
   }
 
-  pub grid-streamed : 2 ≤ headerOf bs .kind → Streamed bs (gridOf bs)
+  pub grid-streamed : isIndexed (headerOf bs .kind) ≡ false → Streamed bs (gridOf bs)
   unfolding gridOf streamOf
   grid-streamed h = record {
     colours = refl;
-    colourIndex = rw (le-ltb (headerOf bs .kind) 2 h) refl;
+    colourIndex = rw h refl;
     normals = refl;
-    normalIndex = rw (le-ltb (headerOf bs .kind) 2 h) refl;
+    normalIndex = rw h refl;
     textures = refl;
-    textureIndex = rw (le-ltb (headerOf bs .kind) 2 h) refl;
+    textureIndex = rw h refl;
   }

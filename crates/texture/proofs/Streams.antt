@@ -1,12 +1,12 @@
 -- FORMAT 7.1: the texture of a corner from the block's bytes is that of the mesh, for face sets and for grids.
 use mathlib.Core.Path.{_≡_, refl, sym, ap₂}
-use mathlib.Core.Bool.{true, cond}
+use mathlib.Core.Bool.{true, false, cond}
 use mathlib.Core.List.{List}
 use Prim.Native.Nat.{ℕ, _+_, _*_, _≤_, _<_}
-use borrow.Author.Tests.{lt-ltb, le-ltb}
 use lib.ListN.{getD}
 use Rattle.bits.specs.declared.Words2.{Words2}
 use Rattle.bits.specs.declared.Words4.{Words4}
+use Rattle.block.specs.Kind.{isIndexed}
 use Rattle.block.specs.Header.{headerOf}
 use Rattle.block.specs.Settings.{settingsOf}
 use Rattle.block.specs.Stream.{numberAt, streamOf, valuesIn, indexIn}
@@ -40,21 +40,21 @@ module _ (bs coord : List ℕ) (R : Rest) (num k : ℕ) (default : Words2)
 
 module _ (bs coord : List ℕ) (num k : ℕ) (default : Words2) where
   -- FORMAT 2.4: a face set has an index list
-  pub texture-set : headerOf bs .kind < 2 → textureIn bs coord (headerOf bs) (settingsOf bs) k default ≡ textureBy (restOf bs) coord num k default
+  pub texture-set : isIndexed (headerOf bs .kind) ≡ true → textureIn bs coord (headerOf bs) (settingsOf bs) k default ≡ textureBy (restOf bs) coord num k default
   unfolding restOf streamOf
   texture-set h =
       texture-rest bs coord (restOf bs) num k default refl
-      (rw (lt-ltb (headerOf bs .kind) 2 h) refl)
+      (rw h refl)
 
   -- a grid has none
-  pub texture-grid : 2 ≤ headerOf bs .kind → textureIn bs coord (headerOf bs) (settingsOf bs) k default ≡ textureBy (gridOf bs) coord num k default
+  pub texture-grid : isIndexed (headerOf bs .kind) ≡ false → textureIn bs coord (headerOf bs) (settingsOf bs) k default ≡ textureBy (gridOf bs) coord num k default
   unfolding gridOf streamOf
   texture-grid h =
       texture-rest bs coord (gridOf bs) num k default refl
-      (rw (le-ltb (headerOf bs .kind) 2 h) refl)
+      (rw h refl)
 
 -- FORMAT 8.1: what is written of a corner of a face set is the texture of the corner at place k with the entry e
-pub texture-corner : (missing : Words4) (bs coord : List ℕ) (fit : Fit) (w : List ℕ) (points spots corners places c num k e : ℕ) → headerOf bs .kind < 2
+pub texture-corner : (missing : Words4) (bs coord : List ℕ) (fit : Fit) (w : List ℕ) (points spots corners places c num k e : ℕ) → isIndexed (headerOf bs .kind) ≡ true
     → seg w points (3 * spots) ≡ restOf bs .points → fit ≡ fitOf (restOf bs .points) (pointCount (restOf bs))
     → getD w (places + c) 0 ≡ k → getD w (corners + c) 0 ≡ e
     → setTexture bs coord (headerOf bs) (settingsOf bs) fit w points spots corners places c ≡ cornerOf missing (restOf bs) coord num k e .texture

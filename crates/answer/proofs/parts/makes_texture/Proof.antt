@@ -1,26 +1,42 @@
-use mathlib.Core.Path.{sym, ap, _∙_}
-use mathlib.Core.Bool.{not}
-use borrow.Author.Tests.{ne-eqb}
-use Rattle.answer.proofs.Making.{but-lines}
+use borrow.Author.Needs.{needs}
 use Rattle.answer.proofs.parts.makes_texture.Statement.{statement}
 use Rattle.answer.proofs.parts.makes_texture.Tie as tie
-use Rattle.answer.proofs.parts.makes_texture.Reads as reads
-use Rattle.answer.proofs.parts.makes_texture.Lts as lts
+
+enum-told : tie.Need-enum-told
+enum-told c = search needs
+
+either-requires : tie.Need-either-requires
+either-requires c κs = search needs
+
+enum-told-2 : tie.Need-enum-told-2
+enum-told-2 c = search needs
+
+enum-told-3 : tie.Need-enum-told-3
+enum-told-3 c = search needs
+
+either-requires-2 : tie.Need-either-requires-2
+either-requires-2 c κs = search needs
+
+enum-told-4 : tie.Need-enum-told-4
+enum-told-4 c = search needs
+
+enum-told-5 : tie.Need-enum-told-5
+enum-told-5 c = search needs
 
 returns : tie.Need-returns
-returns c = rw (c .if1 .taken)
+returns c = rw (c .before .enum-told .given .1) (c .either .ensures)
 
 returns-2 : tie.Need-returns-2
-returns-2 c = rw (c .if2 .taken) (ap not (sym (ne-eqb _ 1 (c .before .if1 .left))) ∙ but-lines (c .before .before .before .args .h .kind))
+returns-2 c = rw (c .enum-told2 .given .1)
 
 returns-3 : tie.Need-returns-3
-returns-3 c = rw (c .if3 .taken, c .before .before .if2 .left)
+returns-3 c = rw (c .before .enum-told3 .given .1) (c .either2 .ensures)
 
 returns-4 : tie.Need-returns-4
-returns-4 c = rw (c .if4 .taken, c .before .before .before .before .if2 .left)
+returns-4 c = rw (c .enum-told4 .given .1)
 
 returns-5 : tie.Need-returns-5
-returns-5 c = rw (ne-eqb _ 0 (c .before .before .if3 .left), ne-eqb _ 1 (c .before .before .before .before .before .if1 .left), ne-eqb _ 2 (c .if4 .left), c .before .before .before .before .if2 .left)
+returns-5 c = rw (c .enum-told5 .given .1)
 
 pub makes-texture-spec : {M : Type 1} → statement M
-makes-texture-spec = tie.close (tie.spec returns returns-2 returns-3 returns-4 returns-5)
+makes-texture-spec = tie.close (tie.spec enum-told either-requires enum-told-2 enum-told-3 either-requires-2 enum-told-4 enum-told-5 returns returns-2 returns-3 returns-4 returns-5)

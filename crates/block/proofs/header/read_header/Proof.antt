@@ -1,4 +1,11 @@
-use Rattle.block.specs.Header.{headerOf}
+use mathlib.Core.Path.{_≡_, ap, _∙_}
+use denote.Ref.{now}
+use Rattle.bits.specs.Bits.{field}
+use Rattle.block.specs.declared.edition.Edition.{Edition}
+use Rattle.block.specs.Edition.{editionOf, editionIn, zerosAt}
+use Rattle.block.specs.Kind.{kindOf}
+use Rattle.block.specs.Header.{countsOf, headerOf}
+use Rattle.block.proofs.EditionLaws.{narrow}
 use borrow.Author.Needs.{needs}
 use Rattle.block.proofs.header.read_header.Statement.{statement}
 use Rattle.block.proofs.header.read_header.Tie as tie
@@ -6,8 +13,14 @@ use Rattle.block.proofs.header.read_header.Tie as tie
 field-at-requires : tie.Need-field-at-requires
 field-at-requires c κs = search needs
 
+edition-of-requires : tie.Need-edition-of-requires
+edition-of-requires c κs = search needs
+
 field-at-requires-2 : tie.Need-field-at-requires-2
 field-at-requires-2 c κs = search needs
+
+kind-of-requires : tie.Need-kind-of-requires
+kind-of-requires c κs = search needs
 
 flag-requires : tie.Need-flag-requires
 flag-requires c κs = search needs
@@ -49,49 +62,36 @@ flag-requires-13 : tie.Need-flag-requires-13
 flag-requires-13 c κs = search needs
 
 read-counts-requires : tie.Need-read-counts-requires
-read-counts-requires c κs = search needs
+read-counts-requires c κs = rw (c .before .before .before .before .before .before .before .before .before .before .before .before .before .before .before .edition-of .ensures) (narrow _ .width)
 
-field-at-requires-3 : tie.Need-field-at-requires-3
-field-at-requires-3 c κs = search needs
+zeros-in-requires : tie.Need-zeros-in-requires
+zeros-in-requires c κs = rw (c .before .before .before .before .before .before .before .before .before .before .before .before .before .before .before .before .edition-of .ensures) (narrow _)
+
+edition-is : (c : tie.After-zeros-in) → c .before .before .before .before .before .before .before .before .before .before .before .before .before .before .before .before .before .edition-of .result ≡ editionIn (now (c .before .before .before .before .before .before .before .before .before .before .before .before .before .before .before .before .before .before .before .before .args .block))
+edition-is c = c .before .before .before .before .before .before .before .before .before .before .before .before .before .before .before .before .before .edition-of .ensures ∙ ap editionOf (c .before .before .before .before .before .before .before .before .before .before .before .before .before .before .before .before .before .before .field-at .ensures)
 
 returns : tie.Need-returns
 unfolding headerOf
 returns c =
-    let c1 = c .before in
-    let c2 = c1 .before in
-    let c3 = c2 .before in
-    let c4 = c3 .before in
-    let c5 = c4 .before in
-    let c6 = c5 .before in
-    let c7 = c6 .before in
-    let c8 = c7 .before in
-    let c9 = c8 .before in
-    let c10 = c9 .before in
-    let c11 = c10 .before in
-    let c12 = c11 .before in
-    let c13 = c12 .before in
-    let c14 = c13 .before in
-    let c15 = c14 .before in
-    let c16 = c15 .before in
     λ i.
     record {
-      edition = c16 .field-at .ensures i;
-      kind = c15 .field-at2 .ensures i;
-      ccw = c14 .flag .ensures i;
-      convex = c13 .flag2 .ensures i;
-      solid = c12 .flag3 .ensures i;
-      «color_per_vertex» = c11 .flag4 .ensures i;
-      «normal_per_vertex» = c10 .flag5 .ensures i;
-      «need_uvs» = c9 .flag6 .ensures i;
-      transformed = c8 .flag7 .ensures i;
-      colors = c7 .flag8 .ensures i;
-      alpha = c6 .flag9 .ensures i;
-      normals = c5 .flag10 .ensures i;
-      «texture_points» = c4 .flag11 .ensures i;
-      «begin_cap» = c3 .flag12 .ensures i;
-      «end_cap» = c2 .flag13 .ensures i;
-      counts = c1 .read-counts .ensures i;
-      zeros = c .field-at3 .ensures i;
+      edition = c .before .before .before .before .before .before .before .before .before .before .before .before .before .before .before .before .before .before .field-at .ensures i;
+      kind = (c .before .before .before .before .before .before .before .before .before .before .before .before .before .before .before .kind-of .ensures ∙ ap kindOf (c .before .before .before .before .before .before .before .before .before .before .before .before .before .before .before .before .field-at2 .ensures)) i;
+      ccw = c .before .before .before .before .before .before .before .before .before .before .before .before .before .before .flag .ensures i;
+      convex = c .before .before .before .before .before .before .before .before .before .before .before .before .before .flag2 .ensures i;
+      solid = c .before .before .before .before .before .before .before .before .before .before .before .before .flag3 .ensures i;
+      «color_per_vertex» = c .before .before .before .before .before .before .before .before .before .before .before .flag4 .ensures i;
+      «normal_per_vertex» = c .before .before .before .before .before .before .before .before .before .before .flag5 .ensures i;
+      «need_uvs» = c .before .before .before .before .before .before .before .before .before .flag6 .ensures i;
+      transformed = c .before .before .before .before .before .before .before .before .flag7 .ensures i;
+      colors = c .before .before .before .before .before .before .before .flag8 .ensures i;
+      alpha = c .before .before .before .before .before .before .flag9 .ensures i;
+      normals = c .before .before .before .before .before .flag10 .ensures i;
+      «texture_points» = c .before .before .before .before .flag11 .ensures i;
+      «begin_cap» = c .before .before .before .flag12 .ensures i;
+      «end_cap» = c .before .before .flag13 .ensures i;
+      counts = (c .before .read-counts .ensures ∙ ap (λ (e : Edition). countsOf (now (c .before .before .before .before .before .before .before .before .before .before .before .before .before .before .before .before .before .before .before .before .args .block)) (e .«count_bits»)) (edition-is c)) i;
+      zeros = (c .zeros-in .ensures ∙ ap (λ (e : Edition). field (now (c .before .before .before .before .before .before .before .before .before .before .before .before .before .before .before .before .before .before .before .before .args .block)) (zerosAt e) (e .«zero_bits»)) (edition-is c)) i;
     }
 
 pub read-header-spec : {M : Type 1} → statement M
@@ -99,7 +99,9 @@ read-header-spec =
     tie.close
     (tie.spec
     field-at-requires
+    edition-of-requires
     field-at-requires-2
+    kind-of-requires
     flag-requires
     flag-requires-2
     flag-requires-3
@@ -114,5 +116,5 @@ read-header-spec =
     flag-requires-12
     flag-requires-13
     read-counts-requires
-    field-at-requires-3
+    zeros-in-requires
     returns)

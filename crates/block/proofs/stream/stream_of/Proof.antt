@@ -1,5 +1,5 @@
-use borrow.Author.Needs.{needs}
 use Rattle.block.specs.Stream.{streamOf}
+use borrow.Author.Needs.{needs}
 use Rattle.block.proofs.stream.stream_of.Statement.{statement}
 use Rattle.block.proofs.stream.stream_of.Tie as tie
 

@@ -1,20 +1,13 @@
-use mathlib.Core.Path.{sym, _∙_}
-use borrow.Author.Tests.{eqb-true, eqb-false}
-use Rattle.geometry.specs.Converted.{lengthsOf}
-use Rattle.geometry.proofs.Calls.{refused-call}
+use Rattle.geometry.proofs.Calls.{plain-call}
 use borrow.Author.Needs.{needs}
 use Rattle.geometry.proofs.whole.convert.Statement.{statement}
 use Rattle.geometry.proofs.whole.convert.Tie as tie
 
-refusal-for-requires : tie.Need-refusal-for-requires
-refusal-for-requires c κs = search needs
+white-words-requires : tie.Need-white-words-requires
+white-words-requires c κs = search needs
 
-is-taken-requires : tie.Need-is-taken-requires
-is-taken-requires c κs = search needs
-
-make-requires : tie.Need-make-requires
-unfolding lengthsOf
-make-requires c κs = sym (c .before .before .before .before .before .before .before .before .before .before .refusal-for .ensures) ∙ eqb-true _ _ (sym (c .before .before .before .before .before .before .before .before .before .is-taken .ensures) ∙ c .before .before .before .before .before .before .before .before .if1 .taken)
+answer-call-requires : tie.Need-answer-call-requires
+answer-call-requires c κs = search needs
 
 same-length : tie.Need-same-length
 same-length c = search needs
@@ -41,26 +34,7 @@ same-length-8 : tie.Need-same-length-8
 same-length-8 c = search needs
 
 returns : tie.Need-returns
-returns c = c .before .before .before .before .before .before .before .before .before .before .before .before .before .before .before .before .make .ensures
-
-returns-2 : tie.Need-returns-2
-unfolding lengthsOf
-returns-2 c = refused-call _ _ _ (c .before .before .refusal-for .ensures) (eqb-false _ _ (sym (c .before .is-taken .ensures) ∙ c .if1 .left))
+returns c = plain-call _ _ _ _ _ (c .before .before .before .before .before .before .before .before .before .before .before .before .before .before .before .before .before .before .before .before .before .before .before .before .before .white-words .ensures) (c .before .before .before .before .before .before .before .before .before .before .before .before .before .before .before .before .answer-call .ensures)
 
 pub convert-spec : {M : Type 1} → statement M
-convert-spec =
-    tie.close
-    (tie.spec
-    refusal-for-requires
-    is-taken-requires
-    make-requires
-    same-length
-    same-length-2
-    same-length-3
-    same-length-4
-    same-length-5
-    same-length-6
-    same-length-7
-    same-length-8
-    returns
-    returns-2)
+convert-spec = tie.close (tie.spec white-words-requires answer-call-requires same-length same-length-2 same-length-3 same-length-4 same-length-5 same-length-6 same-length-7 same-length-8 returns)

@@ -1,3 +1,4 @@
+use mathlib.Core.Path.{refl}
 use Rattle.geometry.proofs.Refusing.{asked-by}
 use Rattle.geometry.proofs.Calls.{made-call}
 use borrow.Author.Needs.{needs}
@@ -9,9 +10,6 @@ read-header-requires c κs = search needs
 
 read-settings-requires : tie.Need-read-settings-requires
 read-settings-requires c κs = search needs
-
-white-words-requires : tie.Need-white-words-requires
-white-words-requires c κs = search needs
 
 make-kind-requires : tie.Need-make-kind-requires
 make-kind-requires c κs = asked-by _ _ _ _ (c .before .before .before .before .before .before .before .before .before .before .read-header .ensures) (c .before .before .before .before .before .before .before .before .before .read-settings .ensures) (c .before .before .before .before .before .before .before .before .before .before .before .before .before .before .before .before .before .before .before .before .pre)
@@ -44,23 +42,7 @@ same-length-8 : tie.Need-same-length-8
 same-length-8 c = search needs
 
 returns : tie.Need-returns
-returns c = made-call _ _ _ _ _ (c .before .before .before .before .before .before .before .before .before .before .before .before .before .before .before .before .before .before .before .before .before .before .before .before .before .before .before .before .before .before .before .before .before .before .before .before .before .before .pre) _ _ (c .before .before .before .before .before .before .before .before .before .before .before .before .before .before .before .before .before .before .before .before .before .before .before .before .before .before .before .before .read-header .ensures) (c .before .before .before .before .before .before .before .before .before .before .before .before .before .before .before .before .before .before .before .before .before .before .before .before .before .before .white-words .ensures) (c .before .before .before .before .before .before .before .before .before .before .before .before .before .before .before .before .before .make-kind .ensures) (c .flags-of .ensures)
+returns c = made-call _ _ _ _ _ _ (c .before .before .before .before .before .before .before .before .before .before .before .before .before .before .before .before .before .before .before .before .before .before .before .before .before .before .before .before .before .before .before .before .before .before .before .before .before .before .pre) _ _ (c .before .before .before .before .before .before .before .before .before .before .before .before .before .before .before .before .before .before .before .before .before .before .before .before .before .before .before .before .read-header .ensures) refl (c .before .before .before .before .before .before .before .before .before .before .before .before .before .before .before .before .before .make-kind .ensures) (c .flags-of .ensures)
 
 pub make-spec : {M : Type 1} → statement M
-make-spec =
-    tie.close
-    (tie.spec
-    read-header-requires
-    read-settings-requires
-    white-words-requires
-    make-kind-requires
-    flags-of-requires
-    same-length
-    same-length-2
-    same-length-3
-    same-length-4
-    same-length-5
-    same-length-6
-    same-length-7
-    same-length-8
-    returns)
+make-spec = tie.close (tie.spec read-header-requires read-settings-requires make-kind-requires flags-of-requires same-length same-length-2 same-length-3 same-length-4 same-length-5 same-length-6 same-length-7 same-length-8 returns)

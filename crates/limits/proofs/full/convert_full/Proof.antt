@@ -1,3 +1,4 @@
+use Rattle.block.specs.Edition.{edition1}
 use Rattle.limits.specs.Shown.{full}
 use Rattle.limits.proofs.Showing.{shows-refused, shows-made}
 use borrow.Author.Needs.{needs}
@@ -63,11 +64,11 @@ array-read-t48 : tie.Need-array-read-t48
 array-read-t48 c = search needs
 
 returns : tie.Need-returns
-unfolding full
+unfolding full edition1
 returns c = shows-refused (c .before .before .before .before .before .before .before .before .before .before .before .before .convert .ensures) (c .before .before .no .given .1) (c .number-of .ensures)
 
 returns-2 : tie.Need-returns-2
-unfolding full
+unfolding full edition1
 returns-2 c = shows-made (c .before .before .before .before .before .before .before .before .before .before .before .convert .ensures) (c .before .p .given .1)
 
 pub convert-full-spec : {M : Type 1} → statement M

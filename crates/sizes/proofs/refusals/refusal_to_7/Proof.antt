@@ -11,25 +11,14 @@ refusal-of-requires c κs = search needs
 is-taken-requires : tie.Need-is-taken-requires
 is-taken-requires c κs = search needs
 
-read-header-requires : tie.Need-read-header-requires
-read-header-requires c κs = search needs
-
 shape-refusal-requires : tie.Need-shape-refusal-requires
-shape-refusal-requires c κs = (c .read-header .ensures, taken-by _ _ _ (c .before .before .before .refusal-of .ensures) (eqb-true _ _ (sym (c .before .before .is-taken .ensures) ∙ c .before .if1 .taken)) _ (c .read-header .ensures), c .before .before .before .before .before .pre)
+shape-refusal-requires c κs = (c .before .before .before .before .pre, taken-by _ _ _ (c .before .before .refusal-of .ensures) (eqb-true _ _ (sym (c .before .is-taken .ensures) ∙ c .if1 .taken)))
 
 returns : tie.Need-returns
-returns c = last-two _ _ _ (c .before .before .before .before .refusal-of .ensures) (eqb-true _ _ (sym (c .before .before .before .is-taken .ensures) ∙ c .before .before .if1 .taken)) _ (c .before .read-header .ensures) _ (c .shape-refusal .ensures)
+returns c = last-two _ _ _ (c .before .before .before .refusal-of .ensures) (eqb-true _ _ (sym (c .before .before .is-taken .ensures) ∙ c .before .if1 .taken)) _ (c .shape-refusal .ensures)
 
 returns-2 : tie.Need-returns-2
 returns-2 c = first-five _ _ _ (c .before .before .refusal-of .ensures) (eqb-false _ _ (sym (c .before .is-taken .ensures) ∙ c .if1 .left))
 
 pub refusal-to-7-spec : {M : Type 1} → statement M
-refusal-to-7-spec =
-    tie.close
-    (tie.spec
-    refusal-of-requires
-    is-taken-requires
-    read-header-requires
-    shape-refusal-requires
-    returns
-    returns-2)
+refusal-to-7-spec = tie.close (tie.spec refusal-of-requires is-taken-requires shape-refusal-requires returns returns-2)

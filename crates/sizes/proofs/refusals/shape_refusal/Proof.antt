@@ -8,35 +8,25 @@ is-no-shape-requires : tie.Need-is-no-shape-requires
 is-no-shape-requires c κs = search needs
 
 returns : tie.Need-returns
-returns c = row-shape _ _ _ (sym (c .before .is-no-shape .ensures) ∙ c .if1 .taken)
+returns c = row-shape _ _ (sym (c .before .is-no-shape .ensures) ∙ c .if1 .taken)
 
 sizes-of-requires : tie.Need-sizes-of-requires
-sizes-of-requires c κs = record { limit = _; low = c .before .before .before .pre .2; header = c .before .before .before .pre .0; taken = c .before .before .before .pre .1; shape = sym (c .before .is-no-shape .ensures) ∙ c .if1 .left }
+sizes-of-requires c κs = record { header = c .before .before .before .pre .0; taken = c .before .before .before .pre .1; shape = (sym (c .before .is-no-shape .ensures) ∙ c .if1 .left) }
+
+limit-of-requires : tie.Need-limit-of-requires
+limit-of-requires c κs = search needs
 
 wide-requires : tie.Need-wide-requires
 wide-requires c κs = search needs
 
 returns-2 : tie.Need-returns-2
-returns-2 c = row-points _ _ _ (sym (c .before .before .before .before .before .is-no-shape .ensures) ∙ c .before .before .before .before .if1 .left) _ (c .before .before .before .sizes-of .ensures) _ (c .before .before .wide .ensures) (c .if2 .taken)
-
-wide-requires-2 : tie.Need-wide-requires-2
-wide-requires-2 c κs = search needs
+returns-2 c = row-points _ _ (sym (c .before .before .before .before .before .before .is-no-shape .ensures) ∙ c .before .before .before .before .before .if1 .left) _ (c .before .before .before .before .sizes-of .ensures) _ (c .before .before .wide .ensures ∙ c .before .before .before .limit-of .ensures) (c .if2 .taken)
 
 returns-3 : tie.Need-returns-3
-returns-3 c = row-corners _ _ _ (sym (c .before .before .before .before .before .before .before .before .is-no-shape .ensures) ∙ c .before .before .before .before .before .before .before .if1 .left) _ (c .before .before .before .before .before .before .sizes-of .ensures) _ (c .before .before .wide2 .ensures) (rw (c .before .before .wide2 .ensures, ← (c .before .before .before .before .before .wide .ensures)) (c .before .before .before .if2 .left)) (c .if3 .taken)
+returns-3 c = row-corners _ _ (sym (c .before .before .before .before .before .before .before .before .is-no-shape .ensures) ∙ c .before .before .before .before .before .before .before .if1 .left) _ (c .before .before .before .before .before .before .sizes-of .ensures) _ (c .before .before .before .before .wide .ensures ∙ c .before .before .before .before .before .limit-of .ensures) (c .before .before .if2 .left) (c .if3 .taken)
 
 returns-4 : tie.Need-returns-4
-returns-4 c = row-none _ _ _ (sym (c .before .before .before .before .before .before .before .before .is-no-shape .ensures) ∙ c .before .before .before .before .before .before .before .if1 .left) _ (c .before .before .before .before .before .before .sizes-of .ensures) _ (c .before .before .wide2 .ensures) (rw (c .before .before .wide2 .ensures, ← (c .before .before .before .before .before .wide .ensures)) (c .before .before .before .if2 .left)) (c .if3 .left)
+returns-4 c = row-none _ _ (sym (c .before .before .before .before .before .before .before .before .is-no-shape .ensures) ∙ c .before .before .before .before .before .before .before .if1 .left) _ (c .before .before .before .before .before .before .sizes-of .ensures) _ (c .before .before .before .before .wide .ensures ∙ c .before .before .before .before .before .limit-of .ensures) (c .before .before .if2 .left) (c .if3 .left)
 
 pub shape-refusal-spec : {M : Type 1} → statement M
-shape-refusal-spec =
-    tie.close
-    (tie.spec
-    is-no-shape-requires
-    returns
-    sizes-of-requires
-    wide-requires
-    returns-2
-    wide-requires-2
-    returns-3
-    returns-4)
+shape-refusal-spec = tie.close (tie.spec is-no-shape-requires returns sizes-of-requires limit-of-requires wide-requires returns-2 returns-3 returns-4)
