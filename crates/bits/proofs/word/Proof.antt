@@ -56,9 +56,9 @@ add-result-3 c = search needs
 
 returns : tie.Need-returns
 returns c =
-    let c4 = c .before .before in
-    let c3 = c4 .before .before in
-    let c2 = c3 .before .before in
+    let c2 = c .before .before in
+    let c4 = c2 .before .before in
+    let c6 = c4 .before .before in
     word-is
     _
     _
@@ -66,13 +66,13 @@ returns c =
     _
     _
     _
-    (c2 .wide .ensures .0)
-    (c3 .wide2 .ensures .0)
-    (c4 .wide3 .ensures .0)
+    (c6 .wide .ensures .0)
+    (c4 .wide2 .ensures .0)
+    (c2 .wide3 .ensures .0)
     (c .wide4 .ensures .0)
-    (c2 .wide .ensures .1)
-    (c3 .wide2 .ensures .1)
-    (c4 .wide3 .ensures .1)
+    (c6 .wide .ensures .1)
+    (c4 .wide2 .ensures .1)
+    (c2 .wide3 .ensures .1)
     (c .wide4 .ensures .1)
 
 pub word-spec : {M : Type 1} → statement M

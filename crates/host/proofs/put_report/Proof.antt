@@ -36,7 +36,12 @@ same-length c = search needs
 
 returns : tie.Need-returns
 unfolding wordsOf
-returns c = rw (c .before .before .put5 .ensures, c .before .before .before .before .before .before .before .put4 .ensures, c .before .before .before .before .before .before .before .before .before .before .before .before .put3 .ensures, c .before .before .before .before .before .before .before .before .before .before .before .before .before .before .before .before .before .put2 .ensures, c .before .before .before .before .before .before .before .before .before .before .before .before .before .before .before .before .before .before .before .before .before .put .ensures, c .before .before .before .one-if3 .ensures, c .before .before .before .before .before .before .before .before .one-if2 .ensures, c .before .before .before .before .before .before .before .before .before .before .before .before .before .one-if .ensures)
+returns c =
+    let c2 = c .before .before in
+    let c7 = c2 .before .before .before .before .before in
+    let c12 = c7 .before .before .before .before .before in
+    let c17 = c12 .before .before .before .before .before in
+    rw (c2 .put5 .ensures, c7 .put4 .ensures, c12 .put3 .ensures, c17 .put2 .ensures, c17 .before .before .before .before .put .ensures, c2 .before .one-if3 .ensures, c7 .before .one-if2 .ensures, c12 .before .one-if .ensures)
 
 pub put-report-spec : {M : Type 1} → statement M
 put-report-spec =

@@ -38,8 +38,9 @@ loop-less c = search needs
 
 loop-again : tie.Need-loop-again Inv-loop μ-loop
 loop-again c =
-    let k = c .before .before .before .before .before .before .before .before .before .before .before .before .before .before .before .before .before .before .before .before .before .before .before .before .judge-next .kept in
-    let v = c .before .before .before .before .before .before .before .before .before .before .before .before .before .before .before .before .before .before .before .before .before .before .before .before .before .before .before .before .before .before .before .before .before .before .before .before .before .loop .inv in
+    let c24 = c .before .before .before .before .before .before .before .before .before .before .before .before .before .before .before .before .before .before .before .before .before .before .before .before in
+    let k = c24 .judge-next .kept in
+    let v = c24 .before .before .before .before .before .before .before .before .before .before .before .before .before .loop .inv in
     (k .1 .0 ∙ v .0, k .1 .1 .0 ∙ v .1, k .1 .1 .1 .0 ∙ v .2, k .1 .1 .1 .1 .0 ∙ v .3, k .1 .1 .1 .1 .1 .0 ∙ v .4, k .1 .1 .1 .1 .1 .1 .0 ∙ v .5, k .1 .1 .1 .1 .1 .1 .1 .0 ∙ v .6, k .1 .1 .1 .1 .1 .1 .1 .1 .0 ∙ v .7, k .1 .1 .1 .1 .1 .1 .1 .1 .1 .0 ∙ v .8, k .1 .1 .1 .1 .1 .1 .1 .1 .1 .1 .0 ∙ v .9, k .1 .1 .1 .1 .1 .1 .1 .1 .1 .1 .1 .0 ∙ v .10)
 
 same-length : tie.Need-same-length Inv-loop μ-loop

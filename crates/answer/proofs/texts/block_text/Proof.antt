@@ -55,13 +55,20 @@ same-length : tie.Need-same-length
 same-length c = search needs
 
 returns : tie.Need-returns
-returns c = said-printed _ _ _ _ _ _ _ (c .before .before .before .before .before .before .before .before .lend-and-convert .ensures) (c .before .before .before .before .before .before .answer .given .1) refl (rw (c .before .before .before .before .number-of .ensures) at (c .before .before .put-refusal .ensures))
+returns c =
+    let c2 = c .before .before in
+    let c4 = c2 .before .before in
+    let c6 = c4 .before .before in
+    said-printed _ _ _ _ _ _ _ (c6 .before .before .lend-and-convert .ensures) (c6 .answer .given .1) refl (rw (c4 .number-of .ensures) at (c2 .put-refusal .ensures))
 
 same-length-2 : tie.Need-same-length-2
 same-length-2 c = search needs
 
 returns-2 : tie.Need-returns-2
-returns-2 c = said-printed _ _ _ _ _ _ _ (c .before .before .before .before .before .before .before .before .before .before .before .before .before .before .before .before .before .before .before .before .lend-and-convert .ensures) (c .before .before .before .before .before .before .before .before .before .before .before .before .before .before .before .before .before .before .answer2 .given .1) (c .before .before .before .before .before .before .before .before .before .before .before .before .before .before .before .before .parts-in .ensures) (c .before .before .put-mesh .ensures)
+returns-2 c =
+    let c2 = c .before .before in
+    let c16 = c2 .before .before .before .before .before .before .before .before .before .before .before .before .before .before in
+    said-printed _ _ _ _ _ _ _ (c16 .before .before .before .before .lend-and-convert .ensures) (c16 .before .before .answer2 .given .1) (c16 .parts-in .ensures) (c2 .put-mesh .ensures)
 
 pub block-text-spec : {M : Type 1} → statement M
 block-text-spec =

@@ -68,30 +68,41 @@ zeros-in-requires : tie.Need-zeros-in-requires
 zeros-in-requires c κs = rw (c .before .before .before .before .before .before .before .before .before .before .before .before .before .before .before .before .edition-of .ensures) (narrow _)
 
 edition-is : (c : tie.After-zeros-in) → c .before .before .before .before .before .before .before .before .before .before .before .before .before .before .before .before .before .edition-of .result ≡ editionIn (now (c .before .before .before .before .before .before .before .before .before .before .before .before .before .before .before .before .before .before .before .before .args .block))
-edition-is c = c .before .before .before .before .before .before .before .before .before .before .before .before .before .before .before .before .before .edition-of .ensures ∙ ap editionOf (c .before .before .before .before .before .before .before .before .before .before .before .before .before .before .before .before .before .before .field-at .ensures)
+edition-is c =
+    let c17 = c .before .before .before .before .before .before .before .before .before .before .before .before .before .before .before .before .before in
+    c17 .edition-of .ensures ∙ ap editionOf (c17 .before .field-at .ensures)
 
 returns : tie.Need-returns
 unfolding headerOf
 returns c =
+    let c2 = c .before .before in
+    let c3 = c2 .before in
+    let c5 = c3 .before .before in
+    let c7 = c5 .before .before in
+    let c9 = c7 .before .before in
+    let c11 = c9 .before .before in
+    let c13 = c11 .before .before in
+    let c15 = c13 .before .before in
+    let c18 = c15 .before .before .before in
     λ i.
     record {
-      edition = c .before .before .before .before .before .before .before .before .before .before .before .before .before .before .before .before .before .before .field-at .ensures i;
-      kind = (c .before .before .before .before .before .before .before .before .before .before .before .before .before .before .before .kind-of .ensures ∙ ap kindOf (c .before .before .before .before .before .before .before .before .before .before .before .before .before .before .before .before .field-at2 .ensures)) i;
-      ccw = c .before .before .before .before .before .before .before .before .before .before .before .before .before .before .flag .ensures i;
-      convex = c .before .before .before .before .before .before .before .before .before .before .before .before .before .flag2 .ensures i;
-      solid = c .before .before .before .before .before .before .before .before .before .before .before .before .flag3 .ensures i;
-      «color_per_vertex» = c .before .before .before .before .before .before .before .before .before .before .before .flag4 .ensures i;
-      «normal_per_vertex» = c .before .before .before .before .before .before .before .before .before .before .flag5 .ensures i;
-      «need_uvs» = c .before .before .before .before .before .before .before .before .before .flag6 .ensures i;
-      transformed = c .before .before .before .before .before .before .before .before .flag7 .ensures i;
-      colors = c .before .before .before .before .before .before .before .flag8 .ensures i;
-      alpha = c .before .before .before .before .before .before .flag9 .ensures i;
-      normals = c .before .before .before .before .before .flag10 .ensures i;
-      «texture_points» = c .before .before .before .before .flag11 .ensures i;
-      «begin_cap» = c .before .before .before .flag12 .ensures i;
-      «end_cap» = c .before .before .flag13 .ensures i;
-      counts = (c .before .read-counts .ensures ∙ ap (λ (e : Edition). countsOf (now (c .before .before .before .before .before .before .before .before .before .before .before .before .before .before .before .before .before .before .before .before .args .block)) (e .«count_bits»)) (edition-is c)) i;
-      zeros = (c .zeros-in .ensures ∙ ap (λ (e : Edition). field (now (c .before .before .before .before .before .before .before .before .before .before .before .before .before .before .before .before .before .before .before .before .args .block)) (zerosAt e) (e .«zero_bits»)) (edition-is c)) i;
+      edition = c18 .field-at .ensures i;
+      kind = (c15 .kind-of .ensures ∙ ap kindOf (c15 .before .field-at2 .ensures)) i;
+      ccw = c13 .before .flag .ensures i;
+      convex = c13 .flag2 .ensures i;
+      solid = c11 .before .flag3 .ensures i;
+      «color_per_vertex» = c11 .flag4 .ensures i;
+      «normal_per_vertex» = c9 .before .flag5 .ensures i;
+      «need_uvs» = c9 .flag6 .ensures i;
+      transformed = c7 .before .flag7 .ensures i;
+      colors = c7 .flag8 .ensures i;
+      alpha = c5 .before .flag9 .ensures i;
+      normals = c5 .flag10 .ensures i;
+      «texture_points» = c3 .before .flag11 .ensures i;
+      «begin_cap» = c3 .flag12 .ensures i;
+      «end_cap» = c2 .flag13 .ensures i;
+      counts = (c .before .read-counts .ensures ∙ ap (λ (e : Edition). countsOf (now (c18 .before .before .args .block)) (e .«count_bits»)) (edition-is c)) i;
+      zeros = (c .zeros-in .ensures ∙ ap (λ (e : Edition). field (now (c18 .before .before .args .block)) (zerosAt e) (e .«zero_bits»)) (edition-is c)) i;
     }
 
 pub read-header-spec : {M : Type 1} → statement M

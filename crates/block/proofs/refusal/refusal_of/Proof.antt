@@ -24,15 +24,22 @@ returns-3 : tie.Need-returns-3
 returns-3 c = row-kind _ _ (rw (← c .before .before .before .before .before .header-bytes .ensures) (c .before .before .before .before .if1 .left)) (sym (c .before .before .before .is-known .ensures) ∙ c .before .before .if2 .taken) (sym (c .before .is-other .ensures) ∙ c .if3 .taken)
 
 returns-4 : tie.Need-returns-4
-returns-4 c = row-zeros _ _ (rw (← c .before .before .before .before .before .before .before .header-bytes .ensures) (c .before .before .before .before .before .before .if1 .left)) (sym (c .before .before .before .before .before .is-known .ensures) ∙ c .before .before .before .before .if2 .taken) (sym (c .before .before .before .is-other .ensures) ∙ c .before .before .if3 .left) (c .if4 .taken)
+returns-4 c =
+    let c2 = c .before .before in
+    let c3 = c2 .before in
+    let c5 = c3 .before .before in
+    row-zeros _ _ (rw (← c5 .before .before .header-bytes .ensures) (c5 .before .if1 .left)) (sym (c5 .is-known .ensures) ∙ c3 .before .if2 .taken) (sym (c3 .is-other .ensures) ∙ c2 .if3 .left) (c .if4 .taken)
 
 -- what is known where the rows 1 to 3 are passed
 known : (c : tie.Else4) → Known (now (c .before .before .before .before .before .before .before .before .before .args .block)) (c .before .before .before .before .before .before .before .before .before .args .h)
 known c =
+    let c2 = c .before .before in
+    let c3 = c2 .before in
+    let c5 = c3 .before .before in
     record {
-      whole = rw (← c .before .before .before .before .before .before .before .header-bytes .ensures) (c .before .before .before .before .before .before .if1 .left);
-      edition-is = sym (c .before .before .before .before .before .is-known .ensures) ∙ c .before .before .before .before .if2 .taken;
-      kind-is = sym (c .before .before .before .is-other .ensures) ∙ c .before .before .if3 .left;
+      whole = rw (← c5 .before .before .header-bytes .ensures) (c5 .before .if1 .left);
+      edition-is = sym (c5 .is-known .ensures) ∙ c3 .before .if2 .taken;
+      kind-is = sym (c3 .is-other .ensures) ∙ c2 .if3 .left;
       zeros-are = c .if4 .left;
     }
 

@@ -20,7 +20,10 @@ bits-of-requires-2 c κs = search needs
 
 returns : tie.Need-returns
 unfolding uvWords
-returns c = rw (c .bits-of2 .ensures, c .before .before .bits-of .ensures, c .before .before .before .apply .ensures, c .before .before .before .before .of-bits2 .ensures, c .before .before .before .before .before .of-bits .ensures, c .before .before .before .before .before .before .if1 .taken)
+returns c =
+    let c2 = c .before .before in
+    let c4 = c2 .before .before in
+    rw (c .bits-of2 .ensures, c2 .bits-of .ensures, c2 .before .apply .ensures, c4 .of-bits2 .ensures, c4 .before .of-bits .ensures, c4 .before .before .if1 .taken)
 
 of-bits-requires-3 : tie.Need-of-bits-requires-3
 of-bits-requires-3 c κs = search needs

@@ -21,7 +21,11 @@ loop-holds : tie.Need-loop-holds Inv-loop μ-loop
 loop-holds c = turned-start
 
 key-of-requires : tie.Need-key-of-requires Inv-loop μ-loop
-key-of-requires c κs = (turned-laid (c .before .before .before .before .loop .inv _ (c .before .before .before .before .before .before .before .fill .ensures) (c .before .before .before .before .before .before .before .before .before .before .before .before .before .before .before .before .before .before .pre)), c .before .if1 .taken, c .before .before .before .before .before .before .before .before .before .before .before .before .before .before .before .before .before .before .pre .floats)
+key-of-requires c κs =
+    let c4 = c .before .before .before .before in
+    let c7 = c4 .before .before .before in
+    let c18 = c7 .before .before .before .before .before .before .before .before .before .before .before in
+    (turned-laid (c4 .loop .inv _ (c7 .fill .ensures) (c18 .pre)), c .before .if1 .taken, c18 .pre .floats)
 
 slice-aggregate-number-corner : tie.Need-slice-aggregate-number-corner Inv-loop μ-loop
 slice-aggregate-number-corner c = search needs
@@ -36,25 +40,46 @@ loop-less : tie.Need-loop-less Inv-loop μ-loop
 loop-less c = search needs
 
 loop-again : tie.Need-loop-again Inv-loop μ-loop
-loop-again c = λ l F R. turned-next (c .before .before .before .before .before .before .before .before .before .before .before .before .before .before .before .before .before .before .before .before .before .before .before .before .before .before .loop .inv l F R) (c .before .before .before .before .before .before .before .before .before .before .before .before .before .before .before .before .before .before .before .before .before .before .before .if1 .taken) (rw (c .before .before .before .before .before .before .before .before .before .before .before .before .before .before .before .before .before .before .before .before .before .key-of .ensures) at (c .before .before .before .before .before .before .before .before .before .before .before .before .before .number-corner .ensures))
+loop-again c =
+    let c13 = c .before .before .before .before .before .before .before .before .before .before .before .before .before in
+    let c21 = c13 .before .before .before .before .before .before .before .before in
+    λ l F R. turned-next (c21 .before .before .before .before .before .loop .inv l F R) (c21 .before .before .if1 .taken) (rw (c21 .key-of .ensures) at (c13 .number-corner .ensures))
 
 same-length : tie.Need-same-length Inv-loop μ-loop
-same-length c = turned-lengths (c .before .before .before .loop .inv _ (c .before .before .before .before .before .before .fill .ensures) (c .before .before .before .before .before .before .before .before .before .before .before .before .before .before .before .before .before .pre)) .sources
+same-length c =
+    let c3 = c .before .before .before in
+    let c6 = c3 .before .before .before in
+    turned-lengths (c3 .loop .inv _ (c6 .fill .ensures) (c6 .before .before .before .before .before .before .before .before .before .before .before .pre)) .sources
 
 same-length-2 : tie.Need-same-length-2 Inv-loop μ-loop
-same-length-2 c = turned-lengths (c .before .before .before .loop .inv _ (c .before .before .before .before .before .before .fill .ensures) (c .before .before .before .before .before .before .before .before .before .before .before .before .before .before .before .before .before .pre)) .positions
+same-length-2 c =
+    let c3 = c .before .before .before in
+    let c6 = c3 .before .before .before in
+    turned-lengths (c3 .loop .inv _ (c6 .fill .ensures) (c6 .before .before .before .before .before .before .before .before .before .before .before .pre)) .positions
 
 same-length-3 : tie.Need-same-length-3 Inv-loop μ-loop
-same-length-3 c = turned-lengths (c .before .before .before .loop .inv _ (c .before .before .before .before .before .before .fill .ensures) (c .before .before .before .before .before .before .before .before .before .before .before .before .before .before .before .before .before .pre)) .normals
+same-length-3 c =
+    let c3 = c .before .before .before in
+    let c6 = c3 .before .before .before in
+    turned-lengths (c3 .loop .inv _ (c6 .fill .ensures) (c6 .before .before .before .before .before .before .before .before .before .before .before .pre)) .normals
 
 same-length-4 : tie.Need-same-length-4 Inv-loop μ-loop
-same-length-4 c = turned-lengths (c .before .before .before .loop .inv _ (c .before .before .before .before .before .before .fill .ensures) (c .before .before .before .before .before .before .before .before .before .before .before .before .before .before .before .before .before .pre)) .colours
+same-length-4 c =
+    let c3 = c .before .before .before in
+    let c6 = c3 .before .before .before in
+    turned-lengths (c3 .loop .inv _ (c6 .fill .ensures) (c6 .before .before .before .before .before .before .before .before .before .before .before .pre)) .colours
 
 same-length-5 : tie.Need-same-length-5 Inv-loop μ-loop
-same-length-5 c = turned-lengths (c .before .before .before .loop .inv _ (c .before .before .before .before .before .before .fill .ensures) (c .before .before .before .before .before .before .before .before .before .before .before .before .before .before .before .before .before .pre)) .textures
+same-length-5 c =
+    let c3 = c .before .before .before in
+    let c6 = c3 .before .before .before in
+    turned-lengths (c3 .loop .inv _ (c6 .fill .ensures) (c6 .before .before .before .before .before .before .before .before .before .before .before .pre)) .textures
 
 same-length-6 : tie.Need-same-length-6 Inv-loop μ-loop
-same-length-6 c = (c .before .before .before .loop .inv _ (c .before .before .before .before .before .before .fill .ensures) (c .before .before .before .before .before .before .before .before .before .before .before .before .before .before .before .before .before .pre)) .made .len
+same-length-6 c =
+    let c3 = c .before .before .before in
+    let c6 = c3 .before .before .before in
+    (c3 .loop .inv _ (c6 .fill .ensures) (c6 .before .before .before .before .before .before .before .before .before .before .before .pre)) .made .len
 
 returns : tie.Need-returns Inv-loop μ-loop
 returns c = turned-all (c .before .before .before .loop .inv _ (c .before .before .before .before .before .before .fill .ensures) (c .before .before .before .before .before .before .before .before .before .before .before .before .before .before .before .before .before .pre)) (omega (arith, c .if1 .left))

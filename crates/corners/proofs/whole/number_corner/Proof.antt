@@ -45,10 +45,11 @@ same-length-6 c = search needs
 
 returns : tie.Need-returns
 returns c =
+    let c16 = c .before .before .before .before .before .before .before .before .before .before .before .before .before .before .before .before in
     record {
-      number = c .before .before .before .before .before .before .before .before .before .before .before .before .before .before .before .before .vertex .result .0;
-      table = c .before .before .before .before .before .before .before .before .before .before .before .before .before .before .before .before .vertex .last .1 .1 .1 .1 .1 .0;
-      vertexed = rw (c .before .before .before .before .before .before .before .before .before .before .before .before .before .before .before .before .before .before .before .before .before .before .before .point-of .ensures) at (c .before .before .before .before .before .before .before .before .before .before .before .before .before .before .before .before .vertex .ensures);
+      number = c16 .vertex .result .0;
+      table = c16 .vertex .last .1 .1 .1 .1 .1 .0;
+      vertexed = rw (c16 .before .before .before .before .before .before .before .point-of .ensures) at (c16 .vertex .ensures);
       written = rw (c .before .narrow .ensures);
       count = c .count-after .ensures;
     }

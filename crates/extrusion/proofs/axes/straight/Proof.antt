@@ -28,7 +28,11 @@ quat-rotate-requires-3 : tie.Need-quat-rotate-requires-3
 quat-rotate-requires-3 c κs = search needs
 
 returns : tie.Need-returns
-returns c = straight-is _ _ _ _ _ _ _ _ _ (c .before .before .before .before .before .before .before .upward .ensures) (c .before .before .before .before .before .before .upward2 .ensures) (c .before .before .before .before .before .or-else .ensures) (c .before .before .before .before .quat-between .ensures) (c .before .before .before .quat-rotate .ensures) (c .before .before .upward3 .ensures) (c .before .quat-rotate2 .ensures) (c .quat-rotate3 .ensures)
+returns c =
+    let c2 = c .before .before in
+    let c3 = c2 .before in
+    let c5 = c3 .before .before in
+    straight-is _ _ _ _ _ _ _ _ _ (c5 .before .before .upward .ensures) (c5 .before .upward2 .ensures) (c5 .or-else .ensures) (c3 .before .quat-between .ensures) (c3 .quat-rotate .ensures) (c2 .upward3 .ensures) (c .before .quat-rotate2 .ensures) (c .quat-rotate3 .ensures)
 
 pub straight-spec : {M : Type 1} → statement M
 straight-spec =

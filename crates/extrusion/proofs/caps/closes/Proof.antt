@@ -15,7 +15,10 @@ pair-at-requires-2 : tie.Need-pair-at-requires-2
 pair-at-requires-2 c κs = search needs
 
 returns : tie.Need-returns
-returns c = and-yes _ _ (c .before .before .if2 .taken) ∙ closes-long _ _ _ _ (count2 _ _) (c .before .before .before .before .before .before .before .if1 .taken) (c .before .before .before .before .before .before .pair-at .ensures) (c .before .before .before .before .before .pair-at2 .ensures)
+returns c =
+    let c2 = c .before .before in
+    let c5 = c2 .before .before .before in
+    and-yes _ _ (c2 .if2 .taken) ∙ closes-long _ _ _ _ (count2 _ _) (c5 .before .before .if1 .taken) (c5 .before .pair-at .ensures) (c5 .pair-at2 .ensures)
 
 returns-2 : tie.Need-returns-2
 returns-2 c = and-no _ _ (c .if2 .left) ∙ closes-long _ _ _ _ (count2 _ _) (c .before .before .before .before .before .if1 .taken) (c .before .before .before .before .pair-at .ensures) (c .before .before .before .pair-at2 .ensures)

@@ -24,12 +24,18 @@ same-length : tie.Need-same-length
 same-length c = search needs
 
 returns : tie.Need-returns
-returns c = let q = begin-yes (c .before .before .before .before .before .before .before .args .wanted) (c .before .before .before .before .before .before .before .args .cap) _ (c .before .before .before .before .before .has-cap .ensures) (c .before .before .before .before .if1 .taken) in
-    (c .before .before .put-down .ensures ∙ ap (spliced (c .before .before .before .before .before .before .before .args .work .now) (c .before .before .before .before .before .before .before .args .k)) (sym q), ap (λ (x : ℕ). c .before .before .before .before .before .before .before .args .k + x) (sym (length-by _ _ _ q)))
+returns c =
+    let c2 = c .before .before in
+    let c4 = c2 .before .before in
+    let c7 = c4 .before .before .before in
+    let q = begin-yes (c7 .args .wanted) (c7 .args .cap) _ (c4 .before .has-cap .ensures) (c4 .if1 .taken) in
+    (c2 .put-down .ensures ∙ ap (spliced (c7 .args .work .now) (c7 .args .k)) (sym q), ap (λ (x : ℕ). c7 .args .k + x) (sym (length-by _ _ _ q)))
 
 returns-2 : tie.Need-returns-2
-returns-2 c = let q = begin-no (c .before .before .before .args .wanted) (c .before .before .before .args .cap) _ (c .before .has-cap .ensures) (c .if1 .left) in
-    (splice-start _ _ ∙ ap (spliced (c .before .before .before .args .work .now) (c .before .before .before .args .k)) (sym q), sym (ap (λ (x : List ℕ). c .before .before .before .args .k + length x) q ∙ add-zero (c .before .before .before .args .k)))
+returns-2 c =
+    let c3 = c .before .before .before in
+    let q = begin-no (c3 .args .wanted) (c3 .args .cap) _ (c .before .has-cap .ensures) (c .if1 .left) in
+    (splice-start _ _ ∙ ap (spliced (c3 .args .work .now) (c3 .args .k)) (sym q), sym (ap (λ (x : List ℕ). c3 .args .k + length x) q ∙ add-zero (c3 .args .k)))
 
 pub put-begin-spec : {M : Type 1} → statement M
 put-begin-spec =

@@ -17,10 +17,16 @@ same-length : tie.Need-same-length
 same-length c = search needs
 
 returns : tie.Need-returns
-returns c = c .before .before .put-up .ensures ∙ ap (spliced (c .before .before .before .before .before .before .before .args .work .now) (c .before .before .before .before .before .before .before .args .k)) (sym (end-yes (c .before .before .before .before .before .before .before .args .wanted) (c .before .before .before .before .before .before .before .args .cap) _ (c .before .before .before .before .before .has-cap .ensures) (c .before .before .before .before .before .before .before .args .p .0) (c .before .before .before .before .if1 .taken)))
+returns c =
+    let c2 = c .before .before in
+    let c4 = c2 .before .before in
+    let c7 = c4 .before .before .before in
+    c2 .put-up .ensures ∙ ap (spliced (c7 .args .work .now) (c7 .args .k)) (sym (end-yes (c7 .args .wanted) (c7 .args .cap) _ (c4 .before .has-cap .ensures) (c7 .args .p .0) (c4 .if1 .taken)))
 
 returns-2 : tie.Need-returns-2
-returns-2 c = splice-start _ _ ∙ ap (spliced (c .before .before .before .args .work .now) (c .before .before .before .args .k)) (sym (end-no (c .before .before .before .args .wanted) (c .before .before .before .args .cap) _ (c .before .has-cap .ensures) (c .before .before .before .args .p .0) (c .if1 .left)))
+returns-2 c =
+    let c3 = c .before .before .before in
+    splice-start _ _ ∙ ap (spliced (c3 .args .work .now) (c3 .args .k)) (sym (end-no (c3 .args .wanted) (c3 .args .cap) _ (c .before .has-cap .ensures) (c3 .args .p .0) (c .if1 .left)))
 
 pub put-end-spec : {M : Type 1} → statement M
 put-end-spec = tie.close (tie.spec has-cap-requires put-up-requires same-length returns returns-2)

@@ -53,7 +53,12 @@ same-length : tie.Need-same-length
 same-length c = search needs
 
 returns : tie.Need-returns
-returns c = quad-put _ _ _ _ _ _ _ _ _ _ _ _ _ (c .before .before .before .before .before .before .before .before .before .before .before .before .before .before .before .before .before .before .before .before .before .pre .1) (c .before .before .before .before .before .before .before .before .before .before .before .before .before .before .before .before .before .before .point-at .ensures) (c .before .before .before .before .before .before .before .before .before .before .before .before .before .point-at2 .ensures) (c .before .before .before .before .before .before .before .before .point-at3 .ensures) (c .before .before .before .point-at4 .ensures) (c .before .before .before .before .before .before .before .before .before .before .before .before .before .before .before .before .before .put-point-number .ensures) (c .before .before .before .before .before .before .before .before .before .before .before .before .put-point-number2 .ensures) (c .before .before .before .before .before .before .before .put-point-number3 .ensures) (c .before .before .put-point-number4 .ensures)
+returns c =
+    let c2 = c .before .before in
+    let c7 = c2 .before .before .before .before .before in
+    let c12 = c7 .before .before .before .before .before in
+    let c17 = c12 .before .before .before .before .before in
+    quad-put _ _ _ _ _ _ _ _ _ _ _ _ _ (c17 .before .before .before .before .pre .1) (c17 .before .point-at .ensures) (c12 .before .point-at2 .ensures) (c7 .before .point-at3 .ensures) (c2 .before .point-at4 .ensures) (c17 .put-point-number .ensures) (c12 .put-point-number2 .ensures) (c7 .put-point-number3 .ensures) (c2 .put-point-number4 .ensures)
 
 pub put-quad-spec : {M : Type 1} → statement M
 put-quad-spec =

@@ -36,7 +36,13 @@ same-length : tie.Need-same-length
 same-length c = search needs
 
 returns : tie.Need-returns
-returns c = faces-put (c .before .before .before .before .before .before .before .before .before .before .before .before .before .before .before .before .before .before .before .pre) _ _ (c .before .before .before .before .before .before .before .before .before .before .before .before .before .before .before .before .before .spine-count .ensures) (c .before .before .before .before .before .before .before .before .before .before .before .before .before .before .before .before .section-count .ensures) _ _ _ _ _ refl (c .before .before .before .before .before .before .before .before .before .before .before .before .before .before .put-uses .ensures) (c .before .before .before .before .before .before .before .before .before .before .put-starts .ensures) (c .before .before .before .before .before .before .put-uses2 .ensures) (c .before .before .put-numbers .ensures)
+returns c =
+    let c2 = c .before .before in
+    let c6 = c2 .before .before .before .before in
+    let c10 = c6 .before .before .before .before in
+    let c14 = c10 .before .before .before .before in
+    let c16 = c14 .before .before in
+    faces-put (c16 .before .before .before .pre) _ _ (c16 .before .spine-count .ensures) (c16 .section-count .ensures) _ _ _ _ _ refl (c14 .put-uses .ensures) (c10 .put-starts .ensures) (c6 .put-uses2 .ensures) (c2 .put-numbers .ensures)
 
 pub list-faces-spec : {M : Type 1} → statement M
 list-faces-spec =

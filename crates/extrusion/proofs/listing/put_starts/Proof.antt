@@ -45,10 +45,12 @@ loop-less : tie.Need-loop-less Inv-loop μ-loop
 loop-less c = search needs
 
 loop-again : tie.Need-loop-again Inv-loop μ-loop
-loop-again c = (
-  start-more _ _ _ _ _ (c .before .before .before .loop .inv .0) (c .size-at .ensures),
-  writing-more _ (c .before .before .before .before .before .pre .3) (c .before .before .before .loop .inv .1) (c .before .before .loop-test .taken) (c .before .narrow .ensures ∙ c .before .before .before .loop .inv .0),
-)
+loop-again c =
+    let c2 = c .before .before in
+    let c3 = c2 .before in (
+      start-more _ _ _ _ _ (c3 .loop .inv .0) (c .size-at .ensures),
+      writing-more _ (c3 .before .before .pre .3) (c3 .loop .inv .1) (c2 .loop-test .taken) (c .before .narrow .ensures ∙ c3 .loop .inv .0),
+    )
 
 same-length : tie.Need-same-length Inv-loop μ-loop
 same-length c = c .before .loop .inv .1 .kept .len

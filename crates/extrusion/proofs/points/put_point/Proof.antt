@@ -45,7 +45,10 @@ same-length : tie.Need-same-length
 same-length c = search needs
 
 returns : tie.Need-returns
-returns c = put-three (c .before .before .before .before .args .work .now) (c .before .before .before .before .args .k) _ _ _ (c .before .before .before .before .pre) ∙ (λ i. spliced (c .before .before .before .before .args .work .now) (c .before .before .before .before .args .k) (c .before .before .bits-of .ensures i ∷ c .before .bits-of2 .ensures i ∷ c .bits-of3 .ensures i ∷ []))
+returns c =
+    let c2 = c .before .before in
+    let c4 = c2 .before .before in
+    put-three (c4 .args .work .now) (c4 .args .k) _ _ _ (c4 .pre) ∙ (λ i. spliced (c4 .args .work .now) (c4 .args .k) (c2 .bits-of .ensures i ∷ c .before .bits-of2 .ensures i ∷ c .bits-of3 .ensures i ∷ []))
 
 pub put-point-spec : {M : Type 1} → statement M
 put-point-spec =

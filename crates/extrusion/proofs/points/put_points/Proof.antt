@@ -28,20 +28,32 @@ turn-count-requires : tie.Need-turn-count-requires
 turn-count-requires c κs = search needs
 
 put-rows-requires : tie.Need-put-rows-requires
-put-rows-requires c κs = (
-  spine-room (c .before .before .before .before .before .before .before .before .before .before .before .pre .0) _ _ (c .before .before .before .before .before .before .before .before .list-part .ensures) (c .before .before .before .before .spine-count .ensures),
-  section-room (c .before .before .before .before .before .before .before .before .before .before .before .pre .0) _ _ (c .before .before .before .before .before .before .before .list-part2 .ensures) (c .before .before .before .section-count .ensures),
-  scale-room (c .before .before .before .before .before .before .before .before .before .before .before .pre .0) _ _ (c .before .before .before .before .before .before .list-part3 .ensures) (c .before .before .scale-count .ensures),
-  turn-room (c .before .before .before .before .before .before .before .before .before .before .before .pre .0) _ _ (c .before .before .before .before .before .list-part4 .ensures) (c .before .turn-count .ensures),
-  rw (c .before .before .before .before .spine-count .ensures) (c .before .before .before .before .before .before .before .before .before .before .before .pre .0 .spine),
-  rows-room _ _ _ _ _ _ (c .before .before .before .before .spine-count .ensures) (c .before .before .before .section-count .ensures) (c .before .before .before .before .before .before .before .before .before .before .before .pre .1),
-)
+put-rows-requires c κs =
+    let c2 = c .before .before in
+    let c3 = c2 .before in
+    let c4 = c3 .before in
+    let c5 = c4 .before in
+    let c7 = c5 .before .before in
+    let c11 = c7 .before .before .before .before in (
+      spine-room (c11 .pre .0) _ _ (c7 .before .list-part .ensures) (c4 .spine-count .ensures),
+      section-room (c11 .pre .0) _ _ (c7 .list-part2 .ensures) (c3 .section-count .ensures),
+      scale-room (c11 .pre .0) _ _ (c5 .before .list-part3 .ensures) (c2 .scale-count .ensures),
+      turn-room (c11 .pre .0) _ _ (c5 .list-part4 .ensures) (c .before .turn-count .ensures),
+      rw (c4 .spine-count .ensures) (c11 .pre .0 .spine),
+      rows-room _ _ _ _ _ _ (c4 .spine-count .ensures) (c3 .section-count .ensures) (c11 .pre .1),
+    )
 
 same-length : tie.Need-same-length
 same-length c = search needs
 
 returns : tie.Need-returns
-returns c = points-put (c .before .before .before .before .before .before .before .before .before .before .before .before .before .before .pre .0) _ _ _ _ _ _ _ _ _ _ _ (c .before .before .before .before .before .before .before .before .before .before .before .list-part .ensures) (c .before .before .before .before .before .before .before .spine-count .ensures) (c .before .before .before .before .before .before .before .before .before .before .list-part2 .ensures) (c .before .before .before .before .before .before .section-count .ensures) (c .before .before .before .before .before .before .before .before .before .list-part3 .ensures) (c .before .before .before .before .before .scale-count .ensures) (c .before .before .before .before .before .before .before .before .list-part4 .ensures) (c .before .before .before .before .turn-count .ensures) (c .before .before .put-rows .ensures)
+returns c =
+    let c2 = c .before .before in
+    let c4 = c2 .before .before in
+    let c6 = c4 .before .before in
+    let c8 = c6 .before .before in
+    let c10 = c8 .before .before in
+    points-put (c10 .before .before .before .before .pre .0) _ _ _ _ _ _ _ _ _ _ _ (c10 .before .list-part .ensures) (c6 .before .spine-count .ensures) (c10 .list-part2 .ensures) (c6 .section-count .ensures) (c8 .before .list-part3 .ensures) (c4 .before .scale-count .ensures) (c8 .list-part4 .ensures) (c4 .turn-count .ensures) (c2 .put-rows .ensures)
 
 pub put-points-spec : {M : Type 1} → statement M
 put-points-spec =

@@ -30,13 +30,18 @@ loop-holds : tie.Need-loop-holds Inv-loop μ-loop
 loop-holds c = (omega arith, omega arith, omega arith, walk-start _ _ _ _ _ _ _ (c .first-y .ensures))
 
 y-own-requires : tie.Need-y-own-requires Inv-loop μ-loop
-y-own-requires c κs = (c .before .before .before .before .before .before .before .before .before .pre .0, c .before .before .before .before .before .before .before .before .before .pre .4, c .loop-test .taken)
+y-own-requires c κs =
+    let c9 = c .before .before .before .before .before .before .before .before .before in
+    (c9 .pre .0, c9 .pre .4, c .loop-test .taken)
 
 or-requires : tie.Need-or-requires Inv-loop μ-loop
 or-requires c κs = search needs
 
 z-own-requires : tie.Need-z-own-requires Inv-loop μ-loop
-z-own-requires c κs = (c .before .before .before .before .before .before .before .before .before .before .before .pre .0, c .before .before .before .before .before .before .before .before .before .before .before .pre .4, c .before .before .loop-test .taken)
+z-own-requires c κs =
+    let c2 = c .before .before in
+    let c11 = c2 .before .before .before .before .before .before .before .before .before in
+    (c11 .pre .0, c11 .pre .4, c2 .loop-test .taken)
 
 pick-z-requires : tie.Need-pick-z-requires Inv-loop μ-loop
 pick-z-requires c κs = search needs

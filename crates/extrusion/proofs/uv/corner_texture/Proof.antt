@@ -10,7 +10,10 @@ uv-requires : tie.Need-uv-requires
 uv-requires c κs = search needs
 
 returns : tie.Need-returns
-returns c = corner-made (c .before .before .before .before .before .before .pre .0) _ _ _ _ _ (c .before .before .before .before .before .before .pre .1) (c .before .before .before .if1 .taken) (c .before .before .plain-texture .ensures) (c .uv .ensures)
+returns c =
+    let c2 = c .before .before in
+    let c6 = c2 .before .before .before .before in
+    corner-made (c6 .pre .0) _ _ _ _ _ (c6 .pre .1) (c2 .before .if1 .taken) (c2 .plain-texture .ensures) (c .uv .ensures)
 
 returns-2 : tie.Need-returns-2
 returns-2 c = corner-none (c .before .before .before .pre .0) _ _ (c .if1 .left)

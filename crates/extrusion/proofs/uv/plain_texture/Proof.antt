@@ -36,28 +36,41 @@ add-side-texture-3 : tie.Need-add-side-texture-3
 add-side-texture-3 c = omega (arith, row-reach (c .before .before .before .before .before .before .before .pre .0) (c .before .before .before .before .before .before .before .args .number) (c .before .before .before .before .before .before .before .args .point .0) _ _ (c .before .before .before .before .spine-count .ensures) (c .before .before .before .section-count .ensures) (c .before .before .before .before .before .before .before .pre .1))
 
 side-texture-requires : tie.Need-side-texture-requires
-side-texture-requires c κs = (
-  column-reach (c .before .before .before .before .before .before .before .pre .0) (c .before .before .before .before .before .before .before .args .number) (c .before .before .before .before .before .before .before .args .point .0) _ _ (c .before .before .before .before .spine-count .ensures) (c .before .before .before .section-count .ensures) (c .before .before .before .before .before .before .before .pre .1),
-  row-reach (c .before .before .before .before .before .before .before .pre .0) (c .before .before .before .before .before .before .before .args .number) (c .before .before .before .before .before .before .before .args .point .0) _ _ (c .before .before .before .before .spine-count .ensures) (c .before .before .before .section-count .ensures) (c .before .before .before .before .before .before .before .pre .1),
-)
+side-texture-requires c κs =
+    let c3 = c .before .before .before in
+    let c4 = c3 .before in
+    let c7 = c4 .before .before .before in (
+      column-reach (c7 .pre .0) (c7 .args .number) (c7 .args .point .0) _ _ (c4 .spine-count .ensures) (c3 .section-count .ensures) (c7 .pre .1),
+      row-reach (c7 .pre .0) (c7 .args .number) (c7 .args .point .0) _ _ (c4 .spine-count .ensures) (c3 .section-count .ensures) (c7 .pre .1),
+    )
 
 returns : tie.Need-returns
-returns c = on-side (c .before .before .before .before .before .before .before .before .pre .0) (c .before .before .before .before .before .before .before .before .args .number) (c .before .before .before .before .before .before .before .before .args .point .0) _ _ (c .before .before .before .before .before .spine-count .ensures) (c .before .before .before .before .section-count .ensures) (c .before .before .before .before .before .before .before .before .pre .1) _ (c .before .before .if1 .taken) (c .side-texture .ensures .0) (c .side-texture .ensures .1)
+returns c =
+    let c2 = c .before .before in
+    let c4 = c2 .before .before in
+    let c8 = c4 .before .before .before .before in
+    on-side (c8 .pre .0) (c8 .args .number) (c8 .args .point .0) _ _ (c4 .before .spine-count .ensures) (c4 .section-count .ensures) (c8 .pre .1) _ (c2 .if1 .taken) (c .side-texture .ensures .0) (c .side-texture .ensures .1)
 
 list-part-requires : tie.Need-list-part-requires
 list-part-requires c κs = search needs
 
 pair-at-requires : tie.Need-pair-at-requires
-pair-at-requires c κs = (
-  section-room (c .before .before .before .before .before .before .before .pre .0 .given) _ _ (c .list-part .ensures) (c .before .before .before .section-count .ensures),
-  column-lt (c .before .before .before .before .before .before .before .pre .0) (c .before .before .before .before .before .before .before .args .number) (c .before .before .before .before .before .before .before .args .point .0) _ _ (c .before .before .before .before .spine-count .ensures) (c .before .before .before .section-count .ensures) (c .before .before .before .before .before .before .before .pre .1),
-)
+pair-at-requires c κs =
+    let c3 = c .before .before .before in
+    let c7 = c3 .before .before .before .before in (
+      section-room (c7 .pre .0 .given) _ _ (c .list-part .ensures) (c3 .section-count .ensures),
+      column-lt (c7 .pre .0) (c7 .args .number) (c7 .args .point .0) _ _ (c3 .before .spine-count .ensures) (c3 .section-count .ensures) (c7 .pre .1),
+    )
 
 cap-texture-requires : tie.Need-cap-texture-requires
 cap-texture-requires c κs = search needs
 
 returns-2 : tie.Need-returns-2
-returns-2 c = on-cap (c .before .before .before .before .before .before .before .before .before .pre .0) (c .before .before .before .before .before .before .before .before .before .args .number) (c .before .before .before .before .before .before .before .before .before .args .point .0) _ _ (c .before .before .before .before .before .before .spine-count .ensures) (c .before .before .before .before .before .section-count .ensures) (c .before .before .before .before .before .before .before .before .before .pre .1) _ _ _ (c .before .before .before .if1 .left) (c .before .before .list-part .ensures) (c .before .pair-at .ensures) (c .cap-texture .ensures)
+returns-2 c =
+    let c2 = c .before .before in
+    let c5 = c2 .before .before .before in
+    let c9 = c5 .before .before .before .before in
+    on-cap (c9 .pre .0) (c9 .args .number) (c9 .args .point .0) _ _ (c5 .before .spine-count .ensures) (c5 .section-count .ensures) (c9 .pre .1) _ _ _ (c2 .before .if1 .left) (c2 .list-part .ensures) (c .before .pair-at .ensures) (c .cap-texture .ensures)
 
 pub plain-texture-spec : {M : Type 1} → statement M
 plain-texture-spec =

@@ -45,7 +45,11 @@ wide-requires-2 : tie.Need-wide-requires-2 Inv-loop μ-loop
 wide-requires-2 c κs = search needs
 
 corner-texture-requires : tie.Need-corner-texture-requires Inv-loop μ-loop
-corner-texture-requires c κs = (c .before .before .before .before .before .before .before .before .before .pre .0, c .before .before .before .before .before .before .before .before .before .pre .1, corner-within (c .before .before .before .before .before .before .before .before .before .pre .2) (c .before .before .before .before .before .loop .inv .1 .kept) _ _ (c .before .before .before .before .loop-test .taken) (c .before .before .wide .ensures))
+corner-texture-requires c κs =
+    let c2 = c .before .before in
+    let c4 = c2 .before .before in
+    let c9 = c4 .before .before .before .before .before in
+    (c9 .pre .0, c9 .pre .1, corner-within (c9 .pre .2) (c4 .before .loop .inv .1 .kept) _ _ (c4 .loop-test .taken) (c2 .wide .ensures))
 
 mul-put2 : tie.Need-mul-put2 Inv-loop μ-loop
 mul-put2 c = omega (arith, c .before .before .before .before .before .before .loop-test .taken, c .before .before .before .before .before .before .before .before .before .before .before .pre .2 .room)

@@ -15,7 +15,10 @@ same-length : tie.Need-same-length
 same-length c = search needs
 
 returns : tie.Need-returns
-returns c = record { held = λ u. arcs-held (c .before .before .before .before .before .before .before .before .pre .0) _ _ _ (c .before .before .before .before .before .before .before .before .pre .1) (c .before .before .put-arcs .ensures) }
+returns c =
+    let c2 = c .before .before in
+    let c8 = c2 .before .before .before .before .before .before in
+    record { held = λ u. arcs-held (c8 .pre .0) _ _ _ (c8 .pre .1) (c2 .put-arcs .ensures) }
 
 returns-2 : tie.Need-returns-2
 returns-2 c = record { held = λ u. absurd (true≢false (sym u ∙ c .if1 .left)) }

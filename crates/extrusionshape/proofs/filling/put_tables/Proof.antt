@@ -12,7 +12,10 @@ put-points-requires : tie.Need-put-points-requires
 put-points-requires c κs = let P = c .before .before .before .before .before .before .before .before .pre .1 in let R = P .room in (c .before .before .before .before .before .before .before .before .pre .0, omega (arith, P .spots))
 
 list-faces-requires : tie.Need-list-faces-requires
-list-faces-requires c κs = rw (points-put (c .before .before .before .before .before .before .before .before .before .before .before .before .pre .0) (c .before .before .before .before .before .before .before .before .before .before .before .before .pre .1) (c .before .before .before .put-points .ensures) .0 .len) (c .before .before .before .before .before .before .before .before .before .before .before .before .pre .1)
+list-faces-requires c κs =
+    let c3 = c .before .before .before in
+    let c12 = c3 .before .before .before .before .before .before .before .before .before in
+    rw (points-put (c12 .pre .0) (c12 .pre .1) (c3 .put-points .ensures) .0 .len) (c12 .pre .1)
 
 prepare-requires : tie.Need-prepare-requires
 prepare-requires c κs = (listed-sound (c .before .before .before .before .list-faces .ensures .1), omega (arith, c .before .before .before .before .before .before .before .before .before .before .before .before .before .before .before .before .before .pre .2, c .before .before .before .before .before .before .before .before .before .before .before .before .arcs-where .kept .1 .1 .1 .0))
@@ -24,7 +27,13 @@ same-length-2 : tie.Need-same-length-2
 same-length-2 c = search needs
 
 returns : tie.Need-returns
-returns c = tabled (c .before .before .before .before .before .before .before .before .before .before .before .before .before .before .before .before .before .before .before .before .before .before .pre .1) (c .before .before .before .before .before .before .before .before .before .before .before .before .before .before .before .before .before .arcs-where .kept .1 .1 .1 .0) (c .before .before .before .before .before .before .before .before .before .before .before .before .before .before .before .before .before .arcs-where .ensures) (c .before .before .before .before .before .before .before .before .before .before .before .before .before .before .before .before .before .before .before .before .before .before .pre .0) (c .before .before .before .before .before .before .before .before .before .before .before .before .before .put-points .ensures) (c .before .before .before .before .before .before .before .before .before .list-faces .ensures .0) (c .before .before .before .before .before .before .before .before .before .list-faces .ensures .1) (c .before .before .before .before .prepare .ensures) (c .before .before .before .before .prepare .kept .1 .1 .1 .1 .1 .0) (c .before .before .before .before .before .before .before .before .before .before .before .before .before .before .before .before .before .before .before .before .before .before .pre .2)
+returns c =
+    let c4 = c .before .before .before .before in
+    let c9 = c4 .before .before .before .before .before in
+    let c13 = c9 .before .before .before .before in
+    let c17 = c13 .before .before .before .before in
+    let c22 = c17 .before .before .before .before .before in
+    tabled (c22 .pre .1) (c17 .arcs-where .kept .1 .1 .1 .0) (c17 .arcs-where .ensures) (c22 .pre .0) (c13 .put-points .ensures) (c9 .list-faces .ensures .0) (c9 .list-faces .ensures .1) (c4 .prepare .ensures) (c4 .prepare .kept .1 .1 .1 .1 .1 .0) (c22 .pre .2)
 
 pub put-tables-spec : {M : Type 1} → statement M
 put-tables-spec =

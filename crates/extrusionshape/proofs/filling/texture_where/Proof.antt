@@ -14,7 +14,10 @@ add-put-textures : tie.Need-add-put-textures
 add-put-textures c = let S = c .before .before .before .before .before .before .before .before in omega (arith, S .pre .4 .room, S .good)
 
 put-textures-requires : tie.Need-put-textures-requires
-put-textures-requires c κs = (measured (c .before .before .before .before .before .before .before .before .pre .0) (c .before .before .before .before .before .before .before .before .pre .2) (c .before .before .before .before .if1 .taken) (c .before .before .before .cap-fit .ensures), c .before .before .before .before .before .before .before .before .pre .1, c .before .before .before .before .before .before .before .before .pre .4)
+put-textures-requires c κs =
+    let c3 = c .before .before .before in
+    let c8 = c3 .before .before .before .before .before in
+    (measured (c8 .pre .0) (c8 .pre .2) (c3 .before .if1 .taken) (c3 .cap-fit .ensures), c8 .pre .1, c8 .pre .4)
 
 same-length : tie.Need-same-length
 same-length c = search needs

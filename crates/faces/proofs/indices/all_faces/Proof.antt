@@ -16,7 +16,11 @@ loop-holds : tie.Need-loop-holds Inv-loop μ-loop
 loop-holds c = (refl, facing-start _ _ _ _ _ _)
 
 one-face-requires : tie.Need-one-face-requires Inv-loop μ-loop
-one-face-requires c κs = (facing-ready _ _ _ _ (c .before .before .before .before .before .before .before .before .before .pre .0) (c .before .before .before .before .before .loop .inv .1) _ (c .before .before .before .before .before .loop .inv .0), c .before .before .before .if1 .taken, facing-room _ _ _ _ (c .before .before .before .before .before .before .before .before .before .pre .0) (c .before .before .before .before .before .loop .inv .1) (c .before .before .before .if1 .taken) (c .before .before .before .before .before .before .before .before .before .pre .1))
+one-face-requires c κs =
+    let c3 = c .before .before .before in
+    let c5 = c3 .before .before in
+    let c9 = c5 .before .before .before .before in
+    (facing-ready _ _ _ _ (c9 .pre .0) (c5 .loop .inv .1) _ (c5 .loop .inv .0), c3 .if1 .taken, facing-room _ _ _ _ (c9 .pre .0) (c5 .loop .inv .1) (c3 .if1 .taken) (c9 .pre .1))
 
 add-g : tie.Need-add-g Inv-loop μ-loop
 add-g c = search needs
@@ -25,7 +29,11 @@ loop-less : tie.Need-loop-less Inv-loop μ-loop
 loop-less c = search needs
 
 loop-again : tie.Need-loop-again Inv-loop μ-loop
-loop-again c = (c .before .before .before .before .before .before .one-face .kept .1 .1 .1 .1 .1 .0 ∙ c .before .before .before .before .before .before .before .before .before .before .before .before .loop .inv .0, facing-go _ _ _ _ (c .before .before .before .before .before .before .before .before .before .before .before .before .before .before .before .before .pre .0) (c .before .before .before .before .before .before .before .before .before .before .before .before .loop .inv .1) (c .before .before .before .before .before .before .before .before .before .before .if1 .taken) _ _ _ _ (c .before .before .before .before .before .before .one-face .ensures))
+loop-again c =
+    let c6 = c .before .before .before .before .before .before in
+    let c10 = c6 .before .before .before .before in
+    let c12 = c10 .before .before in
+    (c6 .one-face .kept .1 .1 .1 .1 .1 .0 ∙ c12 .loop .inv .0, facing-go _ _ _ _ (c12 .before .before .before .before .pre .0) (c12 .loop .inv .1) (c10 .if1 .taken) _ _ _ _ (c6 .one-face .ensures))
 
 same-length : tie.Need-same-length Inv-loop μ-loop
 same-length c = c .before .before .loop .inv .1 .kept .len

@@ -37,7 +37,10 @@ same-length : tie.Need-same-length
 same-length c = search needs
 
 returns : tie.Need-returns
-returns c = c .before .before .rename .ensures ∙ ap (λ (s : List ℕ). sets (c .before .before .before .before .before .before .before .before .before .args .indices .now) (c .before .before .before .before .before .before .before .before .before .args .at) (numbered (c .before .before .before .before .before .before .before .before .before .args .ccw) s (threes (c .before .before .before .before .before .before .before .before .before .args .n - 2) (drop (c .before .before .before .before .before .before .before .before .before .args .at) (c .before .before .before .before .before .before .before .before .before .args .indices .now))))) (part-seg (c .before .before .before .before .before .before .before .before .before .args .work .now) (c .before .before .before .before .before .before .before .before .before .args .t .named + c .before .before .before .before .before .before .before .before .before .args .a .0) (c .before .before .before .before .before .before .before .before .before .args .t .named + c .before .before .before .before .before .before .before .before .before .args .a .0 + c .before .before .before .before .before .before .before .before .before .args .n) (c .before .before .before .before .before .before .before .before .before .args .n) refl)
+returns c =
+    let c2 = c .before .before in
+    let c9 = c2 .before .before .before .before .before .before .before in
+    c2 .rename .ensures ∙ ap (λ (s : List ℕ). sets (c9 .args .indices .now) (c9 .args .at) (numbered (c9 .args .ccw) s (threes (c9 .args .n - 2) (drop (c9 .args .at) (c9 .args .indices .now))))) (part-seg (c9 .args .work .now) (c9 .args .t .named + c9 .args .a .0) (c9 .args .t .named + c9 .args .a .0 + c9 .args .n) (c9 .args .n) refl)
 
 pub name-corners-spec : {M : Type 1} → statement M
 name-corners-spec =

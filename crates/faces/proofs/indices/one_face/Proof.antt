@@ -15,7 +15,10 @@ same-length : tie.Need-same-length
 same-length c = search needs
 
 returns : tie.Need-returns
-returns c = few-put (c .before .before .before .before .before .before .before .before .before .pre .0 .sound) (c .before .before .before .before .before .before .before .before .before .args .ccw) (c .before .before .before .before .before .before .before .before .before .args .convex) _ _ _ (c .before .before .before .before .before .before .before .before .before .pre .1) (c .before .before .before .before .stretch-of .ensures .from) (c .before .before .before .before .stretch-of .ensures .to) _ _ _ (c .if1 .taken)
+returns c =
+    let c4 = c .before .before .before .before in
+    let c9 = c4 .before .before .before .before .before in
+    few-put (c9 .pre .0 .sound) (c9 .args .ccw) (c9 .args .convex) _ _ _ (c9 .pre .1) (c4 .stretch-of .ensures .from) (c4 .stretch-of .ensures .to) _ _ _ (c .if1 .taken)
 
 sub-next : tie.Need-sub-next
 sub-next c = omega (arith, c .if1 .left)

@@ -79,7 +79,11 @@ same-length : tie.Need-same-length
 same-length c = search needs
 
 returns : tie.Need-returns
-returns c = plane-made (c .before .before .before .before .before .before .before .before .before .before .before .before .before .before .before .args .work .now) (c .before .before .before .before .before .before .before .before .before .before .before .before .before .before .before .args .t) (c .before .before .before .before .before .before .before .before .before .before .before .before .before .before .before .args .ccw) (c .before .before .before .before .before .before .before .before .before .before .before .before .before .before .before .args .a .0) (c .before .before .before .before .before .before .before .before .before .before .before .before .before .before .before .args .n) _ _ _ _ refl refl refl refl _ _ refl refl _ _ (c .before .before .before .before .before .before .before .newell .ensures) (c .before .before .before .before .before .before .handed-of .ensures) _ _ (c .before .before .project .ensures)
+returns c =
+    let c2 = c .before .before in
+    let c6 = c2 .before .before .before .before in
+    let c15 = c6 .before .before .before .before .before .before .before .before .before in
+    plane-made (c15 .args .work .now) (c15 .args .t) (c15 .args .ccw) (c15 .args .a .0) (c15 .args .n) _ _ _ _ refl refl refl refl _ _ refl refl _ _ (c6 .before .newell .ensures) (c6 .handed-of .ensures) _ _ (c2 .project .ensures)
 
 pub put-plane-spec : {M : Type 1} → statement M
 put-plane-spec =

@@ -39,14 +39,26 @@ same-length c = search needs
 
 returns : tie.Need-returns
 unfolding numbered wound
-returns c = rw (c .before .before .before .before .if1 .taken, c .before .before .put-three .ensures, c .before .before .before .before .before .before .before .before .before .before .before .vertex-of .ensures .0, c .before .before .before .before .before .before .before .before .before .before .before .before .corner-at .ensures, c .before .before .before .before .before .before .before .before .vertex-of2 .ensures .0, c .before .before .before .before .before .before .before .before .before .corner-at2 .ensures, c .before .before .before .before .before .vertex-of3 .ensures .0, c .before .before .before .before .before .before .corner-at3 .ensures)
+returns c =
+    let c2 = c .before .before in
+    let c4 = c2 .before .before in
+    let c5 = c4 .before in
+    let c8 = c5 .before .before .before in
+    let c11 = c8 .before .before .before in
+    rw (c4 .if1 .taken, c2 .put-three .ensures, c11 .vertex-of .ensures .0, c11 .before .corner-at .ensures, c8 .vertex-of2 .ensures .0, c8 .before .corner-at2 .ensures, c5 .vertex-of3 .ensures .0, c5 .before .corner-at3 .ensures)
 
 same-length-2 : tie.Need-same-length-2
 same-length-2 c = search needs
 
 returns-2 : tie.Need-returns-2
 unfolding numbered wound
-returns-2 c = rw (c .before .before .before .before .if1 .left, c .before .before .put-three2 .ensures, c .before .before .before .before .before .before .before .before .before .before .before .vertex-of .ensures .0, c .before .before .before .before .before .before .before .before .before .before .before .before .corner-at .ensures, c .before .before .before .before .before .before .before .before .vertex-of2 .ensures .0, c .before .before .before .before .before .before .before .before .before .corner-at2 .ensures, c .before .before .before .before .before .vertex-of3 .ensures .0, c .before .before .before .before .before .before .corner-at3 .ensures)
+returns-2 c =
+    let c2 = c .before .before in
+    let c4 = c2 .before .before in
+    let c5 = c4 .before in
+    let c8 = c5 .before .before .before in
+    let c11 = c8 .before .before .before in
+    rw (c4 .if1 .left, c2 .put-three2 .ensures, c11 .vertex-of .ensures .0, c11 .before .corner-at .ensures, c8 .vertex-of2 .ensures .0, c8 .before .corner-at2 .ensures, c5 .vertex-of3 .ensures .0, c5 .before .corner-at3 .ensures)
 
 pub name-tri-spec : {M : Type 1} → statement M
 name-tri-spec =

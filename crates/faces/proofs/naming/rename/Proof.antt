@@ -31,7 +31,10 @@ loop-less : tie.Need-loop-less Inv-loop μ-loop
 loop-less c = search needs
 
 loop-again : tie.Need-loop-again Inv-loop μ-loop
-loop-again c = renaming-go _ _ _ _ _ _ _ _ _ (c .before .before .before .before .loop-test .taken) refl (c .before .before .before .before .before .before .before .before .pre) (c .before .before .name-tri .ensures) (c .before .before .before .before .before .loop .inv)
+loop-again c =
+    let c2 = c .before .before in
+    let c4 = c2 .before .before in
+    renaming-go _ _ _ _ _ _ _ _ _ (c4 .loop-test .taken) refl (c4 .before .before .before .before .pre) (c2 .name-tri .ensures) (c4 .before .loop .inv)
 
 same-length : tie.Need-same-length Inv-loop μ-loop
 same-length c = c .before .loop .inv .long

@@ -22,7 +22,9 @@ slice-write-work : tie.Need-slice-write-work Inv-loop μ-loop
 slice-write-work c = search needs
 
 loop-holds : tie.Need-loop-holds Inv-loop μ-loop
-loop-holds c = (planned-beside _ (c .before .before .pre) (first-beside (c .before .before .args .work .now) (c .before .before .pre)), beside-all, pass-start (c .before .before .args .work .now) (c .before .before .pre))
+loop-holds c =
+    let c2 = c .before .before in
+    (planned-beside _ (c2 .pre) (first-beside (c2 .args .work .now) (c2 .pre)), beside-all, pass-start (c2 .args .work .now) (c2 .pre))
 
 pass-run-requires : tie.Need-pass-run-requires Inv-loop μ-loop
 pass-run-requires c κs = (c .before .before .before .loop .inv .0, c .before .before .before .loop .inv .2, c .before .if1 .taken)
@@ -37,7 +39,10 @@ same-length : tie.Need-same-length Inv-loop μ-loop
 same-length c = let k = first-beside (c .before .before .before .before .before .args .work .now) (c .before .before .before .before .before .pre) in omega (arith, k .len, c .before .before .loop .inv .1 .len)
 
 returns : tie.Need-returns Inv-loop μ-loop
-returns c = pass-end (c .before .before .before .before .before .args .work .now) (c .before .before .before .before .before .pre) (beside-then (first-beside (c .before .before .before .before .before .args .work .now) (c .before .before .before .before .before .pre)) (c .before .before .loop .inv .1)) (c .before .before .loop .inv .2) (c .if1 .left)
+returns c =
+    let c2 = c .before .before in
+    let c5 = c2 .before .before .before in
+    pass-end (c5 .args .work .now) (c5 .pre) (beside-then (first-beside (c5 .args .work .now) (c5 .pre)) (c2 .loop .inv .1)) (c2 .loop .inv .2) (c .if1 .left)
 
 pub list-faces-spec : {M : Type 1} → statement M
 list-faces-spec =

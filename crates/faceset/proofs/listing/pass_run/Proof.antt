@@ -15,8 +15,11 @@ is-kept-requires c κs = search needs
 
 put-face-requires : tie.Need-put-face-requires
 put-face-requires c κs =
-    let e = sym (c .before .before .is-kept .ensures) ∙ c .before .if1 .taken in
-    (turn-fits (c .before .before .before .before .before .before .before .before .pre .0) (c .before .before .before .before .before .before .before .before .pre .1) (c .before .before .before .before .before .before .before .before .pre .2) (c .before .before .before .before .before .run-at .ensures) (c .before .before .before .before .next-start .ensures) e, rw (c .before .before .before .before .before .before .before .before .pre .0 .spots) e)
+    let c2 = c .before .before in
+    let c4 = c2 .before .before in
+    let c8 = c4 .before .before .before .before in
+    let e = sym (c2 .is-kept .ensures) ∙ c .before .if1 .taken in
+    (turn-fits (c8 .pre .0) (c8 .pre .1) (c8 .pre .2) (c4 .before .run-at .ensures) (c4 .next-start .ensures) e, rw (c8 .pre .0 .spots) e)
 
 add-t13 : tie.Need-add-t13
 add-t13 c = search needs
@@ -31,13 +34,22 @@ same-length : tie.Need-same-length
 same-length c = search needs
 
 returns : tie.Need-returns
-returns c = turn-kept (c .before .before .before .before .before .before .before .before .before .before .before .before .before .before .pre .0) (c .before .before .before .before .before .before .before .before .before .before .before .before .before .before .pre .1) (c .before .before .before .before .before .before .before .before .before .before .before .before .before .before .pre .2) (c .before .before .before .before .before .before .before .before .before .before .before .run-at .ensures) (c .before .before .before .before .before .before .before .before .before .before .next-start .ensures) (sym (c .before .before .before .before .before .before .before .before .is-kept .ensures) ∙ c .before .before .before .before .before .before .before .if1 .taken) (c .before .before .before .before .before .put-face .ensures)
+returns c =
+    let c5 = c .before .before .before .before .before in
+    let c7 = c5 .before .before in
+    let c10 = c7 .before .before .before in
+    let c14 = c10 .before .before .before .before in
+    turn-kept (c14 .pre .0) (c14 .pre .1) (c14 .pre .2) (c10 .before .run-at .ensures) (c10 .next-start .ensures) (sym (c7 .before .is-kept .ensures) ∙ c7 .if1 .taken) (c5 .put-face .ensures)
 
 add-t19 : tie.Need-add-t19
 add-t19 c = search needs
 
 returns-2 : tie.Need-returns-2
-returns-2 c = turn-lost (c .before .before .before .before .before .before .before .before .pre .0) (c .before .before .before .before .before .before .before .before .pre .1) (c .before .before .before .before .before .before .before .before .pre .2) (c .before .before .before .before .before .run-at .ensures) (c .before .before .before .before .next-start .ensures) (sym (c .before .before .is-kept .ensures) ∙ c .before .if1 .left)
+returns-2 c =
+    let c2 = c .before .before in
+    let c4 = c2 .before .before in
+    let c8 = c4 .before .before .before .before in
+    turn-lost (c8 .pre .0) (c8 .pre .1) (c8 .pre .2) (c4 .before .run-at .ensures) (c4 .next-start .ensures) (sym (c2 .is-kept .ensures) ∙ c .before .if1 .left)
 
 pub pass-run-spec : {M : Type 1} → statement M
 pass-run-spec =

@@ -19,7 +19,11 @@ same-length : tie.Need-same-length
 same-length c = search needs
 
 returns : tie.Need-returns
-returns c = face-added _ _ _ (c .before .before .before .before .before .before .before .before .before .before .before .before .before .before .before .before .pre .0) (c .before .before .before .before .before .before .before .before .before .before .put-corners .ensures) (c .before .before .before .before .before .before .put-places .ensures) (c .before .before .put-row .ensures)
+returns c =
+    let c2 = c .before .before in
+    let c6 = c2 .before .before .before .before in
+    let c10 = c6 .before .before .before .before in
+    face-added _ _ _ (c10 .before .before .before .before .before .before .pre .0) (c10 .put-corners .ensures) (c6 .put-places .ensures) (c2 .put-row .ensures)
 
 pub put-face-spec : {M : Type 1} → statement M
 put-face-spec =

@@ -28,7 +28,11 @@ same-length : tie.Need-same-length
 same-length c = search needs
 
 returns-2 : tie.Need-returns-2
-returns-2 c = textures-put (c .before .before .before .before .before .before .before .list-part .ensures) (fit-by (c .before .before .before .before .before .before .before .before .before .before .before .before .before .pre) (c .before .before .before .before .before .fit-in .ensures)) (c .before .before .put-textures .ensures)
+returns-2 c =
+    let c2 = c .before .before in
+    let c5 = c2 .before .before .before in
+    let c7 = c5 .before .before in
+    textures-put (c7 .list-part .ensures) (fit-by (c7 .before .before .before .before .before .before .pre) (c5 .fit-in .ensures)) (c2 .put-textures .ensures)
 
 pub texture-where-spec : {M : Type 1} → statement M
 texture-where-spec =

@@ -10,10 +10,17 @@ plan-face-set-requires : tie.Need-plan-face-set-requires
 plan-face-set-requires c κs = plan-asked (c .before .before .before .before .before .before .before .before .before .pre)
 
 put-tables-requires : tie.Need-put-tables-requires
-put-tables-requires c κs = (planned (c .before .before .before .before .before .before .before .before .before .before .before .before .pre) (c .before .before .plan-face-set .ensures), points-in (c .before .before .before .before .before .before .before .before .before .before .before .before .pre) refl, points-all (c .before .before .before .before .before .before .before .before .before .before .before .before .pre) refl, floats-enough (c .before .before .before .before .before .before .before .before .before .before .before .before .pre) (c .before .before .plan-face-set .ensures))
+put-tables-requires c κs =
+    let c2 = c .before .before in
+    let c12 = c2 .before .before .before .before .before .before .before .before .before .before in
+    (planned (c12 .pre) (c2 .plan-face-set .ensures), points-in (c12 .pre) refl, points-all (c12 .pre) refl, floats-enough (c12 .pre) (c2 .plan-face-set .ensures))
 
 texture-where-requires : tie.Need-texture-where-requires
-texture-where-requires c κs = textures-asked (planned (c .before .before .before .before .before .before .before .before .before .before .before .before .before .before .before .before .before .before .pre) (c .before .before .before .before .before .before .before .before .plan-face-set .ensures)) (textures-room (c .before .before .before .before .before .before .before .before .before .before .before .before .before .before .before .before .before .before .pre) (c .before .before .before .before .before .before .before .before .plan-face-set .ensures)) (c .before .before .before .before .before .put-tables .ensures)
+texture-where-requires c κs =
+    let c5 = c .before .before .before .before .before in
+    let c8 = c5 .before .before .before in
+    let c18 = c8 .before .before .before .before .before .before .before .before .before .before in
+    textures-asked (planned (c18 .pre) (c8 .plan-face-set .ensures)) (textures-room (c18 .pre) (c8 .plan-face-set .ensures)) (c5 .put-tables .ensures)
 
 shared-of-requires : tie.Need-shared-of-requires
 shared-of-requires c κs = search needs
@@ -22,7 +29,13 @@ list-part-requires : tie.Need-list-part-requires
 list-part-requires c κs = search needs
 
 build-requires : tie.Need-build-requires
-build-requires c κs = ready (c .before .before .before .before .before .before .before .before .before .before .before .before .before .before .before .before .before .before .before .before .before .before .before .before .before .before .before .before .before .before .before .args .missing) (c .before .before .before .before .before .before .before .before .before .before .before .before .before .before .before .before .before .before .before .before .before .before .before .before .before .before .before .before .before .before .before .pre) (c .before .before .before .before .before .before .before .before .before .before .before .before .before .before .before .before .before .before .before .before .before .plan-face-set .ensures) (c .before .before .before .before .before .before .before .before .before .before .before .before .before .before .before .before .before .before .put-tables .ensures) (c .before .before .before .before .before .before .before .before .before .before .before .before .texture-where .ensures) (c .before .before .before .before .before .before .before .before .before .shared-of .ensures) (c .before .before .before .before .before .before .before .before .list-part .ensures) (c .before .before .before .before .before .before .before .before .before .before .before .before .before .before .before .before .before .before .put-tables .kept .1 .1 .1 .1 .1 .0)
+build-requires c κs =
+    let c8 = c .before .before .before .before .before .before .before .before in
+    let c12 = c8 .before .before .before .before in
+    let c18 = c12 .before .before .before .before .before .before in
+    let c21 = c18 .before .before .before in
+    let c31 = c21 .before .before .before .before .before .before .before .before .before .before in
+    ready (c31 .args .missing) (c31 .pre) (c21 .plan-face-set .ensures) (c18 .put-tables .ensures) (c12 .texture-where .ensures) (c8 .before .shared-of .ensures) (c8 .list-part .ensures) (c18 .put-tables .kept .1 .1 .1 .1 .1 .0)
 
 same-length : tie.Need-same-length
 same-length c = search needs
@@ -43,13 +56,25 @@ same-length-6 : tie.Need-same-length-6
 same-length-6 c = search needs
 
 same-length-7 : tie.Need-same-length-7
-same-length-7 c = c .before .before .before .before .before .before .before .before .before .before .before .before .before .before .before .before .build .kept .1 .1 .1 .1 .1 .1 .1 .1 .1 .1 .0 ∙ c .before .before .before .before .before .before .before .before .before .before .before .before .before .before .before .before .before .before .before .before .before .before .before .before .before .before .before .before .before .texture-where .kept .1 .1 .1 .1 .0 ∙ c .before .before .before .before .before .before .before .before .before .before .before .before .before .before .before .before .before .before .before .before .before .before .before .before .before .before .before .before .before .before .before .before .before .before .before .put-tables .kept .1 .1 .1 .1 .0
+same-length-7 c =
+    let c16 = c .before .before .before .before .before .before .before .before .before .before .before .before .before .before .before .before in
+    let c29 = c16 .before .before .before .before .before .before .before .before .before .before .before .before .before in
+    c16 .build .kept .1 .1 .1 .1 .1 .1 .1 .1 .1 .1 .0 ∙ c29 .texture-where .kept .1 .1 .1 .1 .0 ∙ c29 .before .before .before .before .before .before .put-tables .kept .1 .1 .1 .1 .0
 
 same-length-8 : tie.Need-same-length-8
-same-length-8 c = c .before .before .before .before .before .before .before .before .before .before .before .before .before .before .before .before .build .kept .1 .1 .1 .1 .1 .1 .1 .1 .1 .1 .1 .0 ∙ c .before .before .before .before .before .before .before .before .before .before .before .before .before .before .before .before .before .before .before .before .before .before .before .before .before .before .before .before .before .before .before .before .before .before .before .put-tables .kept .1 .1 .1 .1 .1 .0
+same-length-8 c =
+    let c16 = c .before .before .before .before .before .before .before .before .before .before .before .before .before .before .before .before in
+    c16 .build .kept .1 .1 .1 .1 .1 .1 .1 .1 .1 .1 .1 .0 ∙ c16 .before .before .before .before .before .before .before .before .before .before .before .before .before .before .before .before .before .before .before .put-tables .kept .1 .1 .1 .1 .1 .0
 
 returns : tie.Need-returns
-returns c = shaped (c .before .before .before .before .before .before .before .before .before .before .before .before .before .before .before .before .before .before .before .before .before .before .before .before .before .before .before .before .before .before .before .before .before .before .before .before .before .before .before .before .before .before .before .before .before .before .before .before .args .missing) (c .before .before .before .before .before .before .before .before .before .before .before .before .before .before .before .before .before .before .before .before .before .before .before .before .before .before .before .before .before .before .before .before .before .before .before .before .before .before .before .before .before .before .before .before .before .before .before .before .pre) (c .before .before .before .before .before .before .before .before .before .before .before .before .before .before .before .before .before .before .before .before .before .before .before .before .before .before .before .before .before .before .before .before .before .before .before .before .before .before .plan-face-set .ensures) (c .before .before .before .before .before .before .before .before .before .before .before .before .before .before .before .before .before .before .before .before .before .before .before .before .before .before .before .before .before .before .before .before .before .before .before .put-tables .ensures) (c .before .before .before .before .before .before .before .before .before .before .before .before .before .before .before .before .before .before .before .before .before .before .before .before .before .before .before .before .before .texture-where .ensures) (c .before .before .before .before .before .before .before .before .before .before .before .before .before .before .before .before .before .before .before .before .before .before .before .before .before .before .shared-of .ensures) (c .before .before .before .before .before .before .before .before .before .before .before .before .before .before .before .before .before .before .before .before .before .before .before .before .before .list-part .ensures) (c .before .before .before .before .before .before .before .before .before .before .before .before .before .before .before .before .before .before .before .before .before .before .before .before .before .before .before .before .before .before .before .before .before .before .before .put-tables .kept .1 .1 .1 .1 .1 .0) (c .before .before .before .before .before .before .before .before .before .before .before .before .before .before .before .before .build .ensures)
+returns c =
+    let c16 = c .before .before .before .before .before .before .before .before .before .before .before .before .before .before .before .before in
+    let c25 = c16 .before .before .before .before .before .before .before .before .before in
+    let c29 = c25 .before .before .before .before in
+    let c35 = c29 .before .before .before .before .before .before in
+    let c38 = c35 .before .before .before in
+    let c48 = c38 .before .before .before .before .before .before .before .before .before .before in
+    shaped (c48 .args .missing) (c48 .pre) (c38 .plan-face-set .ensures) (c35 .put-tables .ensures) (c29 .texture-where .ensures) (c25 .before .shared-of .ensures) (c25 .list-part .ensures) (c35 .put-tables .kept .1 .1 .1 .1 .1 .0) (c16 .build .ensures)
 
 pub make-face-set-spec : {M : Type 1} → statement M
 make-face-set-spec =

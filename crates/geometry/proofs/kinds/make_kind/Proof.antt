@@ -7,7 +7,9 @@ enum-told : tie.Need-enum-told
 enum-told c = search needs
 
 make-face-set-requires : tie.Need-make-face-set-requires
-make-face-set-requires c κs = asked-at (c .before .before .before .before .before .before .before .before .before .before .before .before .before .before .before .before .before .before .before .pre) (c .before .before .before .before .before .before .before .before .enum-told .given .1)
+make-face-set-requires c κs =
+    let c8 = c .before .before .before .before .before .before .before .before in
+    asked-at (c8 .before .before .before .before .before .before .before .before .before .before .before .pre) (c8 .enum-told .given .1)
 
 same-length : tie.Need-same-length
 same-length c = search needs
@@ -37,7 +39,9 @@ enum-told-2 : tie.Need-enum-told-2
 enum-told-2 c = search needs
 
 make-line-set-requires : tie.Need-make-line-set-requires
-make-line-set-requires c κs = asked-lines (c .before .before .before .before .before .before .before .before .before .before .before .before .before .before .before .before .before .before .before .pre) (c .before .before .before .before .before .before .before .before .enum-told2 .given .1)
+make-line-set-requires c κs =
+    let c8 = c .before .before .before .before .before .before .before .before in
+    asked-lines (c8 .before .before .before .before .before .before .before .before .before .before .before .pre) (c8 .enum-told2 .given .1)
 
 same-length-9 : tie.Need-same-length-9
 same-length-9 c = search needs
@@ -67,7 +71,9 @@ enum-told-3 : tie.Need-enum-told-3
 enum-told-3 c = search needs
 
 make-grid-requires : tie.Need-make-grid-requires
-make-grid-requires c κs = asked-at (c .before .before .before .before .before .before .before .before .before .before .before .before .before .before .before .before .before .before .before .pre) (c .before .before .before .before .before .before .before .before .enum-told3 .given .1)
+make-grid-requires c κs =
+    let c8 = c .before .before .before .before .before .before .before .before in
+    asked-at (c8 .before .before .before .before .before .before .before .before .before .before .before .pre) (c8 .enum-told3 .given .1)
 
 same-length-17 : tie.Need-same-length-17
 same-length-17 c = search needs
@@ -97,7 +103,9 @@ enum-told-4 : tie.Need-enum-told-4
 enum-told-4 c = search needs
 
 make-extrusion-requires : tie.Need-make-extrusion-requires
-make-extrusion-requires c κs = asked-at (c .before .before .before .before .before .before .before .before .before .before .before .before .before .before .before .before .before .before .before .pre) (c .before .before .before .before .before .before .before .before .enum-told4 .given .1)
+make-extrusion-requires c κs =
+    let c8 = c .before .before .before .before .before .before .before .before in
+    asked-at (c8 .before .before .before .before .before .before .before .before .before .before .before .pre) (c8 .enum-told4 .given .1)
 
 same-length-25 : tie.Need-same-length-25
 same-length-25 c = search needs
@@ -127,16 +135,28 @@ enum-told-5 : tie.Need-enum-told-5
 enum-told-5 c = search needs
 
 returns : tie.Need-returns
-returns c = shaped-at (c .before .before .before .before .before .before .before .before .before .before .before .before .before .before .before .before .before .before .before .before .before .before .before .before .before .before .before .before .before .before .before .before .before .before .before .before .pre) _ (c .before .before .before .before .before .before .before .before .before .before .before .before .before .before .before .before .before .before .before .before .before .before .before .before .before .enum-told .given .1) _ _ _ _ _ _ (c .before .before .before .before .before .before .before .before .before .before .before .before .before .before .before .before .make-face-set .ensures)
+returns c =
+    let c16 = c .before .before .before .before .before .before .before .before .before .before .before .before .before .before .before .before in
+    let c25 = c16 .before .before .before .before .before .before .before .before .before in
+    shaped-at (c25 .before .before .before .before .before .before .before .before .before .before .before .pre) _ (c25 .enum-told .given .1) _ _ _ _ _ _ (c16 .make-face-set .ensures)
 
 returns-2 : tie.Need-returns-2
-returns-2 c = shaped-at (c .before .before .before .before .before .before .before .before .before .before .before .before .before .before .before .before .before .before .before .before .before .before .before .before .before .before .before .before .before .before .before .before .before .before .before .before .pre) _ (c .before .before .before .before .before .before .before .before .before .before .before .before .before .before .before .before .before .before .before .before .before .before .before .before .before .enum-told2 .given .1) _ _ _ _ _ _ (c .before .before .before .before .before .before .before .before .before .before .before .before .before .before .before .before .make-line-set .ensures)
+returns-2 c =
+    let c16 = c .before .before .before .before .before .before .before .before .before .before .before .before .before .before .before .before in
+    let c25 = c16 .before .before .before .before .before .before .before .before .before in
+    shaped-at (c25 .before .before .before .before .before .before .before .before .before .before .before .pre) _ (c25 .enum-told2 .given .1) _ _ _ _ _ _ (c16 .make-line-set .ensures)
 
 returns-3 : tie.Need-returns-3
-returns-3 c = shaped-at (c .before .before .before .before .before .before .before .before .before .before .before .before .before .before .before .before .before .before .before .before .before .before .before .before .before .before .before .before .before .before .before .before .before .before .before .before .pre) _ (c .before .before .before .before .before .before .before .before .before .before .before .before .before .before .before .before .before .before .before .before .before .before .before .before .before .enum-told3 .given .1) _ _ _ _ _ _ (c .before .before .before .before .before .before .before .before .before .before .before .before .before .before .before .before .make-grid .ensures)
+returns-3 c =
+    let c16 = c .before .before .before .before .before .before .before .before .before .before .before .before .before .before .before .before in
+    let c25 = c16 .before .before .before .before .before .before .before .before .before in
+    shaped-at (c25 .before .before .before .before .before .before .before .before .before .before .before .pre) _ (c25 .enum-told3 .given .1) _ _ _ _ _ _ (c16 .make-grid .ensures)
 
 returns-4 : tie.Need-returns-4
-returns-4 c = shaped-at (c .before .before .before .before .before .before .before .before .before .before .before .before .before .before .before .before .before .before .before .before .before .before .before .before .before .before .before .before .before .before .before .before .before .before .before .before .pre) _ (c .before .before .before .before .before .before .before .before .before .before .before .before .before .before .before .before .before .before .before .before .before .before .before .before .before .enum-told4 .given .1) _ _ _ _ _ _ (c .before .before .before .before .before .before .before .before .before .before .before .before .before .before .before .before .make-extrusion .ensures)
+returns-4 c =
+    let c16 = c .before .before .before .before .before .before .before .before .before .before .before .before .before .before .before .before in
+    let c25 = c16 .before .before .before .before .before .before .before .before .before in
+    shaped-at (c25 .before .before .before .before .before .before .before .before .before .before .before .pre) _ (c25 .enum-told4 .given .1) _ _ _ _ _ _ (c16 .make-extrusion .ensures)
 
 returns-5 : tie.Need-returns-5
 returns-5 c = no-other (c .before .before .before .before .before .before .before .before .before .before .before .pre) (c .enum-told5 .given .1)

@@ -22,10 +22,18 @@ is-short-requires : tie.Need-is-short-requires
 is-short-requires c κs = few _ _ (rows-at _ _ _ (c .before .before .before .before .read-header .ensures) (c .before .before .before .refusal-to-7 .ensures)) (eqb-true _ _ (sym (c .before .before .is-taken .ensures) ∙ c .before .if1 .taken)) _ (c .before .before .before .before .read-header .ensures) _ (c .sizes-of .ensures)
 
 returns : tie.Need-returns
-returns c = row-eight _ _ _ (rows-at _ _ _ (c .before .before .before .before .before .before .read-header .ensures) (c .before .before .before .before .before .refusal-to-7 .ensures)) (eqb-true _ _ (sym (c .before .before .before .before .is-taken .ensures) ∙ c .before .before .before .if1 .taken)) _ (c .before .before .before .before .before .before .read-header .ensures) _ (c .before .before .sizes-of .ensures) _ true (c .before .is-short .ensures) (c .if2 .taken)
+returns c =
+    let c2 = c .before .before in
+    let c3 = c2 .before in
+    let c5 = c3 .before .before in
+    row-eight _ _ _ (rows-at _ _ _ (c5 .before .read-header .ensures) (c5 .refusal-to-7 .ensures)) (eqb-true _ _ (sym (c3 .before .is-taken .ensures) ∙ c3 .if1 .taken)) _ (c5 .before .read-header .ensures) _ (c2 .sizes-of .ensures) _ true (c .before .is-short .ensures) (c .if2 .taken)
 
 returns-2 : tie.Need-returns-2
-returns-2 c = row-eight _ _ _ (rows-at _ _ _ (c .before .before .before .before .before .before .read-header .ensures) (c .before .before .before .before .before .refusal-to-7 .ensures)) (eqb-true _ _ (sym (c .before .before .before .before .is-taken .ensures) ∙ c .before .before .before .if1 .taken)) _ (c .before .before .before .before .before .before .read-header .ensures) _ (c .before .before .sizes-of .ensures) _ false (c .before .is-short .ensures) (c .if2 .left)
+returns-2 c =
+    let c2 = c .before .before in
+    let c3 = c2 .before in
+    let c5 = c3 .before .before in
+    row-eight _ _ _ (rows-at _ _ _ (c5 .before .read-header .ensures) (c5 .refusal-to-7 .ensures)) (eqb-true _ _ (sym (c3 .before .is-taken .ensures) ∙ c3 .if1 .taken)) _ (c5 .before .read-header .ensures) _ (c2 .sizes-of .ensures) _ false (c .before .is-short .ensures) (c .if2 .left)
 
 returns-3 : tie.Need-returns-3
 returns-3 c = first-seven _ _ _ (rows-at _ _ _ (c .before .before .before .read-header .ensures) (c .before .before .refusal-to-7 .ensures)) (eqb-false _ _ (sym (c .before .is-taken .ensures) ∙ c .if1 .left))

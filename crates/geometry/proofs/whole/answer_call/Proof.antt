@@ -14,7 +14,9 @@ is-taken-requires c κs = search needs
 
 make-requires : tie.Need-make-requires
 unfolding lengthsOf
-make-requires c κs = sym (c .before .before .before .before .before .before .before .before .before .before .refusal-for .ensures) ∙ eqb-true _ _ (sym (c .before .before .before .before .before .before .before .before .before .is-taken .ensures) ∙ c .before .before .before .before .before .before .before .before .if1 .taken)
+make-requires c κs =
+    let c8 = c .before .before .before .before .before .before .before .before in
+    sym (c8 .before .before .refusal-for .ensures) ∙ eqb-true _ _ (sym (c8 .before .is-taken .ensures) ∙ c8 .if1 .taken)
 
 same-length : tie.Need-same-length
 same-length c = search needs

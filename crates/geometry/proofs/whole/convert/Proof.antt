@@ -34,7 +34,9 @@ same-length-8 : tie.Need-same-length-8
 same-length-8 c = search needs
 
 returns : tie.Need-returns
-returns c = plain-call _ _ _ _ _ (c .before .before .before .before .before .before .before .before .before .before .before .before .before .before .before .before .before .before .before .before .before .before .before .before .before .white-words .ensures) (c .before .before .before .before .before .before .before .before .before .before .before .before .before .before .before .before .answer-call .ensures)
+returns c =
+    let c16 = c .before .before .before .before .before .before .before .before .before .before .before .before .before .before .before .before in
+    plain-call _ _ _ _ _ (c16 .before .before .before .before .before .before .before .before .before .white-words .ensures) (c16 .answer-call .ensures)
 
 pub convert-spec : {M : Type 1} → statement M
 convert-spec = tie.close (tie.spec white-words-requires answer-call-requires same-length same-length-2 same-length-3 same-length-4 same-length-5 same-length-6 same-length-7 same-length-8 returns)

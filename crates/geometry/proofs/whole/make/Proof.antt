@@ -12,7 +12,9 @@ read-settings-requires : tie.Need-read-settings-requires
 read-settings-requires c κs = search needs
 
 make-kind-requires : tie.Need-make-kind-requires
-make-kind-requires c κs = asked-by _ _ _ _ (c .before .before .before .before .before .before .before .before .before .before .read-header .ensures) (c .before .before .before .before .before .before .before .before .before .read-settings .ensures) (c .before .before .before .before .before .before .before .before .before .before .before .before .before .before .before .before .before .before .before .before .pre)
+make-kind-requires c κs =
+    let c9 = c .before .before .before .before .before .before .before .before .before in
+    asked-by _ _ _ _ (c9 .before .read-header .ensures) (c9 .read-settings .ensures) (c9 .before .before .before .before .before .before .before .before .before .before .before .pre)
 
 flags-of-requires : tie.Need-flags-of-requires
 flags-of-requires c κs = search needs
@@ -42,7 +44,10 @@ same-length-8 : tie.Need-same-length-8
 same-length-8 c = search needs
 
 returns : tie.Need-returns
-returns c = made-call _ _ _ _ _ _ (c .before .before .before .before .before .before .before .before .before .before .before .before .before .before .before .before .before .before .before .before .before .before .before .before .before .before .before .before .before .before .before .before .before .before .before .before .before .before .pre) _ _ (c .before .before .before .before .before .before .before .before .before .before .before .before .before .before .before .before .before .before .before .before .before .before .before .before .before .before .before .before .read-header .ensures) refl (c .before .before .before .before .before .before .before .before .before .before .before .before .before .before .before .before .before .make-kind .ensures) (c .flags-of .ensures)
+returns c =
+    let c17 = c .before .before .before .before .before .before .before .before .before .before .before .before .before .before .before .before .before in
+    let c28 = c17 .before .before .before .before .before .before .before .before .before .before .before in
+    made-call _ _ _ _ _ _ (c28 .before .before .before .before .before .before .before .before .before .before .pre) _ _ (c28 .read-header .ensures) refl (c17 .make-kind .ensures) (c .flags-of .ensures)
 
 pub make-spec : {M : Type 1} → statement M
 make-spec = tie.close (tie.spec read-header-requires read-settings-requires make-kind-requires flags-of-requires same-length same-length-2 same-length-3 same-length-4 same-length-5 same-length-6 same-length-7 same-length-8 returns)

@@ -42,7 +42,9 @@ add-point-at-3 : tie.Need-add-point-at-3
 add-point-at-3 c = omega (arith, quad-fits (c .before .before .before .before .before .args .xd) _ (c .before .before .before .before .before .pre .2) .1)
 
 point-at-requires-3 : tie.Need-point-at-requires-3
-point-at-requires-3 c κs = let f = quad-fits (c .before .before .before .before .before .args .xd) _ (c .before .before .before .before .before .pre .2) in (c .before .before .before .before .before .pre .1, f .0, f .1)
+point-at-requires-3 c κs =
+    let c5 = c .before .before .before .before .before in
+    let f = quad-fits (c5 .args .xd) _ (c5 .pre .2) in (c5 .pre .1, f .0, f .1)
 
 returns-3 : tie.Need-returns-3
 unfolding quad

@@ -30,7 +30,12 @@ same-length : tie.Need-same-length
 same-length c = search needs
 
 returns : tie.Need-returns
-returns c = tables-written _ _ _ _ _ _ _ _ (c .before .before .before .before .before .before .before .before .before .before .before .before .before .before .before .before .before .before .before .before .pre) (c .before .before .before .before .before .before .before .before .before .before .before .before .before .before .before .before .before .wide .ensures) (c .before .before .before .before .before .before .before .before .before .before .before .before .before .before .before .put-corners .ensures) (c .before .before .before .before .before .before .before .before .before .before .put-multiples .ensures) (c .before .before .before .before .before .before .put-corners2 .ensures) (c .before .before .put-multiples2 .ensures)
+returns c =
+    let c2 = c .before .before in
+    let c6 = c2 .before .before .before .before in
+    let c10 = c6 .before .before .before .before in
+    let c15 = c10 .before .before .before .before .before in
+    tables-written _ _ _ _ _ _ _ _ (c15 .before .before .before .before .before .pre) (c15 .before .before .wide .ensures) (c15 .put-corners .ensures) (c10 .put-multiples .ensures) (c6 .put-corners2 .ensures) (c2 .put-multiples2 .ensures)
 
 pub list-faces-spec : {M : Type 1} → statement M
 list-faces-spec =

@@ -9,7 +9,10 @@ put-points-requires : tie.Need-put-points-requires
 put-points-requires c κs = let P = c .before .before .before .before .pre .0 in let R = P .room in (P .sides, c .before .before .before .before .pre .1, omega (arith, P .spots))
 
 list-faces-requires : tie.Need-list-faces-requires
-list-faces-requires c κs = rw (points-put _ _ _ (c .before .before .before .before .before .before .before .before .pre .0) (c .before .before .before .put-points .ensures) .0 .len) (c .before .before .before .before .before .before .before .before .pre .0)
+list-faces-requires c κs =
+    let c3 = c .before .before .before in
+    let c8 = c3 .before .before .before .before .before in
+    rw (points-put _ _ _ (c8 .pre .0) (c3 .put-points .ensures) .0 .len) (c8 .pre .0)
 
 prepare-requires : tie.Need-prepare-requires
 prepare-requires c κs = (listed-sound (c .before .before .before .before .list-faces .ensures .1), c .before .before .before .before .before .before .before .before .before .before .before .before .before .pre .2)
@@ -21,7 +24,11 @@ same-length-2 : tie.Need-same-length-2
 same-length-2 c = search needs
 
 returns : tie.Need-returns
-returns c = tabled (c .before .before .before .before .before .before .before .before .before .before .before .before .before .before .before .before .before .before .pre .0) (c .before .before .before .before .before .before .before .before .before .before .before .before .before .put-points .ensures) (c .before .before .before .before .before .before .before .before .before .list-faces .ensures .0) (c .before .before .before .before .before .before .before .before .before .list-faces .ensures .1) (c .before .before .before .before .prepare .ensures)
+returns c =
+    let c4 = c .before .before .before .before in
+    let c9 = c4 .before .before .before .before .before in
+    let c13 = c9 .before .before .before .before in
+    tabled (c13 .before .before .before .before .before .pre .0) (c13 .put-points .ensures) (c9 .list-faces .ensures .0) (c9 .list-faces .ensures .1) (c4 .prepare .ensures)
 
 pub put-tables-spec : {M : Type 1} → statement M
 put-tables-spec =

@@ -38,7 +38,9 @@ same-length : tie.Need-same-length Inv-loop μ-loop
 same-length c = c .before .loop .inv .3 .left .len
 
 returns : tie.Need-returns Inv-loop μ-loop
-returns c = listing-end (c .before .loop .inv .3) (c .loop-test .left) (c .before .before .before .before .pre .0) (c .before .before .before .before .pre .3) (c .before .before .before .before .pre .2)
+returns c =
+    let c4 = c .before .before .before .before in
+    listing-end (c .before .loop .inv .3) (c .loop-test .left) (c4 .pre .0) (c4 .pre .3) (c4 .pre .2)
 
 pub list-entries-spec : {M : Type 1} → statement M
 list-entries-spec =

@@ -18,7 +18,11 @@ same-length c = search needs
 
 returns : tie.Need-returns
 unfolding listed
-returns c = rw (use-here (c .before .before .before .before .before .before .before .before .args .line) (c .before .before .before .before .before .before .before .before .args .k) (c .before .before .before .before .before .if1 .taken)) (record { next = refl; made = c .before .before .before .list-corner .ensures })
+returns c =
+    let c3 = c .before .before .before in
+    let c5 = c3 .before .before in
+    let c8 = c5 .before .before .before in
+    rw (use-here (c8 .args .line) (c8 .args .k) (c5 .if1 .taken)) (record { next = refl; made = c3 .list-corner .ensures })
 
 returns-2 : tie.Need-returns-2
 unfolding listed

@@ -40,7 +40,11 @@ part-put-run-end : tie.Need-part-put-run-end Inv-loop μ-loop
 part-put-run-end c = search needs
 
 put-run-requires : tie.Need-put-run-requires Inv-loop μ-loop
-put-run-requires c κs = let s = part-is (c .before .before .before .before .before .before .before .before .args .work .now) (c .before .before .before .before .before .before .before .before .args .named) (c .before .before .before .before .before .before .before .before .args .count) in let N = c .before .before .before .before .loop .inv .3 in rw s (lining-here N (c .before .before .run-at .ensures) refl (c .before .before .before .loop-test .taken) (length-seg (c .before .before .before .before .before .before .before .before .args .work .now) (c .before .before .before .before .before .before .before .before .args .named) (c .before .before .before .before .before .before .before .before .args .count) (c .before .before .before .before .before .before .before .before .pre .0) ∙ c .before .before .before .before .before .before .before .before .pre .1), lining-room N (c .before .before .run-at .ensures) refl (c .before .before .before .loop-test .taken) (c .before .before .before .before .before .before .before .before .pre .2))
+put-run-requires c κs =
+    let c2 = c .before .before in
+    let c3 = c2 .before in
+    let c8 = c3 .before .before .before .before .before in
+    let s = part-is (c8 .args .work .now) (c8 .args .named) (c8 .args .count) in let N = c3 .before .loop .inv .3 in rw s (lining-here N (c2 .run-at .ensures) refl (c3 .loop-test .taken) (length-seg (c8 .args .work .now) (c8 .args .named) (c8 .args .count) (c8 .pre .0) ∙ c8 .pre .1), lining-room N (c2 .run-at .ensures) refl (c3 .loop-test .taken) (c8 .pre .2))
 
 next-start-requires : tie.Need-next-start-requires Inv-loop μ-loop
 next-start-requires c κs = omega arith

@@ -44,7 +44,12 @@ same-length-8 : tie.Need-same-length-8
 same-length-8 c = search needs
 
 returns : tie.Need-returns
-returns c = let R = c .before .before .before .before .before .before .before .before .before .before .before .before .before .before .before .before .before .before .before .before .before .before .before .before .before .before .before .before .before .before .before .before .before .before .before .before .before .before .before .before .before .before .before .pre in let C = c .before .before .before .before .before .before .before .before .before .before .before .before .before .before .before .before .before .before .before .before .before .before .before .before .before .all-vertices .ensures in record { lined = λ missing rest T. lined-all T (R .corners .laid) C (R .normal) (R .texture) _ _ _ (c .before .before .before .before .before .before .before .before .before .before .put-lines .ensures); words = c .before .before .before .before .before .before .clear-words .ensures ∙ ap (λ (n : ℕ). replicate n 0) (C .kept .len); floats = c .before .before .clear-floats .ensures }
+returns c =
+    let c2 = c .before .before in
+    let c6 = c2 .before .before .before .before in
+    let c10 = c6 .before .before .before .before in
+    let c25 = c10 .before .before .before .before .before .before .before .before .before .before .before .before .before .before .before in
+    let R = c25 .before .before .before .before .before .before .before .before .before .before .before .before .before .before .before .before .before .before .pre in let C = c25 .all-vertices .ensures in record { lined = λ missing rest T. lined-all T (R .corners .laid) C (R .normal) (R .texture) _ _ _ (c10 .put-lines .ensures); words = c6 .clear-words .ensures ∙ ap (λ (n : ℕ). replicate n 0) (C .kept .len); floats = c2 .clear-floats .ensures }
 
 pub make-lines-spec : {M : Type 1} → statement M
 make-lines-spec =

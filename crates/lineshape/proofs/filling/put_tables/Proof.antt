@@ -12,7 +12,10 @@ put-points-requires : tie.Need-put-points-requires
 put-points-requires c κs = let Q = c .before .before .before .before .before .pre .1 in (omega (arith, c .before .before .before .before .before .pre .3, stand _ _ (c .before .before .before .before .before .pre .0) .1), omega (arith, Q .points, Q .named, Q .places, Q .numbers, Q .textures, Q .heads, Q .nexts))
 
 list-entries-requires : tie.Need-list-entries-requires
-list-entries-requires c κs = (rw (c .before .before .before .put-points .ensures .kept .len) (c .before .before .before .before .before .before .before .before .before .pre .1), points-before _ _ (c .before .before .before .before .before .before .before .before .before .pre .0), stand _ _ (c .before .before .before .before .before .before .before .before .before .pre .0) .3, sym (stand _ _ (c .before .before .before .before .before .before .before .before .before .pre .0) .1), c .before .before .before .before .before .before .before .before .before .pre .4)
+list-entries-requires c κs =
+    let c3 = c .before .before .before in
+    let c9 = c3 .before .before .before .before .before .before in
+    (rw (c3 .put-points .ensures .kept .len) (c9 .pre .1), points-before _ _ (c9 .pre .0), stand _ _ (c9 .pre .0) .3, sym (stand _ _ (c9 .pre .0) .1), c9 .pre .4)
 
 same-length : tie.Need-same-length
 same-length c = search needs

@@ -14,10 +14,16 @@ list-part-requires-2 : tie.Need-list-part-requires-2
 list-part-requires-2 c κs = search needs
 
 line-tables-requires : tie.Need-line-tables-requires
-line-tables-requires c κs = (points-low (c .before .before .before .before .before .before .before .before .before .before .before .before .pre), corners-low (c .before .before .before .before .before .before .before .before .before .before .before .before .pre) (c .list-part2 .ensures))
+line-tables-requires c κs =
+    let c12 = c .before .before .before .before .before .before .before .before .before .before .before .before in
+    (points-low (c12 .pre), corners-low (c12 .pre) (c .list-part2 .ensures))
 
 put-tables-requires : tie.Need-put-tables-requires
-put-tables-requires c κs = (c .before .line-tables .ensures, laid-at (c .before .before .before .before .before .before .before .before .before .before .before .before .before .before .pre) (c .before .before .list-part2 .ensures) (c .before .line-tables .ensures), points-low (c .before .before .before .before .before .before .before .before .before .before .before .before .before .before .pre), points-in (c .before .before .before .before .before .before .before .before .before .before .before .before .before .before .pre) (c .before .before .before .list-part .ensures), entries-short (c .before .before .before .before .before .before .before .before .before .before .before .before .before .before .pre) (c .before .before .list-part2 .ensures))
+put-tables-requires c κs =
+    let c1 = c .before in
+    let c2 = c1 .before in
+    let c14 = c2 .before .before .before .before .before .before .before .before .before .before .before .before in
+    (c1 .line-tables .ensures, laid-at (c14 .pre) (c2 .list-part2 .ensures) (c1 .line-tables .ensures), points-low (c14 .pre), points-in (c14 .pre) (c2 .before .list-part .ensures), entries-short (c14 .pre) (c2 .list-part2 .ensures))
 
 attributes-of-requires : tie.Need-attributes-of-requires
 attributes-of-requires c κs = search needs
@@ -26,7 +32,13 @@ line-widths-requires : tie.Need-line-widths-requires
 line-widths-requires c κs = search needs
 
 make-lines-requires : tie.Need-make-lines-requires
-make-lines-requires c κs = ready (c .before .before .before .before .before .before .before .before .before .before .before .before .before .before .before .before .before .before .before .before .before .before .before .before .before .before .before .args .missing) _ (c .before .before .before .before .before .before .before .before .before .before .before .before .before .before .before .before .before .before .before .before .before .before .before .before .before .before .before .pre) (c .before .before .before .before .before .before .before .before .before .before .before .before .before .before .before .before .list-part .ensures) (c .before .before .before .before .before .before .before .before .before .before .before .before .before .before .before .list-part2 .ensures) (c .before .before .before .before .before .before .before .before .before .before .before .before .before .before .line-tables .ensures) (c .before .before .before .before .before .before .before .before .before .before .before .before .put-tables .ensures) (c .before .before .before .before .before .before .before .before .before .attributes-of .ensures) (c .before .before .before .before .before .before .before .before .line-widths .ensures)
+make-lines-requires c κs =
+    let c8 = c .before .before .before .before .before .before .before .before in
+    let c12 = c8 .before .before .before .before in
+    let c14 = c12 .before .before in
+    let c15 = c14 .before in
+    let c27 = c15 .before .before .before .before .before .before .before .before .before .before .before .before in
+    ready (c27 .args .missing) _ (c27 .pre) (c15 .before .list-part .ensures) (c15 .list-part2 .ensures) (c14 .line-tables .ensures) (c12 .put-tables .ensures) (c8 .before .attributes-of .ensures) (c8 .line-widths .ensures)
 
 same-length : tie.Need-same-length
 same-length c = search needs
@@ -53,7 +65,14 @@ same-length-8 : tie.Need-same-length-8
 same-length-8 c = search needs
 
 returns : tie.Need-returns
-returns c = shaped (c .before .before .before .before .before .before .before .before .before .before .before .before .before .before .before .before .before .before .before .before .before .before .before .before .before .before .before .before .before .before .before .before .before .before .before .before .before .before .before .before .before .before .before .before .args .missing) _ (c .before .before .before .before .before .before .before .before .before .before .before .before .before .before .before .before .before .before .before .before .before .before .before .before .before .before .before .before .before .before .before .before .before .before .before .before .before .before .before .before .before .before .before .before .pre) (c .before .before .before .before .before .before .before .before .before .before .before .before .before .before .before .before .before .before .before .before .before .before .before .before .before .before .before .before .before .before .before .before .before .list-part .ensures) (c .before .before .before .before .before .before .before .before .before .before .before .before .before .before .before .before .before .before .before .before .before .before .before .before .before .before .before .before .before .before .before .before .list-part2 .ensures) (c .before .before .before .before .before .before .before .before .before .before .before .before .before .before .before .before .before .before .before .before .before .before .before .before .before .before .before .before .before .before .before .line-tables .ensures) (c .before .before .before .before .before .before .before .before .before .before .before .before .before .before .before .before .before .before .before .before .before .before .before .before .before .before .before .before .before .put-tables .ensures) (c .before .before .before .before .before .before .before .before .before .before .before .before .before .before .before .before .before .before .before .before .before .before .before .before .before .before .attributes-of .ensures) (c .before .before .before .before .before .before .before .before .before .before .before .before .before .before .before .before .before .before .before .before .before .before .before .before .before .line-widths .ensures) (c .before .before .before .before .before .before .before .before .before .before .before .before .before .before .before .before .make-lines .ensures)
+returns c =
+    let c16 = c .before .before .before .before .before .before .before .before .before .before .before .before .before .before .before .before in
+    let c25 = c16 .before .before .before .before .before .before .before .before .before in
+    let c29 = c25 .before .before .before .before in
+    let c31 = c29 .before .before in
+    let c32 = c31 .before in
+    let c44 = c32 .before .before .before .before .before .before .before .before .before .before .before .before in
+    shaped (c44 .args .missing) _ (c44 .pre) (c32 .before .list-part .ensures) (c32 .list-part2 .ensures) (c31 .line-tables .ensures) (c29 .put-tables .ensures) (c25 .before .attributes-of .ensures) (c25 .line-widths .ensures) (c16 .make-lines .ensures)
 
 pub make-line-set-spec : {M : Type 1} → statement M
 make-line-set-spec =

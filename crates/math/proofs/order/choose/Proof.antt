@@ -30,19 +30,36 @@ is-zero-requires-2 c κs = search needs
 
 returns-4 : tie.Need-returns-4
 unfolding choice
-returns-4 c = rw (← c .before .before .before .before .before .before .before .before .before .is-nan .ensures, c .before .before .before .before .before .before .before .before .if1 .left, ← c .before .before .before .before .before .before .before .is-nan2 .ensures, c .before .before .before .before .before .before .if2 .left, c .before .before .before .before .before .if3 .left, ← c .before .before .before .before .is-zero .ensures, c .before .before .before .if4 .taken, ← c .before .before .is-zero2 .ensures, c .before .if5 .taken, c .if6 .taken)
+returns-4 c =
+    let c2 = c .before .before in
+    let c3 = c2 .before in
+    let c5 = c3 .before .before in
+    let c7 = c5 .before .before in
+    rw (← c7 .before .before .is-nan .ensures, c7 .before .if1 .left, ← c7 .is-nan2 .ensures, c5 .before .if2 .left, c5 .if3 .left, ← c3 .before .is-zero .ensures, c3 .if4 .taken, ← c2 .is-zero2 .ensures, c .before .if5 .taken, c .if6 .taken)
 
 returns-5 : tie.Need-returns-5
 unfolding choice
-returns-5 c = rw (← c .before .before .before .before .before .before .before .before .before .is-nan .ensures, c .before .before .before .before .before .before .before .before .if1 .left, ← c .before .before .before .before .before .before .before .is-nan2 .ensures, c .before .before .before .before .before .before .if2 .left, c .before .before .before .before .before .if3 .left, ← c .before .before .before .before .is-zero .ensures, c .before .before .before .if4 .taken, ← c .before .before .is-zero2 .ensures, c .before .if5 .taken, c .if6 .left)
+returns-5 c =
+    let c2 = c .before .before in
+    let c3 = c2 .before in
+    let c5 = c3 .before .before in
+    let c7 = c5 .before .before in
+    rw (← c7 .before .before .is-nan .ensures, c7 .before .if1 .left, ← c7 .is-nan2 .ensures, c5 .before .if2 .left, c5 .if3 .left, ← c3 .before .is-zero .ensures, c3 .if4 .taken, ← c2 .is-zero2 .ensures, c .before .if5 .taken, c .if6 .left)
 
 returns-6 : tie.Need-returns-6
 unfolding choice
-returns-6 c = rw (← c .before .before .before .before .before .before .before .before .is-nan .ensures, c .before .before .before .before .before .before .before .if1 .left, ← c .before .before .before .before .before .before .is-nan2 .ensures, c .before .before .before .before .before .if2 .left, c .before .before .before .before .if3 .left, ← c .before .before .before .is-zero .ensures, c .before .before .if4 .taken, ← c .before .is-zero2 .ensures, c .if5 .left)
+returns-6 c =
+    let c2 = c .before .before in
+    let c4 = c2 .before .before in
+    let c6 = c4 .before .before in
+    rw (← c6 .before .before .is-nan .ensures, c6 .before .if1 .left, ← c6 .is-nan2 .ensures, c4 .before .if2 .left, c4 .if3 .left, ← c2 .before .is-zero .ensures, c2 .if4 .taken, ← c .before .is-zero2 .ensures, c .if5 .left)
 
 returns-7 : tie.Need-returns-7
 unfolding choice
-returns-7 c = rw (← c .before .before .before .before .before .before .is-nan .ensures, c .before .before .before .before .before .if1 .left, ← c .before .before .before .before .is-nan2 .ensures, c .before .before .before .if2 .left, c .before .before .if3 .left, ← c .before .is-zero .ensures, c .if4 .left)
+returns-7 c =
+    let c2 = c .before .before in
+    let c4 = c2 .before .before in
+    rw (← c4 .before .before .is-nan .ensures, c4 .before .if1 .left, ← c4 .is-nan2 .ensures, c2 .before .if2 .left, c2 .if3 .left, ← c .before .is-zero .ensures, c .if4 .left)
 
 pub choose-spec : {M : Type 1} → statement M
 choose-spec =

@@ -28,14 +28,22 @@ is-finite-requires-2 c κs = search needs
 
 returns-2 : tie.Need-returns-2
 unfolding axisTurn
-returns-2 c = rw (← c .before .before .before .before .before .before .before .before .before .before .normalize .ensures, c .before .before .before .before .before .before .before .before .u .given .1, ← c .before .before .before .before .before .before .is-finite .ensures, c .before .before .before .before .before .if1 .taken, ← c .before .before .before .before .is-finite2 .ensures, c .before .before .before .if2 .taken)
+returns-2 c =
+    let c3 = c .before .before .before in
+    let c5 = c3 .before .before in
+    let c8 = c5 .before .before .before in
+    rw (← c8 .before .before .normalize .ensures, c8 .u .given .1, ← c5 .before .is-finite .ensures, c5 .if1 .taken, ← c3 .before .is-finite2 .ensures, c3 .if2 .taken)
 
 identity-requires-2 : tie.Need-identity-requires-2
 identity-requires-2 c κs = search needs
 
 returns-3 : tie.Need-returns-3
 unfolding axisTurn
-returns-3 c = rw (c .identity2 .ensures, ← c .before .before .before .before .before .before .before .before .normalize .ensures, c .before .before .before .before .before .before .u .given .1, ← c .before .before .before .before .is-finite .ensures, c .before .before .before .if1 .taken, ← c .before .before .is-finite2 .ensures, c .before .if2 .left)
+returns-3 c =
+    let c2 = c .before .before in
+    let c3 = c2 .before in
+    let c6 = c3 .before .before .before in
+    rw (c .identity2 .ensures, ← c6 .before .before .normalize .ensures, c6 .u .given .1, ← c3 .before .is-finite .ensures, c3 .if1 .taken, ← c2 .is-finite2 .ensures, c .before .if2 .left)
 
 identity-requires-3 : tie.Need-identity-requires-3
 identity-requires-3 c κs = search needs

@@ -26,7 +26,10 @@ returns c = ap halfAbout (sym (c .enum-told .given .1) ∙ c .before .before .no
 
 returns-2 : tie.Need-returns-2
 unfolding halfTurn
-returns-2 c = ap halfAbout (sym (c .before .u .given .1) ∙ c .before .before .before .normalize .ensures ∙ ap unitOf (c .before .before .before .before .cross .ensures ∙ ap (vcross (c .before .before .before .before .before .before .args .f)) (c .before .before .before .before .before .other-axis .ensures)))
+returns-2 c =
+    let c3 = c .before .before .before in
+    let c4 = c3 .before in
+    ap halfAbout (sym (c .before .u .given .1) ∙ c3 .normalize .ensures ∙ ap unitOf (c4 .cross .ensures ∙ ap (vcross (c4 .before .before .args .f)) (c4 .before .other-axis .ensures)))
 
 pub half-turn-spec : {M : Type 1} → statement M
 half-turn-spec =

@@ -41,7 +41,11 @@ turn-to-requires c κs = search needs
 
 returns-3 : tie.Need-returns-3
 unfolding between
-returns-3 c = rw (c .turn-to .ensures, ← c .before .before .before .before .before .before .before .before .normalize .ensures, c .before .before .before .before .before .before .f .given .1, ← c .before .before .before .before .normalize2 .ensures, c .before .before .t .given .1)
+returns-3 c =
+    let c2 = c .before .before in
+    let c4 = c2 .before .before in
+    let c6 = c4 .before .before in
+    rw (c .turn-to .ensures, ← c6 .before .before .normalize .ensures, c6 .f .given .1, ← c4 .normalize2 .ensures, c2 .t .given .1)
 
 pub quat-between-spec : {M : Type 1} → statement M
 quat-between-spec =

@@ -32,7 +32,11 @@ same-length c = search needs
 
 returns : tie.Need-returns
 unfolding markedAll
-returns c = rw (c .before .before .mark3 .ensures, c .before .before .before .before .before .before .before .mark2 .ensures, c .before .before .before .before .before .before .before .before .before .before .before .before .mark .ensures, c .before .before .before .before .before .before .before .before .before .before .before .before .before .corner .ensures, c .before .before .before .before .before .before .before .before .corner2 .ensures, c .before .before .before .corner3 .ensures)
+returns c =
+    let c2 = c .before .before in
+    let c7 = c2 .before .before .before .before .before in
+    let c12 = c7 .before .before .before .before .before in
+    rw (c2 .mark3 .ensures, c7 .mark2 .ensures, c12 .mark .ensures, c12 .before .corner .ensures, c7 .before .corner2 .ensures, c2 .before .corner3 .ensures)
 
 pub mark-all-spec : {M : Type 1} → statement M
 mark-all-spec =

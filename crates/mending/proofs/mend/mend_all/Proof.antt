@@ -33,7 +33,13 @@ loop-less : tie.Need-loop-less Inv-loop μ-loop
 loop-less c = search needs
 
 loop-again : tie.Need-loop-again Inv-loop μ-loop
-loop-again c = mending-go _ _ _ _ (c .before .before .before .before .before .before .before .before .before .before .before .before .before .before .args .table .now) _ _ _ _ _ _ (c .before .before .before .before .before .before .before .before .loop-test .taken) (c .before .before .before .before .before .before .before .before .before .before .before .before .before .before .pre .3) (c .before .before .before .before .before .before .words-at .ensures) (c .before .before .before .before .before .get .ensures) (c .before .before .before .before .mend-one .ensures) (c .before .before .put-words .kept .0) (c .before .before .put-words .ensures) (c .before .before .before .before .before .before .before .before .before .loop .inv)
+loop-again c =
+    let c2 = c .before .before in
+    let c4 = c2 .before .before in
+    let c5 = c4 .before in
+    let c8 = c5 .before .before .before in
+    let c14 = c8 .before .before .before .before .before .before in
+    mending-go _ _ _ _ (c14 .args .table .now) _ _ _ _ _ _ (c8 .loop-test .taken) (c14 .pre .3) (c5 .before .words-at .ensures) (c5 .get .ensures) (c4 .mend-one .ensures) (c2 .put-words .kept .0) (c2 .put-words .ensures) (c8 .before .loop .inv)
 
 same-length : tie.Need-same-length Inv-loop μ-loop
 same-length c = c .before .loop .inv .long

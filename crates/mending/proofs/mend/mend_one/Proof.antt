@@ -34,7 +34,11 @@ words-of-requires-2 : tie.Need-words-of-requires-2
 words-of-requires-2 c κs = search needs
 
 returns-2 : tie.Need-returns-2
-returns-2 c = c .words-of2 .ensures ∙ sym (mend-scaled _ _ _ _ (c .before .before .before .before .before .before .before .floats-of .ensures) (sym (c .before .before .before .before .before .before .normalize .ensures) ∙ c .before .before .before .before .u .given .1) (sym (c .before .before .is-off .ensures) ∙ c .before .if1 .taken))
+returns-2 c =
+    let c2 = c .before .before in
+    let c4 = c2 .before .before in
+    let c6 = c4 .before .before in
+    c .words-of2 .ensures ∙ sym (mend-scaled _ _ _ _ (c6 .before .floats-of .ensures) (sym (c6 .normalize .ensures) ∙ c4 .u .given .1) (sym (c2 .is-off .ensures) ∙ c .before .if1 .taken))
 
 returns-3 : tie.Need-returns-3
 returns-3 c = sym (mend-kept _ _ _ _ (c .before .before .before .before .before .before .floats-of .ensures) (sym (c .before .before .before .before .before .normalize .ensures) ∙ c .before .before .before .u .given .1) (sym (c .before .is-off .ensures) ∙ c .if1 .left))

@@ -29,7 +29,10 @@ tri-normal-requires c κs = search needs
 
 returns : tie.Need-returns
 unfolding triangleNormal
-returns c = c .tri-normal .ensures ∙ (λ i. triNormal ((c .before .before .before .before .before .spot-of .ensures ∙ ap (vertexSpot (lentFrame _) (lentKeys [] _)) (c .before .before .before .before .before .before .corner .ensures)) i) ((c .before .before .before .spot-of2 .ensures ∙ ap (vertexSpot (lentFrame _) (lentKeys [] _)) (c .before .before .before .before .corner2 .ensures)) i) ((c .before .spot-of3 .ensures ∙ ap (vertexSpot (lentFrame _) (lentKeys [] _)) (c .before .before .corner3 .ensures)) i))
+returns c =
+    let c2 = c .before .before in
+    let c4 = c2 .before .before in
+    c .tri-normal .ensures ∙ (λ i. triNormal ((c4 .before .spot-of .ensures ∙ ap (vertexSpot (lentFrame _) (lentKeys [] _)) (c4 .before .before .corner .ensures)) i) ((c2 .before .spot-of2 .ensures ∙ ap (vertexSpot (lentFrame _) (lentKeys [] _)) (c4 .corner2 .ensures)) i) ((c .before .spot-of3 .ensures ∙ ap (vertexSpot (lentFrame _) (lentKeys [] _)) (c2 .corner3 .ensures)) i))
 
 pub triangle-normal-spec : {M : Type 1} → statement M
 triangle-normal-spec =

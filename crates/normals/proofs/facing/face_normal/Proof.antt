@@ -52,7 +52,9 @@ handed-of-requires c κs = search needs
 
 returns : tie.Need-returns
 unfolding seg
-returns c = facing-made (c .before .before .before .before .before .before .before .before .before .before .before .before .pre .0) _ _ _ _ (c .before .before .before .before .before .before .before .before .before .before .before .before .pre .1) (c .before .before .before .before .before .before .before .before .before .before .stretch-of .ensures .from) (c .before .before .before .before .before .before .before .before .before .before .stretch-of .ensures .to) _ _ refl refl _ _ (c .before .newell .ensures) (c .handed-of .ensures)
+returns c =
+    let c10 = c .before .before .before .before .before .before .before .before .before .before in
+    facing-made (c10 .before .before .pre .0) _ _ _ _ (c10 .before .before .pre .1) (c10 .stretch-of .ensures .from) (c10 .stretch-of .ensures .to) _ _ refl refl _ _ (c .before .newell .ensures) (c .handed-of .ensures)
 
 pub face-normal-spec : {M : Type 1} → statement M
 face-normal-spec =

@@ -34,7 +34,12 @@ same-length : tie.Need-same-length
 same-length c = c .before .before .store32 .ensures .0 .len ∙ simp length-set (c .before .before .before .before .before .before .before .before .before .before .store3 .ensures .0 .len)
 
 returns : tie.Need-returns
-returns c = row-some _ _ _ _ _ (c .before .before .before .before .before .before .before .before .before .before .before .before .before .pre) (c .before .before .before .before .before .before .before .before .before .before .store3 .ensures .0) (c .before .before .before .before .before .before .before .before .before .before .store3 .ensures .1) (c .before .before .before .before .before .before .before .normalize .ensures) _ _ (c .before .before .store32 .ensures .0) (c .before .before .store32 .ensures .1) (c .before .before .before .before .before .k .given .1)
+returns c =
+    let c2 = c .before .before in
+    let c5 = c2 .before .before .before in
+    let c7 = c5 .before .before in
+    let c10 = c7 .before .before .before in
+    row-some _ _ _ _ _ (c10 .before .before .before .pre) (c10 .store3 .ensures .0) (c10 .store3 .ensures .1) (c7 .normalize .ensures) _ _ (c2 .store32 .ensures .0) (c2 .store32 .ensures .1) (c5 .k .given .1)
 
 enum-told : tie.Need-enum-told
 enum-told c = search needs
@@ -52,7 +57,10 @@ same-length-2 : tie.Need-same-length-2
 same-length-2 c = search needs
 
 returns-2 : tie.Need-returns-2
-returns-2 c = row-none _ _ _ _ _ (c .before .before .before .before .before .before .before .before .pre) (c .before .before .before .before .before .store3 .ensures .0) (c .before .before .before .before .before .store3 .ensures .1) (c .before .before .normalize .ensures) (c .enum-told .given .1)
+returns-2 c =
+    let c2 = c .before .before in
+    let c5 = c2 .before .before .before in
+    row-none _ _ _ _ _ (c5 .before .before .before .pre) (c5 .store3 .ensures .0) (c5 .store3 .ensures .1) (c2 .normalize .ensures) (c .enum-told .given .1)
 
 pub put-row-spec : {M : Type 1} → statement M
 put-row-spec =

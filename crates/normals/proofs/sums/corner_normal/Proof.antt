@@ -30,7 +30,11 @@ or-else-requires-2 c κs = search needs
 
 returns : tie.Need-returns
 unfolding unitIn
-returns c = normal-made _ _ _ _ _ _ _ _ _ _ _ (c .before .before .before .before .before .crease-sum .ensures) (c .before .before .before .before .normalize .ensures) (c .before .before .load-unit .ensures) (c .before .before .before .before .before .before .before .pre .0 .units _ (c .before .before .before .before .before .before .before .pre .2)) (c .before .or-else .ensures) (c .or-else2 .ensures)
+returns c =
+    let c2 = c .before .before in
+    let c4 = c2 .before .before in
+    let c7 = c4 .before .before .before in
+    normal-made _ _ _ _ _ _ _ _ _ _ _ (c4 .before .crease-sum .ensures) (c4 .normalize .ensures) (c2 .load-unit .ensures) (c7 .pre .0 .units _ (c7 .pre .2)) (c .before .or-else .ensures) (c .or-else2 .ensures)
 
 pub corner-normal-spec : {M : Type 1} → statement M
 corner-normal-spec =

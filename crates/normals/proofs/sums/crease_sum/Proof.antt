@@ -46,7 +46,12 @@ sum-near-requires c κs = search needs
 
 returns-3 : tie.Need-returns-3
 unfolding unitIn
-returns-3 c = sum-bound _ _ _ _ _ _ (c .before .before .before .before .before .before .rule .given .1) _ _ (c .before .before .before .before .load-unit .ensures) (c .before .before .before .before .before .before .before .before .before .before .pre .0 .units _ (c .before .before .before .before .before .before .before .before .before .before .pre .2)) _ (c .before .before .k .given .1) (c .sum-near .ensures)
+returns-3 c =
+    let c2 = c .before .before in
+    let c4 = c2 .before .before in
+    let c6 = c4 .before .before in
+    let c10 = c6 .before .before .before .before in
+    sum-bound _ _ _ _ _ _ (c6 .rule .given .1) _ _ (c4 .load-unit .ensures) (c10 .pre .0 .units _ (c10 .pre .2)) _ (c2 .k .given .1) (c .sum-near .ensures)
 
 enum-told-3 : tie.Need-enum-told-3
 enum-told-3 c = search needs
@@ -56,7 +61,11 @@ load-requires-2 c κs = search needs
 
 returns-4 : tie.Need-returns-4
 unfolding unitIn normalIn
-returns-4 c = sum-bound-none _ _ _ _ _ _ (c .before .before .before .before .before .rule .given .1) _ _ (c .before .before .before .load-unit .ensures) (c .before .before .before .before .before .before .before .before .before .pre .0 .units _ (c .before .before .before .before .before .before .before .before .before .pre .2)) (c .before .enum-told3 .given .1) (c .load2 .ensures)
+returns-4 c =
+    let c3 = c .before .before .before in
+    let c5 = c3 .before .before in
+    let c9 = c5 .before .before .before .before in
+    sum-bound-none _ _ _ _ _ _ (c5 .rule .given .1) _ _ (c3 .load-unit .ensures) (c9 .pre .0 .units _ (c9 .pre .2)) (c .before .enum-told3 .given .1) (c .load2 .ensures)
 
 pub crease-sum-spec : {M : Type 1} → statement M
 crease-sum-spec =

@@ -25,7 +25,11 @@ add-requires : tie.Need-add-requires
 add-requires c κs = search needs
 
 returns-2 : tie.Need-returns-2
-returns-2 c = near-yes _ _ _ _ _ _ _ _ _ (c .before .before .before .before .before .before .before .before .if1 .left) (c .before .before .before .before .before .before .before .load-unit .ensures) (c .before .before .before .before .before .k .given .1) _ (c .before .before .before .dot .ensures) _ _ (c .before .before .if2 .taken) (c .before .load .ensures) (c .add .ensures)
+returns-2 c =
+    let c2 = c .before .before in
+    let c5 = c2 .before .before .before in
+    let c7 = c5 .before .before in
+    near-yes _ _ _ _ _ _ _ _ _ (c7 .before .if1 .left) (c7 .load-unit .ensures) (c5 .k .given .1) _ (c2 .before .dot .ensures) _ _ (c2 .if2 .taken) (c .before .load .ensures) (c .add .ensures)
 
 returns-3 : tie.Need-returns-3
 returns-3 c = near-far _ _ _ _ _ _ _ _ _ (c .before .before .before .before .before .before .if1 .left) (c .before .before .before .before .before .load-unit .ensures) (c .before .before .before .k .given .1) _ (c .before .dot .ensures) (c .if2 .left)

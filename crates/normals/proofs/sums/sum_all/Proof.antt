@@ -43,7 +43,11 @@ loop-less c = let q = next-gt (c .before .before .before .before .before .before
 
 loop-again : tie.Need-loop-again Inv-loop μ-loop
 unfolding normalIn
-loop-again c = left-step sumAll (c .before .before .before .before .before .before .before .before .before .before .before .pre .0) _ _ _ _ _ _ (c .before .before .before .before .before .before .before .before .loop .inv) (c .before .before .before .before .before .if1 .taken) (c .next-at .ensures) (all-one _ _ _ _ _ _ (c .before .before .before .before .owner-of .ensures) _ (c .before .before .load .ensures) (c .before .add .ensures))
+loop-again c =
+    let c2 = c .before .before in
+    let c4 = c2 .before .before in
+    let c8 = c4 .before .before .before .before in
+    left-step sumAll (c8 .before .before .before .pre .0) _ _ _ _ _ _ (c8 .loop .inv) (c4 .before .if1 .taken) (c .next-at .ensures) (all-one _ _ _ _ _ _ (c4 .owner-of .ensures) _ (c2 .load .ensures) (c .before .add .ensures))
 
 returns : tie.Need-returns Inv-loop μ-loop
 returns c = left-end sumAll (c .before .before .before .before .before .before .pre .0) _ _ _ _ _ _ (c .before .before .before .before .before .before .pre .1) (c .before .before .before .before .first-at .ensures) refl (c .before .before .before .loop .inv) (omega arith) (all-none _)

@@ -48,7 +48,12 @@ loop-less c = let q = next-gt (c .before .before .before .before .before .before
 
 loop-again : tie.Need-loop-again Inv-loop μ-loop
 unfolding normalIn unitIn
-loop-again c = left-step (sumNear _ _ _) (c .before .before .before .before .before .before .before .before .before .before .before .before .pre .0) _ _ _ _ _ _ (c .before .before .before .before .before .before .before .loop .inv) (c .before .before .before .before .if1 .taken) (c .next-at .ensures) (near-one _ _ _ _ _ _ (c .before .before .before .owner-of .ensures) _ _ _ (c .before .before .before .before .before .before .before .before .before .before .before .before .pre .0) (c .before .before .before .before .if1 .taken) (c .before .near-step .ensures))
+loop-again c =
+    let c3 = c .before .before .before in
+    let c4 = c3 .before in
+    let c7 = c4 .before .before .before in
+    let c12 = c7 .before .before .before .before .before in
+    left-step (sumNear _ _ _) (c12 .pre .0) _ _ _ _ _ _ (c7 .loop .inv) (c4 .if1 .taken) (c .next-at .ensures) (near-one _ _ _ _ _ _ (c3 .owner-of .ensures) _ _ _ (c12 .pre .0) (c4 .if1 .taken) (c .before .near-step .ensures))
 
 returns : tie.Need-returns Inv-loop μ-loop
 unfolding normalIn

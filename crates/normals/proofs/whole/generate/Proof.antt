@@ -22,10 +22,14 @@ same-length-2 : tie.Need-same-length-2
 same-length-2 c = search needs
 
 returns : tie.Need-returns
-returns c = record {
-  kept = c .before .before .before .before .before .before .before .prepare .ensures .kept;
-  normals = c .before .before .corner-normals .ensures ∙ ap (λ (l : List V3). spread l ++ drop (3 * c .before .before .before .before .before .before .before .before .before .before .before .args .t .count) (c .before .before .before .before .before .before .before .before .before .before .before .args .floats .now)) (generated-all (c .before .before .before .before .before .before .before .before .before .before .before .pre .0) (c .before .before .before .before .before .before .before .prepare .ensures) _);
-}
+returns c =
+    let c2 = c .before .before in
+    let c7 = c2 .before .before .before .before .before in
+    let c11 = c7 .before .before .before .before in
+    record {
+      kept = c7 .prepare .ensures .kept;
+      normals = c2 .corner-normals .ensures ∙ ap (λ (l : List V3). spread l ++ drop (3 * c11 .args .t .count) (c11 .args .floats .now)) (generated-all (c11 .pre .0) (c7 .prepare .ensures) _);
+    }
 
 pub generate-spec : {M : Type 1} → statement M
 generate-spec =

@@ -10,13 +10,20 @@ rows-requires : tie.Need-rows-requires
 rows-requires c κs = after-owners (c .before .before .before .before .before .before .pre) (c .before .before .before .owners .ensures .0)
 
 chain-requires : tie.Need-chain-requires
-chain-requires c κs = chainable-of (after-rows (after-owners (c .before .before .before .before .before .before .before .before .before .before .pre) (c .before .before .before .before .before .before .before .owners .ensures .0)) (c .before .before .before .rows .ensures .0))
+chain-requires c κs =
+    let c3 = c .before .before .before in
+    let c7 = c3 .before .before .before .before in
+    chainable-of (after-rows (after-owners (c7 .before .before .before .pre) (c7 .owners .ensures .0)) (c3 .rows .ensures .0))
 
 same-length : tie.Need-same-length
 same-length c = search needs
 
 returns : tie.Need-returns
-returns c = made (c .before .before .before .before .before .before .before .before .before .before .before .before .before .pre) (c .before .before .before .before .before .before .before .before .before .before .owners .ensures .0) (c .before .before .before .before .before .before .before .before .before .before .owners .ensures .1) (c .before .before .before .before .before .before .rows .ensures .0) (c .before .before .before .before .before .before .rows .ensures .1) (c .before .before .chain .ensures .0) (c .before .before .chain .ensures .1)
+returns c =
+    let c2 = c .before .before in
+    let c6 = c2 .before .before .before .before in
+    let c10 = c6 .before .before .before .before in
+    made (c10 .before .before .before .pre) (c10 .owners .ensures .0) (c10 .owners .ensures .1) (c6 .rows .ensures .0) (c6 .rows .ensures .1) (c2 .chain .ensures .0) (c2 .chain .ensures .1)
 
 pub prepare-spec : {M : Type 1} → statement M
 prepare-spec =

@@ -106,7 +106,11 @@ same-length-2 : tie.Need-same-length-2 Inv-loop μ-loop
 same-length-2 c = c .before .before .put-fan .kept .1 .0 ∙ c .before .before .before .before .before .before .loop .inv .2
 
 returns : tie.Need-returns Inv-loop μ-loop
-returns c = c .before .before .put-fan .ensures ∙ ap (λ (q : List Tri). sets (c .before .before .before .before .before .before .loop .out) (c .before .before .before .before .before .before .loop .t * 3) (flat (map (turn (c .before .before .before .before .before .before .before .before .before .before .args .rev)) q))) (sym (stops (c .before .before .before .before .before))) ∙ c .before .before .before .before .before .before .loop .inv .3
+returns c =
+    let c2 = c .before .before in
+    let c5 = c2 .before .before .before in
+    let c6 = c5 .before in
+    c2 .put-fan .ensures ∙ ap (λ (q : List Tri). sets (c6 .loop .out) (c6 .loop .t * 3) (flat (map (turn (c6 .before .before .before .before .args .rev)) q))) (sym (stops c5)) ∙ c6 .loop .inv .3
 
 pub clip-all-spec : {M : Type 1} → statement M
 clip-all-spec =

@@ -27,7 +27,11 @@ same-length-2 c = search needs
 
 returns : tie.Need-returns
 unfolding isReversed
-returns c = c .before .before .before .before .clip-all .ensures ∙ whole (c .before .before .before .before .before .before .before .before .before .before .before .before .before .before .before .args .p .now) (c .before .before .before .before .before .before .before .before .before .before .before .before .before .before .before .args .n) _ _ _ (ap (λ (y : Float). lt y +0) (c .before .before .before .before .before .before .before .before .before .before .before .area-of .ensures)) (c .before .before .before .before .before .before .before .before .before .start .ensures .order)
+returns c =
+    let c4 = c .before .before .before .before in
+    let c9 = c4 .before .before .before .before .before in
+    let c15 = c9 .before .before .before .before .before .before in
+    c4 .clip-all .ensures ∙ whole (c15 .args .p .now) (c15 .args .n) _ _ _ (ap (λ (y : Float). lt y +0) (c9 .before .before .area-of .ensures)) (c9 .start .ensures .order)
 
 pub ear-clip-spec : {M : Type 1} → statement M
 ear-clip-spec =

@@ -16,7 +16,11 @@ same-length : tie.Need-same-length
 same-length c = search needs
 
 returns : tie.Need-returns
-returns c = rw (face-few (c .before .before .before .before .before .before .before .before .args .convex) _ _ (length-pairs _ _ (c .before .before .before .before .before .before .before .before .pre .1)) (c .before .before .before .before .if1 .taken)) (c .before .before .put-outline-fan .ensures)
+returns c =
+    let c2 = c .before .before in
+    let c4 = c2 .before .before in
+    let c8 = c4 .before .before .before .before in
+    rw (face-few (c8 .args .convex) _ _ (length-pairs _ _ (c8 .pre .1)) (c4 .if1 .taken)) (c2 .put-outline-fan .ensures)
 
 put-outline-fan-requires-2 : tie.Need-put-outline-fan-requires-2
 put-outline-fan-requires-2 c κs = search needs
@@ -25,7 +29,11 @@ same-length-2 : tie.Need-same-length-2
 same-length-2 c = search needs
 
 returns-2 : tie.Need-returns-2
-returns-2 c = rw (face-convex (c .before .before .before .before .before .before .before .before .before .args .convex) _ _ (length-pairs _ _ (c .before .before .before .before .before .before .before .before .before .pre .1)) (c .before .before .before .before .if2 .taken)) (c .before .before .put-outline-fan2 .ensures)
+returns-2 c =
+    let c2 = c .before .before in
+    let c4 = c2 .before .before in
+    let c9 = c4 .before .before .before .before .before in
+    rw (face-convex (c9 .args .convex) _ _ (length-pairs _ _ (c9 .pre .1)) (c4 .if2 .taken)) (c2 .put-outline-fan2 .ensures)
 
 put-outline-fan-requires-3 : tie.Need-put-outline-fan-requires-3
 put-outline-fan-requires-3 c κs = search needs
@@ -34,7 +42,11 @@ same-length-3 : tie.Need-same-length-3
 same-length-3 c = search needs
 
 returns-3 : tie.Need-returns-3
-returns-3 c = rw (face-many (c .before .before .before .before .before .before .before .before .before .before .args .convex) _ _ (length-pairs _ _ (c .before .before .before .before .before .before .before .before .before .before .pre .1)) (c .before .before .before .before .if3 .taken)) (c .before .before .put-outline-fan3 .ensures)
+returns-3 c =
+    let c2 = c .before .before in
+    let c4 = c2 .before .before in
+    let c10 = c4 .before .before .before .before .before .before in
+    rw (face-many (c10 .args .convex) _ _ (length-pairs _ _ (c10 .pre .1)) (c4 .if3 .taken)) (c2 .put-outline-fan3 .ensures)
 
 mul-e : tie.Need-mul-e
 mul-e c = search needs
@@ -43,7 +55,9 @@ slice-relend-prefix-ear-clip : tie.Need-slice-relend-prefix-ear-clip
 slice-relend-prefix-ear-clip c = search needs
 
 slice-aggregate-ear-clip : tie.Need-slice-aggregate-ear-clip
-slice-aggregate-ear-clip c = sym (length-take-le (c .before .before .before .before .before .before .before .args .n * 5) (c .before .before .before .before .before .before .before .args .scratch .now) (c .before .before .before .before .before .before .before .pre .2))
+slice-aggregate-ear-clip c =
+    let c7 = c .before .before .before .before .before .before .before in
+    sym (length-take-le (c7 .args .n * 5) (c7 .args .scratch .now) (c7 .pre .2))
 
 ear-clip-requires : tie.Need-ear-clip-requires
 ear-clip-requires c κs = let e : length (take (c .before .before .before .before .before .before .before .before .args .n * 5) (c .before .before .before .before .before .before .before .before .args .scratch .now)) ≡ c .before .before .before .before .before .before .before .before .args .n * 5 = length-take-le (c .before .before .before .before .before .before .before .before .args .n * 5) (c .before .before .before .before .before .before .before .before .args .scratch .now) (c .before .before .before .before .before .before .before .before .pre .2) in (c .before .before .before .before .before .before .before .before .pre .0, omega arith)
@@ -55,7 +69,12 @@ same-length-5 : tie.Need-same-length-5
 same-length-5 c = search needs
 
 returns-4 : tie.Need-returns-4
-returns-4 c = rw (face-ears (c .before .before .before .before .before .before .before .before .before .before .before .before .before .args .convex) _ _ (length-pairs _ _ (c .before .before .before .before .before .before .before .before .before .before .before .before .before .pre .1)) (c .before .before .before .before .before .before .before .before .if2 .left) (c .before .before .before .before .before .before .before .before .before .if1 .left) (c .before .before .before .before .before .before .before .if3 .left), by-pairs _ _ (c .before .before .before .before .before .before .before .before .before .before .before .before .before .pre .1)) (c .before .before .before .before .ear-clip .ensures)
+returns-4 c =
+    let c4 = c .before .before .before .before in
+    let c7 = c4 .before .before .before in
+    let c8 = c7 .before in
+    let c13 = c8 .before .before .before .before .before in
+    rw (face-ears (c13 .args .convex) _ _ (length-pairs _ _ (c13 .pre .1)) (c8 .if2 .left) (c8 .before .if1 .left) (c7 .if3 .left), by-pairs _ _ (c13 .pre .1)) (c4 .ear-clip .ensures)
 
 pub face-tris-spec : {M : Type 1} → statement M
 face-tris-spec =

@@ -15,7 +15,9 @@ mul-m : tie.Need-mul-m
 mul-m c = search needs
 
 slice-aggregate-face-tris : tie.Need-slice-aggregate-face-tris
-slice-aggregate-face-tris c = sym (length-take-le (c .before .before .before .before .args .n * 2) (c .before .before .before .before .args .plane .now) (c .before .before .before .before .pre .1))
+slice-aggregate-face-tris c =
+    let c4 = c .before .before .before .before in
+    sym (length-take-le (c4 .args .n * 2) (c4 .args .plane .now) (c4 .pre .1))
 
 mul-face-tris : tie.Need-mul-face-tris
 mul-face-tris c = search needs
@@ -30,7 +32,9 @@ part-face-tris-end : tie.Need-part-face-tris-end
 part-face-tris-end c = search needs
 
 face-tris-requires : tie.Need-face-tris-requires
-face-tris-requires c κs = (c .before .before .before .before .before .before .pre .0, length-take-le (c .before .before .before .before .before .before .args .n * 2) (c .before .before .before .before .before .before .args .plane .now) (c .before .before .before .before .before .before .pre .1), c .before .before .before .before .before .before .pre .2)
+face-tris-requires c κs =
+    let c6 = c .before .before .before .before .before .before in
+    (c6 .pre .0, length-take-le (c6 .args .n * 2) (c6 .args .plane .now) (c6 .pre .1), c6 .pre .2)
 
 same-length : tie.Need-same-length
 same-length c = search needs

@@ -19,7 +19,10 @@ same-length : tie.Need-same-length
 same-length c = search needs
 
 returns : tie.Need-returns
-returns c = (flag-order _ _ _ _ _ (c .before .before .before .before .if1 .taken) (c .before .before .put .ensures), flag-set _ _ _ _ _ (c .before .before .before .before .if1 .taken) (c .before .before .put .ensures), flag-kept _ _ _ _ _ (c .before .before .before .before .if1 .taken) (c .before .before .put .ensures))
+returns c =
+    let c2 = c .before .before in
+    let c4 = c2 .before .before in
+    (flag-order _ _ _ _ _ (c4 .if1 .taken) (c2 .put .ensures), flag-set _ _ _ _ _ (c4 .if1 .taken) (c2 .put .ensures), flag-kept _ _ _ _ _ (c4 .if1 .taken) (c2 .put .ensures))
 
 returns-2 : tie.Need-returns-2
 returns-2 c = let h : length (flags (c .before .before .args .n) (c .before .before .args .w .now)) ≤ c .before .before .args .b = omega (arith, length-flags-le (c .before .before .args .n) (c .before .before .args .w .now)) in (refl, sym (set-out _ _ _ h), refl)

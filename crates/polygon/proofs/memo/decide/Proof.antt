@@ -19,7 +19,11 @@ same-length : tie.Need-same-length
 same-length c = search needs
 
 returns-2 : tie.Need-returns-2
-returns-2 c = decide-new _ _ _ (c .before .before .before .before .before .before .before .before .before .before .pre .1) (c .before .before .before .before .before .before .before .before .before .before .pre .3) _ _ _ _ (sym (c .before .before .before .before .before .is-bent .ensures) ∙ c .before .before .before .before .if3 .taken) (c .before .before .store .ensures)
+returns-2 c =
+    let c2 = c .before .before in
+    let c4 = c2 .before .before in
+    let c10 = c4 .before .before .before .before .before .before in
+    decide-new _ _ _ (c10 .pre .1) (c10 .pre .3) _ _ _ _ (sym (c4 .before .is-bent .ensures) ∙ c4 .if3 .taken) (c2 .store .ensures)
 
 search-requires : tie.Need-search-requires
 search-requires c κs = (c .before .before .before .before .before .before .before .pre .0, c .before .before .before .before .before .before .before .pre .1, omega arith, sym (c .before .before .is-bent .ensures) ∙ c .before .if3 .left, (λ (j : ℕ) (h : j < 0). let z : ⊥ = omega arith in absurd z), c .before .before .before .before .before .before .before .pre .3)

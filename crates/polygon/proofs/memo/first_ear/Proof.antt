@@ -31,7 +31,11 @@ same-length : tie.Need-same-length Inv-loop μ-loop
 same-length c = c .before .before .before .is-ear .kept .1 .0 ∙ c .before .before .before .before .before .before .loop .inv .2
 
 returns : tie.Need-returns Inv-loop μ-loop
-returns c = let S = c .before .before .before .before .before .before .loop .inv .3 in (sym (first-stop _ _ _ (c .before .before .before .before .before .loop-test .taken) (searched-ear _ _ _ _ S _ (c .before .before .before .before .before .before .before .before .before .pre .0) _ _ (c .before .before .before .is-ear .ensures .0) ∙ c .if1 .taken)) ∙ c .before .before .before .before .before .before .loop .inv .1, searched-then _ _ _ _ S _ (c .before .before .before .is-ear .ensures .1))
+returns c =
+    let c3 = c .before .before .before in
+    let c5 = c3 .before .before in
+    let c6 = c5 .before in
+    let S = c6 .loop .inv .3 in (sym (first-stop _ _ _ (c5 .loop-test .taken) (searched-ear _ _ _ _ S _ (c6 .before .before .before .pre .0) _ _ (c3 .is-ear .ensures .0) ∙ c .if1 .taken)) ∙ c6 .loop .inv .1, searched-then _ _ _ _ S _ (c3 .is-ear .ensures .1))
 
 add-i : tie.Need-add-i Inv-loop μ-loop
 add-i c = search needs

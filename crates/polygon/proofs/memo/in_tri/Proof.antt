@@ -24,7 +24,10 @@ cross-requires-3 c κs = search needs
 
 returns-3 : tie.Need-returns-3
 unfolding pointInTri
-returns-3 c = simp (← c .before .before .before .before .cross .ensures, ← c .before .before .cross2 .ensures, ← c .cross3 .ensures, not-false (le +0 (c .before .before .before .before .cross .result)) (c .before .before .before .if1 .left), not-false (le +0 (c .before .before .cross2 .result)) (c .before .if2 .left))
+returns-3 c =
+    let c2 = c .before .before in
+    let c3 = c2 .before in
+    simp (← c3 .before .cross .ensures, ← c2 .cross2 .ensures, ← c .cross3 .ensures, not-false (le +0 (c3 .before .cross .result)) (c3 .if1 .left), not-false (le +0 (c2 .cross2 .result)) (c .before .if2 .left))
 
 pub in-tri-spec : {M : Type 1} → statement M
 in-tri-spec =

@@ -25,7 +25,9 @@ look-requires : tie.Need-look-requires
 look-requires c κs = search needs
 
 decide-requires : tie.Need-decide-requires
-decide-requires c κs = (c .before .before .before .before .before .before .before .before .before .before .before .before .before .pre .2, c .before .before .before .before .before .before .before .before .before .before .before .before .before .pre .3, known-read _ _ _ _ _ _ _ (c .before .look .ensures) (c .before .before .before .before .before .before .before .before .before .before .before .before .before .pre .5), c .before .before .before .before .before .before .before .before .before .before .before .before .before .pre .5)
+decide-requires c κs =
+    let c13 = c .before .before .before .before .before .before .before .before .before .before .before .before .before in
+    (c13 .pre .2, c13 .pre .3, known-read _ _ _ _ _ _ _ (c .before .look .ensures) (c13 .pre .5), c13 .pre .5)
 
 same-length : tie.Need-same-length
 same-length c = search needs

@@ -24,7 +24,10 @@ is-in-way-requires c κs = search needs
 
 returns-2 : tie.Need-returns-2
 unfolding hits
-returns-2 c = simp (← c .before .before .before .get .ensures, eq-eqb _ _ (c .before .before .if1 .left)) (c .is-in-way .ensures ∙ ap (λ (d : Dot). inWay d (c .before .before .before .before .before .before .args .a) (c .before .before .before .before .before .before .args .b) (c .before .before .before .before .before .before .args .c)) (c .before .dot-at .ensures))
+returns-2 c =
+    let c2 = c .before .before in
+    let c6 = c2 .before .before .before .before in
+    simp (← c2 .before .get .ensures, eq-eqb _ _ (c2 .if1 .left)) (c .is-in-way .ensures ∙ ap (λ (d : Dot). inWay d (c6 .args .a) (c6 .args .b) (c6 .args .c)) (c .before .dot-at .ensures))
 
 pub is-hit-spec : {M : Type 1} → statement M
 is-hit-spec =

@@ -27,7 +27,9 @@ same-length : tie.Need-same-length
 same-length c = search needs
 
 returns : tie.Need-returns
-returns c = search-free _ _ _ (c .before .before .before .before .before .before .pre .1) (c .before .before .before .before .before .before .pre .5) _ _ _ _ _ _ (c .before .before .before .before .before .before .pre .3) (c .before .before .before .before .before .before .pre .2) (c .before .before .before .before .before .before .pre .4) (flags-part _ _ _ refl) (c .before .next-hit .ensures) (c .if1 .taken)
+returns c =
+    let c6 = c .before .before .before .before .before .before in
+    search-free _ _ _ (c6 .pre .1) (c6 .pre .5) _ _ _ _ _ _ (c6 .pre .3) (c6 .pre .2) (c6 .pre .4) (flags-part _ _ _ refl) (c .before .next-hit .ensures) (c .if1 .taken)
 
 cast-store : tie.Need-cast-store
 cast-store c = search needs
@@ -42,7 +44,11 @@ same-length-2 : tie.Need-same-length-2
 same-length-2 c = search needs
 
 returns-2 : tie.Need-returns-2
-returns-2 c = search-hit _ _ _ (c .before .before .before .before .before .before .before .before .before .before .pre .1) (c .before .before .before .before .before .before .before .before .before .before .pre .5) _ _ _ _ _ _ (c .before .before .before .before .before .before .before .before .before .before .pre .3) (c .before .before .before .before .before .before .before .before .before .before .pre .2) (c .before .before .before .before .before .before .before .before .before .before .pre .4) (flags-part _ _ _ refl) (c .before .before .before .before .before .next-hit .ensures) _ (c .before .before .before .before .if1 .left) (c .before .before .store .ensures)
+returns-2 c =
+    let c2 = c .before .before in
+    let c4 = c2 .before .before in
+    let c10 = c4 .before .before .before .before .before .before in
+    search-hit _ _ _ (c10 .pre .1) (c10 .pre .5) _ _ _ _ _ _ (c10 .pre .3) (c10 .pre .2) (c10 .pre .4) (flags-part _ _ _ refl) (c4 .before .next-hit .ensures) _ (c4 .if1 .left) (c2 .store .ensures)
 
 pub search-spec : {M : Type 1} → statement M
 search-spec =

@@ -20,7 +20,10 @@ same-length c = search needs
 
 returns : tie.Need-returns
 unfolding projection flipOf
-returns c = rw (c .before .before .put-projection .ensures, c .before .before .before .before .entry-of .ensures, c .before .before .before .before .before .axis-of .ensures .0, c .before .before .before .before .before .before .handed-of .ensures)
+returns c =
+    let c2 = c .before .before in
+    let c4 = c2 .before .before in
+    rw (c2 .put-projection .ensures, c4 .entry-of .ensures, c4 .before .axis-of .ensures .0, c4 .before .before .handed-of .ensures)
 
 pub project-spec : {M : Type 1} → statement M
 project-spec =

@@ -39,14 +39,24 @@ same-length c = search needs
 
 returns : tie.Need-returns
 unfolding flat2 projected
-returns c = rw (c .before .before .before .before .before .before .before .before .if1 .taken, c .before .before .put-float2 .ensures, c .before .before .before .before .before .before .put-float .ensures, c .before .before .before .before .before .before .before .before .before .entry-of2 .ensures, c .before .before .before .before .before .before .before .before .before .before .entry-of .ensures, add-one (c .before .before .before .before .before .before .before .before .before .before .before .before .args .k))
+returns c =
+    let c2 = c .before .before in
+    let c6 = c2 .before .before .before .before in
+    let c8 = c6 .before .before in
+    let c9 = c8 .before in
+    rw (c8 .if1 .taken, c2 .put-float2 .ensures, c6 .put-float .ensures, c9 .entry-of2 .ensures, c9 .before .entry-of .ensures, add-one (c9 .before .before .before .args .k))
 
 same-length-2 : tie.Need-same-length-2
 same-length-2 c = search needs
 
 returns-2 : tie.Need-returns-2
 unfolding flat2 projected
-returns-2 c = rw (c .before .before .before .before .before .before .before .before .if1 .left, c .before .before .put-float4 .ensures, c .before .before .before .before .before .before .put-float3 .ensures, c .before .before .before .before .before .before .before .before .before .entry-of2 .ensures, c .before .before .before .before .before .before .before .before .before .before .entry-of .ensures, add-one (c .before .before .before .before .before .before .before .before .before .before .before .before .args .k))
+returns-2 c =
+    let c2 = c .before .before in
+    let c6 = c2 .before .before .before .before in
+    let c8 = c6 .before .before in
+    let c9 = c8 .before in
+    rw (c8 .if1 .left, c2 .put-float4 .ensures, c6 .put-float3 .ensures, c9 .entry-of2 .ensures, c9 .before .entry-of .ensures, add-one (c9 .before .before .before .args .k))
 
 pub put-projected-spec : {M : Type 1} → statement M
 put-projected-spec =

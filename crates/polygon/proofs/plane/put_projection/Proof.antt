@@ -50,7 +50,10 @@ same-length : tie.Need-same-length Inv-loop μ-loop
 same-length c = c .before .loop .inv .1
 
 returns : tie.Need-returns Inv-loop μ-loop
-returns c = sym (projected-end (projected (c .before .before .before .before .before .args .axis) (c .before .before .before .before .before .args .flip)) (c .before .before .before .before .before .args .points .now) _ _ (c .before .loop .i) (c .loop-test .left)) ∙ c .before .loop .inv .2
+returns c =
+    let c1 = c .before in
+    let c5 = c1 .before .before .before .before in
+    sym (projected-end (projected (c5 .args .axis) (c5 .args .flip)) (c5 .args .points .now) _ _ (c1 .loop .i) (c .loop-test .left)) ∙ c1 .loop .inv .2
 
 pub put-projection-spec : {M : Type 1} → statement M
 put-projection-spec =

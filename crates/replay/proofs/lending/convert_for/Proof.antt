@@ -63,49 +63,65 @@ slice-relend-prefix-convert : tie.Need-slice-relend-prefix-convert
 slice-relend-prefix-convert c = search needs
 
 slice-aggregate-convert : tie.Need-slice-aggregate-convert
-slice-aggregate-convert c = sym (length-take-le _ (c .before .before .before .before .before .before .before .before .before .before .before .before .before .before .before .before .before .before .args .positions .now) (c .before .before .before .before .before .before .before .before .least .ensures .1))
+slice-aggregate-convert c =
+    let c8 = c .before .before .before .before .before .before .before .before in
+    sym (length-take-le _ (c8 .before .before .before .before .before .before .before .before .before .before .args .positions .now) (c8 .least .ensures .1))
 
 slice-relend-prefix-convert-2 : tie.Need-slice-relend-prefix-convert-2
 slice-relend-prefix-convert-2 c = search needs
 
 slice-aggregate-convert-2 : tie.Need-slice-aggregate-convert-2
-slice-aggregate-convert-2 c = sym (length-take-le _ (c .before .before .before .before .before .before .before .before .before .before .before .before .before .before .before .before .before .before .before .args .normals .now) (c .before .before .before .before .before .before .before .before .least2 .ensures .1))
+slice-aggregate-convert-2 c =
+    let c8 = c .before .before .before .before .before .before .before .before in
+    sym (length-take-le _ (c8 .before .before .before .before .before .before .before .before .before .before .before .args .normals .now) (c8 .least2 .ensures .1))
 
 slice-relend-prefix-convert-3 : tie.Need-slice-relend-prefix-convert-3
 slice-relend-prefix-convert-3 c = search needs
 
 slice-aggregate-convert-3 : tie.Need-slice-aggregate-convert-3
-slice-aggregate-convert-3 c = sym (length-take-le _ (c .before .before .before .before .before .before .before .before .before .before .before .before .before .before .before .before .before .before .before .before .args .colours .now) (c .before .before .before .before .before .before .before .before .least3 .ensures .1))
+slice-aggregate-convert-3 c =
+    let c8 = c .before .before .before .before .before .before .before .before in
+    sym (length-take-le _ (c8 .before .before .before .before .before .before .before .before .before .before .before .before .args .colours .now) (c8 .least3 .ensures .1))
 
 slice-relend-prefix-convert-4 : tie.Need-slice-relend-prefix-convert-4
 slice-relend-prefix-convert-4 c = search needs
 
 slice-aggregate-convert-4 : tie.Need-slice-aggregate-convert-4
-slice-aggregate-convert-4 c = sym (length-take-le _ (c .before .before .before .before .before .before .before .before .before .before .before .before .before .before .before .before .before .before .before .before .before .args .textures .now) (c .before .before .before .before .before .before .before .before .least4 .ensures .1))
+slice-aggregate-convert-4 c =
+    let c8 = c .before .before .before .before .before .before .before .before in
+    sym (length-take-le _ (c8 .before .before .before .before .before .before .before .before .before .before .before .before .before .args .textures .now) (c8 .least4 .ensures .1))
 
 slice-relend-prefix-convert-5 : tie.Need-slice-relend-prefix-convert-5
 slice-relend-prefix-convert-5 c = search needs
 
 slice-aggregate-convert-5 : tie.Need-slice-aggregate-convert-5
-slice-aggregate-convert-5 c = sym (length-take-le _ (c .before .before .before .before .before .before .before .before .before .before .before .before .before .before .before .before .before .before .before .before .before .before .args .sources .now) (c .before .before .before .before .before .before .before .before .least5 .ensures .1))
+slice-aggregate-convert-5 c =
+    let c8 = c .before .before .before .before .before .before .before .before in
+    sym (length-take-le _ (c8 .before .before .before .before .before .before .before .before .before .before .before .before .before .before .args .sources .now) (c8 .least5 .ensures .1))
 
 slice-relend-prefix-convert-6 : tie.Need-slice-relend-prefix-convert-6
 slice-relend-prefix-convert-6 c = search needs
 
 slice-aggregate-convert-6 : tie.Need-slice-aggregate-convert-6
-slice-aggregate-convert-6 c = sym (length-take-le _ (c .before .before .before .before .before .before .before .before .before .before .before .before .before .before .before .before .before .before .before .before .before .before .before .args .indices .now) (c .before .before .before .before .before .before .before .before .least6 .ensures .1))
+slice-aggregate-convert-6 c =
+    let c8 = c .before .before .before .before .before .before .before .before in
+    sym (length-take-le _ (c8 .before .before .before .before .before .before .before .before .before .before .before .before .before .before .before .args .indices .now) (c8 .least6 .ensures .1))
 
 slice-relend-prefix-convert-7 : tie.Need-slice-relend-prefix-convert-7
 slice-relend-prefix-convert-7 c = search needs
 
 slice-aggregate-convert-7 : tie.Need-slice-aggregate-convert-7
-slice-aggregate-convert-7 c = sym (length-take-le _ (c .before .before .before .before .before .before .before .before .before .before .before .before .before .before .before .before .before .before .before .before .before .before .before .before .args .words .now) (c .before .before .before .before .before .before .before .before .least7 .ensures .1))
+slice-aggregate-convert-7 c =
+    let c8 = c .before .before .before .before .before .before .before .before in
+    sym (length-take-le _ (c8 .before .before .before .before .before .before .before .before .before .before .before .before .before .before .before .before .args .words .now) (c8 .least7 .ensures .1))
 
 slice-relend-prefix-convert-8 : tie.Need-slice-relend-prefix-convert-8
 slice-relend-prefix-convert-8 c = search needs
 
 slice-aggregate-convert-8 : tie.Need-slice-aggregate-convert-8
-slice-aggregate-convert-8 c = sym (length-take-le _ (c .before .before .before .before .before .before .before .before .before .before .before .before .before .before .before .before .before .before .before .before .before .before .before .before .before .args .floats .now) (c .before .before .before .before .before .before .before .before .least8 .ensures .1))
+slice-aggregate-convert-8 c =
+    let c8 = c .before .before .before .before .before .before .before .before in
+    sym (length-take-le _ (c8 .before .before .before .before .before .before .before .before .before .before .before .before .before .before .before .before .before .args .floats .now) (c8 .least8 .ensures .1))
 
 convert-requires : tie.Need-convert-requires
 convert-requires c κs = search needs

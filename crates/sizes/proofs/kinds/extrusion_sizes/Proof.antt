@@ -42,7 +42,9 @@ add-t12 : tie.Need-add-t12
 add-t12 c = omega (arith, c .before .before .before .net-of .ensures .2, mul-le-mul (c .before .before .before .before .cap-count .ensures .1) (c .cap-indices .ensures .1))
 
 returns : tie.Need-returns
-returns c = extrusion-are _ _ _ _ _ _ _ (c .before .before .before .before .before .cap-length .ensures) (c .before .before .before .before .cap-count .ensures .0) (c .before .before .before .net-of .ensures .0) (c .before .before .before .net-of .ensures .1) (c .cap-indices .ensures .0)
+returns c =
+    let c3 = c .before .before .before in
+    extrusion-are _ _ _ _ _ _ _ (c3 .before .before .cap-length .ensures) (c3 .before .cap-count .ensures .0) (c3 .net-of .ensures .0) (c3 .net-of .ensures .1) (c .cap-indices .ensures .0)
 
 pub extrusion-sizes-spec : {M : Type 1} → statement M
 extrusion-sizes-spec =

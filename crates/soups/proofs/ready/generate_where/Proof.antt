@@ -20,7 +20,9 @@ same-length-2 : tie.Need-same-length-2
 same-length-2 c = search needs
 
 returns-2 : tie.Need-returns-2
-returns-2 c = (c .before .before .before .before .generate .ensures .kept, as-generated _ _ _ _ _ _ (c .before .before .before .before .before .before .before .if1 .left) _ _ (c .before .before .before .before .generate .ensures))
+returns-2 c =
+    let c4 = c .before .before .before .before in
+    (c4 .generate .ensures .kept, as-generated _ _ _ _ _ _ (c4 .before .before .before .if1 .left) _ _ (c4 .generate .ensures))
 
 pub generate-where-spec : {M : Type 1} → statement M
 generate-where-spec =

@@ -33,7 +33,13 @@ same-length c = search needs
 
 returns : tie.Need-returns
 unfolding countsText
-returns c = then (c .before .before .before .before .before .before .before .before .before .before .before .before .before .before .before .before .before .before .before .before .before .before .before .before .put-byte .ensures) (then (c .before .before .before .before .before .before .before .before .before .before .before .before .before .before .before .before .before .before .before .before .put-byte2 .ensures) (then (c .before .before .before .before .before .before .before .before .before .before .before .before .before .before .before .before .put-byte3 .ensures) (then (c .before .before .before .before .before .before .before .before .before .before .before .before .put-byte4 .ensures) (then (c .before .before .before .before .before .before .before .put-field .ensures) (c .before .before .put-field2 .ensures)))))
+returns c =
+    let c2 = c .before .before in
+    let c7 = c2 .before .before .before .before .before in
+    let c12 = c7 .before .before .before .before .before in
+    let c16 = c12 .before .before .before .before in
+    let c20 = c16 .before .before .before .before in
+    then (c20 .before .before .before .before .put-byte .ensures) (then (c20 .put-byte2 .ensures) (then (c16 .put-byte3 .ensures) (then (c12 .put-byte4 .ensures) (then (c7 .put-field .ensures) (c2 .put-field2 .ensures)))))
 
 pub put-counts-spec : {M : Type 1} → statement M
 put-counts-spec =

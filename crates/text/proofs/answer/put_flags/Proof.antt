@@ -30,7 +30,12 @@ same-length c = search needs
 
 returns : tie.Need-returns
 unfolding flagsText
-returns c = then (rw (c .before .before .before .before .before .before .before .before .before .before .before .before .before .before .before .before .before .one-if .ensures) at (c .before .before .before .before .before .before .before .before .before .before .before .before .before .before .before .before .put-field .ensures)) (then (rw (c .before .before .before .before .before .before .before .before .before .before .before .before .one-if2 .ensures) at (c .before .before .before .before .before .before .before .before .before .before .before .put-field2 .ensures)) (then (rw (c .before .before .before .before .before .before .before .one-if3 .ensures) at (c .before .before .before .before .before .before .put-field3 .ensures)) (c .before .before .put-byte .ensures)))
+returns c =
+    let c2 = c .before .before in
+    let c6 = c2 .before .before .before .before in
+    let c11 = c6 .before .before .before .before .before in
+    let c16 = c11 .before .before .before .before .before in
+    then (rw (c16 .before .one-if .ensures) at (c16 .put-field .ensures)) (then (rw (c11 .before .one-if2 .ensures) at (c11 .put-field2 .ensures)) (then (rw (c6 .before .one-if3 .ensures) at (c6 .put-field3 .ensures)) (c2 .put-byte .ensures)))
 
 pub put-flags-spec : {M : Type 1} → statement M
 put-flags-spec =

@@ -24,7 +24,12 @@ same-length c = search needs
 
 returns : tie.Need-returns
 unfolding longText
-returns c = printed (then (c .before .before .before .before .before .before .before .before .before .before .before .before .before .before .before .before .before .before .put-byte .ensures) (then (c .before .before .before .before .before .before .before .before .before .before .before .before .before .before .put-byte2 .ensures) (then (c .before .before .before .before .before .before .before .before .before .before .put-byte3 .ensures) (then (c .before .before .before .before .before .before .put-byte4 .ensures) (c .before .before .put-byte5 .ensures)))))
+returns c =
+    let c2 = c .before .before in
+    let c6 = c2 .before .before .before .before in
+    let c10 = c6 .before .before .before .before in
+    let c14 = c10 .before .before .before .before in
+    printed (then (c14 .before .before .before .before .put-byte .ensures) (then (c14 .put-byte2 .ensures) (then (c10 .put-byte3 .ensures) (then (c6 .put-byte4 .ensures) (c2 .put-byte5 .ensures)))))
 
 pub put-long-spec : {M : Type 1} → statement M
 put-long-spec =

@@ -21,7 +21,11 @@ same-length c = search needs
 
 returns : tie.Need-returns
 unfolding refusalText
-returns c = printed (then (c .before .before .before .before .before .before .before .before .before .before .before .before .before .before .put-byte .ensures) (then (c .before .before .before .before .before .before .before .before .before .before .put-byte2 .ensures) (then (c .before .before .before .before .before .before .put-field .ensures) (c .before .before .put-byte3 .ensures))))
+returns c =
+    let c2 = c .before .before in
+    let c6 = c2 .before .before .before .before in
+    let c10 = c6 .before .before .before .before in
+    printed (then (c10 .before .before .before .before .put-byte .ensures) (then (c10 .put-byte2 .ensures) (then (c6 .put-field .ensures) (c2 .put-byte3 .ensures))))
 
 pub put-refusal-spec : {M : Type 1} → statement M
 put-refusal-spec =

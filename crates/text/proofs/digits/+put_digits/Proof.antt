@@ -51,8 +51,10 @@ put-digits-same-length t c = search needs
 
 put-digits-returns-2 : (t : ℕ) → put-digits-lts.Need-returns-2 (claims t) (put-digits-at t) put-digits.Post
 put-digits-returns-2 t c =
-    put-last _ _ _ _ (sym (c .before .before .before .before .before .before .is-digit .ensures) ∙ c .before .before .before .before .before .if2 .taken) (c .before .before .before .before .before .before .before .if1 .left)
-    (rw (c .before .before .before .digit-byte .ensures) at (c .before .before .put-byte .ensures))
+    let c2 = c .before .before in
+    let c5 = c2 .before .before .before in
+    put-last _ _ _ _ (sym (c5 .before .is-digit .ensures) ∙ c5 .if2 .taken) (c5 .before .before .if1 .left)
+    (rw (c2 .before .digit-byte .ensures) at (c2 .put-byte .ensures))
 
 put-digits-sub-put-digits : (t : ℕ) → put-digits-lts.Need-sub-put-digits (claims t) (put-digits-at t) put-digits.Post
 put-digits-sub-put-digits t c = omega arith
@@ -67,7 +69,9 @@ put-digits-rem-digit-byte-2 : (t : ℕ) → put-digits-lts.Need-rem-digit-byte-2
 put-digits-rem-digit-byte-2 t c = c .before .before .before .before .before .before .before .before .before .pre .1 .1
 
 put-digits-digit-byte-requires-2 : (t : ℕ) → put-digits-lts.Need-digit-byte-requires-2 (claims t) (put-digits-at t) put-digits.Post
-put-digits-digit-byte-requires-2 t c κs = lt-of-lt-of-le (mod-lt _ (c .before .before .before .before .before .before .before .before .before .pre .1 .1)) (c .before .before .before .before .before .before .before .before .before .pre .1 .2)
+put-digits-digit-byte-requires-2 t c κs =
+    let c9 = c .before .before .before .before .before .before .before .before .before in
+    lt-of-lt-of-le (mod-lt _ (c9 .pre .1 .1)) (c9 .pre .1 .2)
 
 put-digits-put-byte-requires-2 : (t : ℕ) → put-digits-lts.Need-put-byte-requires-2 (claims t) (put-digits-at t) put-digits.Post
 put-digits-put-byte-requires-2 t c κs = omega arith
@@ -77,8 +81,11 @@ put-digits-same-length-2 t c = search needs
 
 put-digits-returns-3 : (t : ℕ) → put-digits-lts.Need-returns-3 (claims t) (put-digits-at t) put-digits.Post
 put-digits-returns-3 t c =
-    put-more _ _ _ _ (sym (c .before .before .before .before .before .before .before .before .before .before .is-digit .ensures) ∙ c .before .before .before .before .before .before .before .before .before .if2 .left) (c .before .before .before .before .before .before .before .before .before .before .before .if1 .left) (c .before .before .before .before .before .before .before .put-digits .ensures)
-    (rw (c .before .before .before .digit-byte2 .ensures) at (c .before .before .put-byte2 .ensures))
+    let c2 = c .before .before in
+    let c7 = c2 .before .before .before .before .before in
+    let c9 = c7 .before .before in
+    put-more _ _ _ _ (sym (c9 .before .is-digit .ensures) ∙ c9 .if2 .left) (c9 .before .before .if1 .left) (c7 .put-digits .ensures)
+    (rw (c2 .before .digit-byte2 .ensures) at (c2 .put-byte2 .ensures))
 
 pub +put-digits-spec : {M : Type 1} → statement M
 +put-digits-spec = close μ-put-digits λ t. put-digits-lts.spec (claims t)

@@ -31,7 +31,10 @@ loop-less : tie.Need-loop-less Inv-loop μ-loop
 loop-less c = search needs
 
 loop-again : tie.Need-loop-again Inv-loop μ-loop
-loop-again c = going-step (c .before .before .before .before .before .before .loop .inv) (c .before .before .before .before .before .loop-test .taken) (c .before .before .put-field .kept .0) (rw (c .before .before .before .get .ensures) at (c .before .before .put-field .ensures))
+loop-again c =
+    let c2 = c .before .before in
+    let c5 = c2 .before .before .before in
+    going-step (c5 .before .loop .inv) (c5 .loop-test .taken) (c2 .put-field .kept .0) (rw (c2 .before .get .ensures) at (c2 .put-field .ensures))
 
 same-length : tie.Need-same-length Inv-loop μ-loop
 same-length c = search needs

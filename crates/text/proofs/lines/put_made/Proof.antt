@@ -27,7 +27,10 @@ same-length c = search needs
 
 returns : tie.Need-returns
 unfolding madeText
-returns c = then (c .before .before .before .before .before .before .before .before .before .before .before .before .put-attribute .ensures) (then (c .before .before .before .before .before .before .before .put-attribute2 .ensures) (c .before .before .put-attribute3 .ensures))
+returns c =
+    let c2 = c .before .before in
+    let c7 = c2 .before .before .before .before .before in
+    then (c7 .before .before .before .before .before .put-attribute .ensures) (then (c7 .put-attribute2 .ensures) (c2 .put-attribute3 .ensures))
 
 pub put-made-spec : {M : Type 1} → statement M
 put-made-spec =

@@ -24,7 +24,10 @@ same-length c = search needs
 
 returns : tie.Need-returns
 unfolding placeText
-returns c = then (c .before .before .before .before .before .before .before .before .before .before .before .before .put-byte .ensures) (then (rw (c .before .before .before .before .before .before .before .before .get .ensures) at (c .before .before .before .before .before .before .before .put-field .ensures)) (c .before .before .put-fields .ensures))
+returns c =
+    let c2 = c .before .before in
+    let c7 = c2 .before .before .before .before .before in
+    then (c7 .before .before .before .before .before .put-byte .ensures) (then (rw (c7 .before .get .ensures) at (c7 .put-field .ensures)) (c2 .put-fields .ensures))
 
 pub put-place-spec : {M : Type 1} → statement M
 put-place-spec =

@@ -56,7 +56,13 @@ same-length-6 : tie.Need-same-length-6
 same-length-6 c = search needs
 
 returns : tie.Need-returns
-returns c = record { sources = rw (c .before .before .before .before .narrow .ensures); positions = c .before .before .before .before .before .before .before .before .before .before .before .before .before .before .before .before .before .before .before .put-row .ensures; normals = c .before .before .before .before .before .before .before .before .before .before .before .before .before .before .before .put-row2 .ensures; colours = c .before .before .before .before .before .before .before .before .before .before .before .put-row3 .ensures; textures = c .before .before .before .before .before .before .before .put-row4 .ensures; table = c .before .before .link .ensures }
+returns c =
+    let c2 = c .before .before in
+    let c4 = c2 .before .before in
+    let c7 = c4 .before .before .before in
+    let c11 = c7 .before .before .before .before in
+    let c15 = c11 .before .before .before .before in
+    record { sources = rw (c4 .narrow .ensures); positions = c15 .before .before .before .before .put-row .ensures; normals = c15 .put-row2 .ensures; colours = c11 .put-row3 .ensures; textures = c7 .put-row4 .ensures; table = c2 .link .ensures }
 
 pub append-spec : {M : Type 1} → statement M
 append-spec =

@@ -60,8 +60,10 @@ same-length-11 c = search needs
 
 returns-2 : tie.Need-returns-2
 returns-2 c =
-    let P = c .before .before .before .before .before .before .before .before .before .before .before .before .before .before .before .before .before .before .before .before .before .before .before .before .before .before .before .before .before .before .before .before .before .before .pre in
-    vertexed-new _ _ _ _ _ _ _ _ _ _ _ (P .room) (P .point) (P .words) (c .before .before .before .before .before .before .before .before .before .before .before .before .append .ensures) (P .chained) (sym (c .before .before .before .before .before .before .before .before .before .before .before .before .before .before .before .before .before .before .before .before .before .find .ensures) ∙ c .before .before .before .before .before .before .before .before .before .before .before .before .before .before .before .before .before .before .before .enum-told .given .1)
+    let c12 = c .before .before .before .before .before .before .before .before .before .before .before .before in
+    let c19 = c12 .before .before .before .before .before .before .before in
+    let P = c19 .before .before .before .before .before .before .before .before .before .before .before .before .before .before .before .pre in
+    vertexed-new _ _ _ _ _ _ _ _ _ _ _ (P .room) (P .point) (P .words) (c12 .append .ensures) (P .chained) (sym (c19 .before .before .find .ensures) ∙ c19 .enum-told .given .1)
 
 pub vertex-spec : {M : Type 1} → statement M
 vertex-spec =

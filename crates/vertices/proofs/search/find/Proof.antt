@@ -59,11 +59,19 @@ known-by-requires-2 c κs = search needs
 
 loop-less : tie.Need-loop-less Inv-loop μ-loop
 unfolding cornerKey
-loop-less c = met-step _ _ _ _ refl _ _ _ (c .before .before .before .before .before .before .before .before .before .before .before .before .before .before .before .before .before .before .before .before .pre .3) _ _ _ (c .known-by2 .ensures) (c .before .before .before .before .before .before .before .before .before .loop .inv _ (c .before .before .before .before .before .before .before .before .before .before .before .before .before .before .before .before .before .before .before .before .pre .3)) (c .before .before .before .before .before .before .before .x .given .1) (sym (c .before .before .before .before .before .same-vertex .ensures) ∙ c .before .before .before .before .if1 .left) .0
+loop-less c =
+    let c4 = c .before .before .before .before in
+    let c7 = c4 .before .before .before in
+    let c9 = c7 .before .before in
+    let c20 = c9 .before .before .before .before .before .before .before .before .before .before .before in
+    met-step _ _ _ _ refl _ _ _ (c20 .pre .3) _ _ _ (c .known-by2 .ensures) (c9 .loop .inv _ (c20 .pre .3)) (c7 .x .given .1) (sym (c4 .before .same-vertex .ensures) ∙ c4 .if1 .left) .0
 
 loop-again : tie.Need-loop-again Inv-loop μ-loop
 unfolding cornerKey
-loop-again c = λ n C. met-step _ _ _ _ refl _ _ _ C _ _ _ (c .known-by2 .ensures) (c .before .before .before .before .before .before .before .before .before .loop .inv n C) (c .before .before .before .before .before .before .before .x .given .1) (sym (c .before .before .before .before .before .same-vertex .ensures) ∙ c .before .before .before .before .if1 .left) .1
+loop-again c =
+    let c4 = c .before .before .before .before in
+    let c7 = c4 .before .before .before in
+    λ n C. met-step _ _ _ _ refl _ _ _ C _ _ _ (c .known-by2 .ensures) (c7 .before .before .loop .inv n C) (c7 .x .given .1) (sym (c4 .before .same-vertex .ensures) ∙ c4 .if1 .left) .1
 
 enum-told : tie.Need-enum-told Inv-loop μ-loop
 enum-told c = search needs

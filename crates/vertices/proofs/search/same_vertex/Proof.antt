@@ -32,16 +32,22 @@ same-row-requires-2 c κs = search needs
 
 returns-3 : tie.Need-returns-3
 returns-3 c =
-    let P = c .before .before .before .before .before .before .before .before .before .before .before .before .before .pre in
-    sym (same-key _ _ _ _ _ (P .0) (P .1) ∙ rw (← c .before .before .before .before .before .before .wide .ensures, eq-eqb _ _ (c .before .before .before .before .if1 .left), ← c .before .before .before .same-row .ensures, c .before .before .if2 .taken, ← c .before .same-row2 .ensures, c .if3 .left))
+    let c2 = c .before .before in
+    let c3 = c2 .before in
+    let c6 = c3 .before .before .before in
+    let P = c6 .before .before .before .before .before .before .before .pre in
+    sym (same-key _ _ _ _ _ (P .0) (P .1) ∙ rw (← c6 .wide .ensures, eq-eqb _ _ (c3 .before .if1 .left), ← c3 .same-row .ensures, c2 .if2 .taken, ← c .before .same-row2 .ensures, c .if3 .left))
 
 same-row-requires-3 : tie.Need-same-row-requires-3
 same-row-requires-3 c κs = search needs
 
 returns-4 : tie.Need-returns-4
 returns-4 c =
-    let P = c .before .before .before .before .before .before .before .before .before .before .before .before .before .before .pre in
-    sym (same-key _ _ _ _ _ (P .0) (P .1) ∙ rw (← c .before .before .before .before .before .before .before .wide .ensures, eq-eqb _ _ (c .before .before .before .before .before .if1 .left), ← c .before .before .before .before .same-row .ensures, c .before .before .before .if2 .taken, ← c .before .before .same-row2 .ensures, c .before .if3 .taken) (sym (c .same-row3 .ensures)))
+    let c2 = c .before .before in
+    let c4 = c2 .before .before in
+    let c7 = c4 .before .before .before in
+    let P = c7 .before .before .before .before .before .before .before .pre in
+    sym (same-key _ _ _ _ _ (P .0) (P .1) ∙ rw (← c7 .wide .ensures, eq-eqb _ _ (c4 .before .if1 .left), ← c4 .same-row .ensures, c2 .before .if2 .taken, ← c2 .same-row2 .ensures, c .before .if3 .taken) (sym (c .same-row3 .ensures)))
 
 pub same-vertex-spec : {M : Type 1} → statement M
 same-vertex-spec =
