@@ -9,7 +9,7 @@ use Rattle.block.specs.declared.kind.Kind.{Kind}
 use Rattle.block.specs.declared.kind.Kind.the-variants.{FaceSet, LineSet, Grid, Extrusion, Other}
 use Rattle.block.specs.Kind.{byKind}
 use Rattle.block.specs.Header.{headerOf}
-use Rattle.mesh.specs.Lists.{total}
+use Rattle.lists.specs.Lists.{total}
 use Rattle.mesh.specs.Soup.{Face, Frame}
 use Rattle.mesh.specs.Vertices.{Key, vertices, width}
 use Rattle.mesh.specs.Mesh.{Mesh, noMesh, meshOf, mesh}

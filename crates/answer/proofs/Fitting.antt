@@ -8,7 +8,7 @@ use lib.Dec.{ltb}
 use lib.ListN.{length, take, drop}
 use lib.Seq.{take-at, length-sets, length-take-le}
 use Rattle.block.specs.Header.{headerOf}
-use Rattle.polygon.specs.Loops.{pick}
+use Rattle.lists.specs.Loops.{pick}
 use Rattle.mesh.specs.Mesh.{Slices}
 use Rattle.geometry.specs.Answer.{plain, resultFor, Saying, refused, made, said}
 use Rattle.text.specs.declared.lines.Parts.{Parts}

@@ -6,7 +6,7 @@ use lib.ListN.{length}
 use Rattle.block.specs.declared.header.Header.{Header}
 use Rattle.block.specs.Kind.{isLines}
 use Rattle.block.specs.Header.{headerOf}
-use Rattle.polygon.specs.Loops.{pick}
+use Rattle.lists.specs.Loops.{pick}
 use Rattle.mesh.specs.Mesh.{Slices}
 use Rattle.mesh.specs.Result.{Result, makesNormals, makesColours, makesTextures}
 use Rattle.geometry.specs.Answer.{plain, resultFor, Saying, refused, made, said}

@@ -10,7 +10,7 @@ use lib.ListN.{length, take, drop, length-append}
 use lib.Seq.{length-take-le}
 use Rattle.mesh.specs.Mesh.{Slices}
 use Rattle.tables.specs.declared.layout.Plan.{Plan}
-use Rattle.tables.specs.Kept.{Kept}
+use Rattle.lists.specs.Parts.{Kept}
 use Rattle.tables.specs.Soups.{pointIn, startIn, Sound}
 use Rattle.tables.proofs.Stays.{start-kept, sound-kept}
 use Rattle.vertices.specs.declared.places.Widths.{Widths}

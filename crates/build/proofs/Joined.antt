@@ -9,12 +9,12 @@ use native.Mathlib.Omega.{arith}
 use lib.ListN.{length, getD, take, drop, replicate}
 use lib.Ieee.{Float, binary32, ofBits}
 use lib.Seq.{getD-take, getD-drop, take-at}
-use Rattle.polygon.proofs.Tabs.{tab-at}
-use Rattle.mesh.specs.Lists.{joinN, total, place, firsts}
+use Rattle.lists.proofs.Tabs.{tab-at}
+use Rattle.lists.specs.Lists.{joinN, total, place, firsts}
 use Rattle.mesh.specs.Soup.{noCorner, Face, Frame}
 use Rattle.mesh.specs.Vertices.{Key, noKey, sameKey, keyOf, keysOf, vertices, indicesOf}
 use Rattle.mesh.specs.Mesh.{meshOf, mesh, Slices, slicesOf, over}
-use Rattle.mesh.proofs.Lists.{piece}
+use Rattle.lists.proofs.Lists.{piece}
 use Rattle.mesh.proofs.Corners.{length-keys, getD-keys}
 use Rattle.mesh.proofs.Facts.{indices-within, slices-sized}
 use Rattle.tables.specs.declared.layout.Plan.{Plan}

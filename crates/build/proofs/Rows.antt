@@ -9,8 +9,8 @@ use lib.ListN.{replicate}
 use lib.Ieee.{binary32, ofBits, toBits}
 use Rattle.block.specs.declared.stream.Stream.{Stream}
 use Rattle.block.specs.declared.crease.CreaseRule.the-variants.{Own}
-use Rattle.polygon.specs.Loops.{tab}
-use Rattle.mesh.specs.Lists.{joinN}
+use Rattle.lists.specs.Loops.{tab}
+use Rattle.lists.specs.Lists.{joinN}
 use Rattle.mesh.specs.Words.{no4}
 use Rattle.mesh.specs.Soup.{Face, dense, Frame}
 use Rattle.mesh.specs.Normals.{cornerNormal}
@@ -18,7 +18,7 @@ use Rattle.mesh.specs.Vertices.{keyOf, keysOf}
 use Rattle.mesh.specs.Mesh.{Slices}
 use Rattle.tables.specs.declared.layout.Plan.{Plan}
 use Rattle.tables.specs.Layout.{planOf}
-use Rattle.tables.specs.Kept.{seg}
+use Rattle.lists.specs.Parts.{seg}
 use Rattle.tables.specs.Soups.{pointIn, gatherIn, startIn, pointsIn, plain, cornerIn, faceIn, soupIn}
 use Rattle.tables.proofs.Room.{plan-fits}
 use Rattle.vertices.specs.Search.{cornerKey}

@@ -5,8 +5,8 @@ use mathlib.Core.List.{List, []}
 use Prim.Native.Nat.{ℕ, zero, suc, _+_, _*_, _-_, _^_, _≤_, _<_}
 use lib.ListN.{length, replicate}
 use lib.Ieee.{Float, binary32, ofBits}
-use Rattle.polygon.specs.Loops.{tab}
-use Rattle.mesh.specs.Lists.{joinN}
+use Rattle.lists.specs.Loops.{tab}
+use Rattle.lists.specs.Lists.{joinN}
 use Rattle.mesh.specs.Soup.{Face, Frame}
 use Rattle.mesh.specs.Vertices.{keysOf}
 use Rattle.mesh.specs.Mesh.{Mesh, mesh, Slices, slicesOf, over}

@@ -7,13 +7,13 @@ use native.Mathlib.Omega.{arith}
 use lib.Dec.{T}
 use lib.ListN.{length, getD, set}
 use Rattle.block.specs.Stream.{get3At, get4At}
-use Rattle.mesh.specs.Lists.{has, place, meet, firsts}
+use Rattle.lists.specs.Lists.{has, place, meet, firsts}
 use Rattle.mesh.specs.Words.{words2, words3, words4, no3}
 use Rattle.mesh.specs.Vertices.{Key, sameKey}
-use Rattle.mesh.proofs.Lists.{T-true, place-lt, length-firsts, has-firsts-new}
+use Rattle.lists.proofs.Lists.{T-true, place-lt, length-firsts, has-firsts-new}
 use Rattle.mesh.proofs.Keys.{sameKey-sound, sameKey-self}
-use Rattle.tables.specs.Kept.{Kept, TableOf, Filled}
-use Rattle.tables.proofs.Keep.{kept-set, kept-less, kept-then, kept-at, kept-seg, set-miss, table-none, table-more, table-kept}
+use Rattle.lists.specs.Parts.{Kept, TableOf, Filled}
+use Rattle.lists.proofs.Keep.{kept-set, kept-less, kept-then, kept-at, kept-seg, set-miss, table-none, table-more, table-kept}
 use Rattle.vertices.specs.declared.places.Widths.{Widths}
 use Rattle.vertices.specs.declared.places.Chains.{Chains}
 use Rattle.vertices.specs.Places as places

@@ -3,9 +3,9 @@ use mathlib.Core.Path.{_≡_}
 use mathlib.Core.List.{List}
 use Prim.Native.Nat.{ℕ, _+_, _*_, _≤_, _<_}
 use lib.ListN.{length, getD}
-use Rattle.mesh.specs.Lists.{place}
+use Rattle.lists.specs.Lists.{place}
 use Rattle.mesh.specs.Vertices.{Key, sameKey}
-use Rattle.tables.specs.Kept.{Kept}
+use Rattle.lists.specs.Parts.{Kept}
 use Rattle.vertices.specs.declared.places.Widths.{Widths}
 use Rattle.vertices.specs.Places.{Store, Roomy}
 use Rattle.vertices.specs.Adding.{Holds, madeOf, pointsIn}

@@ -17,13 +17,13 @@ use Rattle.block.specs.Lists.{extrusionWidths, listBytes}
 use Rattle.block.proofs.EditionLaws.{count-narrow}
 use Rattle.block.proofs.Table.{or-none}
 use Rattle.block.proofs.ListLaws.{widths-of, size-by, list-length}
-use Rattle.polygon.specs.Loops.{tab}
-use Rattle.polygon.proofs.Tabs.{tab-same}
-use Rattle.mesh.specs.Lists.{flat}
+use Rattle.lists.specs.Loops.{tab}
+use Rattle.lists.proofs.Tabs.{tab-same}
+use Rattle.lists.specs.Lists.{flat}
 use Rattle.mesh.specs.Extrusion.{spineCount, sectionCount, threes, twos, turnIn, sectionOf, extrusionOf, rowAt, extrusionPoints}
 use Rattle.mesh.specs.Sizes.{extrusionSizes, isNoExtrusion, isNoShape}
 use Rattle.mesh.proofs.Sizes.{extrusion-points}
-use Rattle.tables.specs.Kept.{spliced}
+use Rattle.lists.specs.Parts.{spliced}
 use Rattle.extrusion.specs.Given.{scaleCount, turnCount, Given}
 use Rattle.extrusion.specs.Rows.{rowBy, rowsBy}
 use Rattle.extrusion.proofs.Values.{count2, count3}

@@ -7,11 +7,11 @@ use native.Mathlib.Omega.{arith}
 use lib.ListN.{length, getD, length-map}
 use Rattle.block.specs.declared.header.Header.{Header}
 use Rattle.block.specs.Header.{headerOf}
-use Rattle.mesh.specs.Lists.{total}
+use Rattle.lists.specs.Lists.{total}
 use Rattle.mesh.specs.Extrusion.{spineCount, sectionCount, sectionOf, capLength, hasCap}
 use Rattle.mesh.specs.Sizes.{one, sideCount, capCount, extrusionSizes}
-use Rattle.mesh.proofs.Lists.{All-getD}
-use Rattle.mesh.proofs.Tabs.{total-mapN}
+use Rattle.lists.proofs.Lists.{All-getD}
+use Rattle.lists.proofs.Totals.{total-mapN}
 use Rattle.tables.specs.Listed.{Use, Listing, noUse, usesAt}
 use Rattle.extrusion.specs.Listings.{facePoints, useOf, extrusionListings}
 use Rattle.extrusion.proofs.Counting.{corners-count, three-there, face-full}

@@ -10,14 +10,15 @@ use borrow.Author.Tests.{ltb-true, ltb-false, leb-true}
 use lib.Dec.{ltb, leb}
 use lib.ListN.{length, getD, take, length-append, length-reverse, List·getD-append}
 use lib.Seq.{getD-append-add, take-length}
-use Rattle.polygon.specs.Loops.{tab, All}
-use Rattle.polygon.proofs.Tabs.{length-tab, tab-at}
-use Rattle.mesh.specs.Lists.{flat, total}
+use Rattle.lists.specs.Loops.{tab, All}
+use Rattle.lists.proofs.Tabs.{length-tab, tab-at}
+use Rattle.lists.specs.Lists.{flat, total}
 use Rattle.mesh.specs.Quads.{quad}
 use Rattle.mesh.specs.Extrusion.{hasCap}
 use Rattle.mesh.specs.Sizes.{one}
-use Rattle.mesh.proofs.Lists.{All-append, All-getD}
-use Rattle.mesh.proofs.Tabs.{tabs-tab, flat-total, total-append, total-tabs, total-suc}
+use Rattle.lists.proofs.Lists.{All-append, All-getD}
+use Rattle.lists.proofs.Totals.{flat-total, total-append, total-suc}
+use Rattle.mesh.proofs.Tabs.{tabs-tab, total-tabs}
 use Rattle.tables.specs.Layout.{most}
 use Rattle.extrusion.specs.Listings.{oneIf, spot, sidePoints, beginPoints, endPoints, facePoints, sizeAt, startAt}
 use Rattle.extrusion.proofs.Sides.{quad-length}

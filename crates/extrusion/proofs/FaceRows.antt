@@ -2,8 +2,8 @@
 use mathlib.Core.Path.{_≡_, refl}
 use mathlib.Core.Bool.{true}
 use mathlib.Core.List.{[], _∷_}
-use Rattle.polygon.specs.Loops.{tab}
-use Rattle.mesh.specs.Lists.{flat}
+use Rattle.lists.specs.Loops.{tab}
+use Rattle.lists.specs.Lists.{flat}
 use Rattle.mesh.specs.Quads.{tabs, quad}
 use Rattle.extrusion.specs.Listings.{beginPoints, endPoints, facePoints}
 

@@ -5,12 +5,12 @@ use mathlib.Core.List.{List, [], _∷_, _++_, reverse}
 use Prim.Native.Nat.{ℕ, zero, suc, _+_, _-_, _*_, _≤_, _<_}
 use native.Mathlib.Omega.{arith}
 use lib.ListN.{length, getD}
-use Rattle.polygon.specs.Loops.{tab, All}
-use Rattle.mesh.specs.Lists.{flat}
+use Rattle.lists.specs.Loops.{tab, All}
+use Rattle.lists.specs.Lists.{flat}
 use Rattle.mesh.specs.Quads.{quad}
 use Rattle.mesh.specs.Extrusion.{hasCap}
-use Rattle.mesh.proofs.Lists.{All-append, All-getD}
-use Rattle.mesh.proofs.Tabs.{tab-reverse}
+use Rattle.lists.proofs.Lists.{All-append, All-getD}
+use Rattle.lists.proofs.Totals.{tab-reverse}
 use Rattle.mesh.proofs.Within.{All-by, All-flat, All-tabs}
 use Rattle.mesh.proofs.Within as within
 use Rattle.extrusion.specs.Listings.{oneIf, spot, sidePoints, beginPoints, endPoints, facePoints}

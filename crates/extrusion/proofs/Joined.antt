@@ -9,14 +9,15 @@ use borrow.Author.Tests.{lt-ltb, le-ltb}
 use lib.ListN.{length}
 use Rattle.block.specs.declared.header.Header.{Header}
 use Rattle.block.specs.Header.{headerOf}
-use Rattle.polygon.specs.Loops.{tab}
-use Rattle.polygon.proofs.Tabs.{length-tab, tab-same, map-tab}
-use Rattle.mesh.specs.Lists.{mapN}
+use Rattle.lists.specs.Loops.{tab}
+use Rattle.lists.proofs.Tabs.{length-tab, tab-same, map-tab}
+use Rattle.lists.specs.Lists.{mapN}
 use Rattle.mesh.specs.Soup.{Corner, Face}
 use Rattle.mesh.specs.Quads.{quad}
 use Rattle.mesh.specs.Sizes.{sideCount, capCount, extrusionSizes}
 use Rattle.mesh.specs.Extrusion.{Extrusion, spineCount, sectionCount, sectionOf, extrusionOf, hasCap, closes, capLength, sideCorner, capCorner, sides, capFace, faceIf, caps, extrusionFaces}
-use Rattle.mesh.proofs.Tabs.{tabs-tab, tab-reverse, mapN-tab}
+use Rattle.lists.proofs.Totals.{tab-reverse, mapN-tab}
+use Rattle.mesh.proofs.Tabs.{tabs-tab}
 use Rattle.mesh.proofs.Shapes.{sides-listed}
 use Rattle.tables.specs.declared.layout.Plan.{Plan}
 use Rattle.tables.specs.Layout.{Room}

@@ -8,7 +8,7 @@ use native.Mathlib.Omega.{arith}
 use lib.ListN.{length}
 use lib.IntN.{pos}
 use lib.Ieee.{Float, binary32, add, sub, div, lt, ofInt}
-use Rattle.polygon.proofs.Tabs.{length-tab}
+use Rattle.lists.proofs.Tabs.{length-tab}
 use Rattle.math.specs.declared.vector.V3.{V3}
 use Rattle.math.specs.Vector.{zeroF, vlen}
 use Rattle.block.specs.declared.header.Header.{Header}
@@ -17,13 +17,13 @@ use Rattle.block.specs.Lists.{listBytes}
 use Rattle.mesh.specs.Frames.{step}
 use Rattle.mesh.specs.Arcs.{at2, counted, lengthTo, share, arcs, step2, step3, hypot, arcs2, arcs3}
 use Rattle.mesh.specs.Extrusion.{spineCount, sectionCount, threes, twos, extrusionOf}
-use Rattle.tables.specs.Kept.{spliced}
+use Rattle.lists.specs.Parts.{spliced}
 use Rattle.extrusion.specs.Given.{Given}
 use Rattle.extrusion.specs.Steps.{stepOf, bytesOf}
 use Rattle.extrusion.proofs.Values.{count2, count3}
 use Rattle.extrusion.proofs.Blocks.{section-of, spine-of}
-use Rattle.tables.proofs.Splices.{splice-more}
-use Rattle.tables.proofs.Pieces.{Pieces, single, singles-all}
+use Rattle.lists.proofs.Splices.{splice-more}
+use Rattle.lists.proofs.Pieces.{Pieces, single, singles-all}
 
 pub step3-is : (l : List V3) (i : ℕ) (v : V3) (r : Float) → v ≡ step l i (i + 1) → r ≡ vlen v → r ≡ step3 l i
 unfolding step3

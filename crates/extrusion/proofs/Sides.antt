@@ -8,17 +8,17 @@ use native.Mathlib.Numerals.{add-one}
 use native.Mathlib.Omega.{arith}
 use lib.Dec.{leb}
 use lib.ListN.{length, set, length-append}
-use Rattle.polygon.specs.Loops.{tab}
-use Rattle.polygon.proofs.Tabs.{length-tab}
-use Rattle.mesh.specs.Lists.{flat}
+use Rattle.lists.specs.Loops.{tab}
+use Rattle.lists.proofs.Tabs.{length-tab}
+use Rattle.lists.specs.Lists.{flat}
 use Rattle.mesh.specs.Quads.{tabs, quad}
 use Rattle.mesh.specs.Extrusion.{hasCap}
-use Rattle.mesh.proofs.Tabs.{tab-reverse}
+use Rattle.lists.proofs.Totals.{tab-reverse}
 use Rattle.tables.specs.Layout.{most}
-use Rattle.tables.specs.Kept.{spliced}
+use Rattle.lists.specs.Parts.{spliced}
 use Rattle.extrusion.specs.Listings.{spot, sidePoints, beginPoints, endPoints, facePoints}
-use Rattle.tables.proofs.Splices.{splice-more, put-four}
-use Rattle.tables.proofs.Pieces.{flat-append, length-pieces}
+use Rattle.lists.proofs.Splices.{splice-more, put-four}
+use Rattle.lists.proofs.Pieces.{flat-append, length-pieces}
 
 pub next-row : (i m : ℕ) → (i + 1) * m ≡ i * m + m
 next-row i m = ap (λ (k : ℕ). k * m) (add-one i) ∙ suc-mul i m

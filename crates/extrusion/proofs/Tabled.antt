@@ -7,17 +7,17 @@ use native.Mathlib.Nat.{zero-add}
 use native.Mathlib.Omega.{arith}
 use lib.ListN.{length, getD, take, drop, length-map}
 use Rattle.block.specs.declared.header.Header.{Header}
-use Rattle.mesh.specs.Lists.{flat, total}
+use Rattle.lists.specs.Lists.{flat, total}
 use Rattle.mesh.specs.Extrusion.{spineCount, sectionCount}
-use Rattle.mesh.proofs.Lists.{length-mapN, getD-mapN, getD-map-lt}
+use Rattle.lists.proofs.Lists.{length-mapN, getD-mapN, getD-map-lt}
 use Rattle.tables.specs.declared.layout.Plan.{Plan}
 use Rattle.tables.specs.Layout.{most, Room}
-use Rattle.tables.specs.Kept.{seg, spliced, Kept, TableOf, Written}
+use Rattle.lists.specs.Parts.{seg, spliced, Kept, TableOf, Written}
 use Rattle.tables.specs.Soups.{pointIn, placeIn, startIn, numberIn}
 use Rattle.tables.specs.Listed.{Use, Listing, noUse, noListing, usesAt, Beside, Listed}
-use Rattle.tables.proofs.Keep.{kept-then, kept-seg, seg-at, table-kept}
+use Rattle.lists.proofs.Keep.{kept-then, kept-seg, seg-at, table-kept}
 use Rattle.extrusion.specs.Listings.{facePoints, useOf, extrusionListings, startAt, Planned}
-use Rattle.tables.proofs.Splices.{spliced-above, kept-spliced, seg-spliced}
+use Rattle.lists.proofs.Splices.{spliced-above, kept-spliced, seg-spliced}
 use Rattle.tables.proofs.Besides.{beside-then, beside-corners, beside-starts, beside-places, beside-numbers}
 use Rattle.extrusion.proofs.Sides.{section-least}
 use Rattle.extrusion.proofs.Counting.{flat-place, face-size, faces-count, flat-count, starts-are, starts-last, start-none, start-suc, start-rises}

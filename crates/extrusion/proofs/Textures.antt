@@ -21,9 +21,9 @@ use Rattle.mesh.specs.declared.texture.Fit.{Fit}
 use Rattle.mesh.specs.Words.{no2}
 use Rattle.mesh.specs.Arcs.{at2, step2, step3, arcs2, arcs3}
 use Rattle.mesh.specs.Extrusion.{Extrusion, spineCount, sectionCount, twos, extrusionOf, sideTexture, capFit, capTexture, cornerAt}
-use Rattle.tables.specs.Kept.{spliced, Kept}
-use Rattle.tables.proofs.Keep.{kept-at}
-use Rattle.tables.proofs.Splices.{spliced-part}
+use Rattle.lists.specs.Parts.{spliced, Kept}
+use Rattle.lists.proofs.Keep.{kept-at}
+use Rattle.lists.proofs.Splices.{spliced-part}
 use Rattle.extrusion.specs.Given.{Given}
 use Rattle.extrusion.specs.Listings.{useOf}
 use Rattle.extrusion.specs.Corners.{textureOf, extrusionCorner, extrusionTexture, Measured, Cornered}

@@ -14,8 +14,8 @@ use Rattle.block.specs.declared.texture.Pair.{Pair}
 use Rattle.block.specs.Value.{valueWord, words2, words3}
 use Rattle.block.specs.Texture.{pairOf}
 use Rattle.block.proofs.ValueLaws.{word-first}
-use Rattle.polygon.specs.Loops.{tab}
-use Rattle.polygon.proofs.Tabs.{length-tab, tab-at}
+use Rattle.lists.specs.Loops.{tab}
+use Rattle.lists.proofs.Tabs.{length-tab, tab-at}
 use Rattle.mesh.specs.Words.{floats}
 use Rattle.mesh.specs.Frames.{origin, at}
 use Rattle.mesh.specs.Arcs.{at2}

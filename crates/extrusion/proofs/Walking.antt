@@ -13,18 +13,18 @@ use Rattle.math.specs.declared.quaternion.Quat.{Quat}
 use Rattle.block.specs.declared.texture.Pair.{Pair}
 use Rattle.block.specs.Value.{words2}
 use Rattle.block.specs.Texture.{pairOf}
-use Rattle.polygon.specs.Loops.{tab}
-use Rattle.polygon.proofs.Tabs.{tab-same, map-tab}
-use Rattle.mesh.specs.Lists.{flat}
+use Rattle.lists.specs.Loops.{tab}
+use Rattle.lists.proofs.Tabs.{tab-same, map-tab}
+use Rattle.lists.specs.Lists.{flat}
 use Rattle.mesh.specs.Words.{words3, bits}
 use Rattle.mesh.specs.Frames.{Axes, at, or, lastOf, firstY, yOwn, yAt, firstZ, zOwn, pickZ, prevZ, axesBy, axesAt}
 use Rattle.mesh.specs.Arcs.{at2}
 use Rattle.mesh.specs.Extrusion.{twos, local, placed, rowWords, turnAt, scaleAt}
-use Rattle.mesh.proofs.Lists.{length-words}
-use Rattle.tables.specs.Kept.{spliced}
+use Rattle.lists.proofs.Lists.{length-words}
+use Rattle.lists.specs.Parts.{spliced}
 use Rattle.extrusion.specs.declared.axes.PlaneAxes.{PlaneAxes}
 use Rattle.extrusion.specs.Rows.{axesOf, rowBy}
-use Rattle.tables.proofs.Pieces.{Pieces, pieces-none, pieces-more}
+use Rattle.lists.proofs.Pieces.{Pieces, pieces-none, pieces-more}
 use Rattle.extrusion.proofs.Values.{at2-in}
 use Rattle.extrusion.proofs.Planes.{last-step}
 

@@ -5,8 +5,8 @@ use mathlib.Core.List.{List, [], _∷_, _++_, map, reverse}
 use Prim.Native.Nat.{ℕ, zero, suc, _+_, _-_, _*_, _≤_}
 use lib.Dec.{ltb}
 use Rattle.block.specs.declared.header.Header.{Header}
-use Rattle.polygon.specs.Loops.{tab}
-use Rattle.mesh.specs.Lists.{mapN}
+use Rattle.lists.specs.Loops.{tab}
+use Rattle.lists.specs.Lists.{mapN}
 use Rattle.mesh.specs.Quads.{tabs, quad}
 use Rattle.mesh.specs.Extrusion.{spineCount, sectionCount, hasCap}
 use Rattle.mesh.specs.Sizes.{sideCount, capCount}

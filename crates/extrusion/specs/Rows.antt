@@ -4,8 +4,8 @@ use Prim.Native.Nat.{ℕ}
 use Rattle.math.specs.declared.vector.V3.{V3}
 use Rattle.math.specs.declared.quaternion.Quat.{Quat}
 use Rattle.block.specs.declared.texture.Pair.{Pair}
-use Rattle.polygon.specs.Loops.{tab}
-use Rattle.mesh.specs.Lists.{flat}
+use Rattle.lists.specs.Loops.{tab}
+use Rattle.lists.specs.Lists.{flat}
 use Rattle.mesh.specs.Frames.{Axes, axes, at, axesAt}
 use Rattle.mesh.specs.Extrusion.{turnAt, scaleAt, rowWords}
 use Rattle.extrusion.specs.declared.axes.PlaneAxes.{PlaneAxes}

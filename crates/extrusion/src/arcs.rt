@@ -8,7 +8,7 @@ ghost use lib.Ieee.{binary32, ofInt};
 ghost use Rattle.mesh.specs.Arcs as spec;
 ghost use Rattle.mesh.specs.Arcs.{step2, step3, lengthTo, arcs, arcs2, arcs3};
 ghost use Rattle.mesh.specs.Extrusion.{spineCount, sectionCount, threes, twos, extrusionOf};
-ghost use Rattle.tables.specs.Kept.{spliced};
+ghost use Rattle.lists.specs.Parts.{spliced};
 ghost use Rattle.extrusion.specs.Given.{Given};
 ghost use Rattle.extrusion.specs.Steps.{stepOf, bytesOf};
 use crate::frames::step;

@@ -2,13 +2,13 @@
 ghost use mathlib.Core.Path.{_≡_};
 ghost use Prim.Native.Nat.{_+_, _-_, _*_, _≤_, _<_};
 ghost use lib.ListN.{length, set};
-ghost use Rattle.polygon.specs.Loops.{tab};
-ghost use Rattle.mesh.specs.Lists.{flat};
+ghost use Rattle.lists.specs.Loops.{tab};
+ghost use Rattle.lists.specs.Lists.{flat};
 ghost use Rattle.mesh.specs.Quads.{quad};
 ghost use Rattle.mesh.specs.Extrusion.{hasCap};
 ghost use Rattle.mesh.specs.Sizes.{one, capCount};
 ghost use Rattle.tables.specs.Layout.{most};
-ghost use Rattle.tables.specs.Kept.{spliced};
+ghost use Rattle.lists.specs.Parts.{spliced};
 ghost use Rattle.extrusion.specs.Listings.{spot, sidePoints, beginPoints, endPoints, facePoints};
 use block::Header;
 use block::PointNumber;

@@ -4,7 +4,7 @@ ghost use Prim.Native.Nat.{_+_, _≤_};
 ghost use lib.ListN.{length};
 ghost use Rattle.mesh.specs.Extrusion.{spineCount, sectionCount};
 ghost use Rattle.tables.specs.Layout.{most};
-ghost use Rattle.tables.specs.Kept.{Written};
+ghost use Rattle.lists.specs.Parts.{Written};
 ghost use Rattle.tables.specs.Listed.{Beside, Listed};
 ghost use Rattle.extrusion.specs.Listings.{extrusionListings, sizeAt, startAt, Planned};
 use crate::faces::put_uses;

@@ -16,7 +16,7 @@ use Rattle.block.specs.Refusal.{blockRows, firstOf}
 use Rattle.block.specs.Settings.{settingsOf}
 use Rattle.block.proofs.Table.{taken-of}
 use Rattle.block.proofs.TableRows.{bytesOf, oneWord, number}
-use Rattle.polygon.specs.Loops.{tab}
+use Rattle.lists.specs.Loops.{tab}
 use Rattle.mesh.specs.Mesh.{Slices}
 use Rattle.mesh.specs.Arcs.{at2}
 use Rattle.mesh.specs.Extrusion.{sectionOf, closes, capLength}

@@ -13,11 +13,11 @@ use Rattle.block.specs.declared.crease.CreaseRule.{CreaseRule}
 use Rattle.mesh.specs.declared.texture.Fit.{Fit}
 use Rattle.mesh.specs.Extrusion.{spineCount, sectionCount, extrusionOf, extrusionPoints, capFit}
 use Rattle.tables.specs.declared.layout.Plan.{Plan}
-use Rattle.tables.specs.Kept.{seg, spliced, Kept}
+use Rattle.lists.specs.Parts.{seg, spliced, Kept}
 use Rattle.tables.specs.Soups.{pointIn, ownerIn, pointsIn, soupIn, frameIn}
 use Rattle.tables.specs.Listed.{Beside, Listed}
-use Rattle.tables.proofs.Keep.{kept-all, kept-seg}
-use Rattle.tables.proofs.Splices.{put-gives}
+use Rattle.lists.proofs.Keep.{kept-all, kept-seg}
+use Rattle.lists.proofs.Splices.{put-gives}
 use Rattle.tables.proofs.Besides.{beside-kept}
 use Rattle.tables.proofs.Listings.{listed-kept}
 use Rattle.normals.specs.Written.{spread, normalsOf}

@@ -11,8 +11,8 @@ use Rattle.block.specs.declared.header.Header.{Header}
 use Rattle.block.specs.declared.settings.Settings.{Settings}
 use Rattle.block.specs.Header.{headerOf}
 use Rattle.block.specs.Settings.{settingsOf}
-use Rattle.polygon.specs.Loops.{tab}
-use Rattle.mesh.specs.Lists.{joinN}
+use Rattle.lists.specs.Loops.{tab}
+use Rattle.lists.specs.Lists.{joinN}
 use Rattle.mesh.specs.Words.{no2}
 use Rattle.mesh.specs.Soup.{Face}
 use Rattle.mesh.specs.Vertices.{keysOf}
@@ -20,7 +20,7 @@ use Rattle.mesh.specs.Extrusion.{Extrusion, spineCount, sectionCount, sectionOf
 use Rattle.tables.specs.declared.layout.Plan.{Plan}
 use Rattle.tables.specs.Soups.{pointIn, ownerIn, startIn, Holds}
 use Rattle.tables.specs.Listed.{Use, Listing, noUse, noListing, facesWith, usesAt}
-use Rattle.tables.proofs.Keep.{kept-then}
+use Rattle.lists.proofs.Keep.{kept-then}
 use Rattle.tables.proofs.Stays.{start-le, point-kept, start-kept}
 use Rattle.tables.proofs.Listings.{listed-sound}
 use Rattle.corners.specs.Laid.{tablesOf}

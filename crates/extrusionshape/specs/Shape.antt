@@ -14,7 +14,7 @@ use Rattle.mesh.specs.Arcs.{arcs2, arcs3}
 use Rattle.mesh.specs.Extrusion.{spineCount, sectionCount, extrusionOf, extrusionPoints}
 use Rattle.mesh.specs.Sizes.{sideCount, capCount, sizesOf}
 use Rattle.tables.specs.declared.layout.Plan.{Plan}
-use Rattle.tables.specs.Kept.{Kept}
+use Rattle.lists.specs.Parts.{Kept}
 use Rattle.tables.specs.Layout.{most, planOf}
 use Rattle.tables.specs.Soups.{pointIn, ownerIn, pointsIn}
 use Rattle.tables.specs.Listed.{Listed}

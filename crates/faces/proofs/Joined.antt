@@ -8,21 +8,21 @@ use native.Mathlib.Omega.{arith}
 use lib.Ieee.{Float}
 use lib.ListN.{length, getD, length-append}
 use Rattle.math.specs.declared.vector.V3.{V3}
-use Rattle.polygon.specs.Loops.{tab}
+use Rattle.lists.specs.Loops.{tab}
 use Rattle.polygon.specs.Points.{spots}
 use Rattle.polygon.specs.Facing.{newell}
 use Rattle.polygon.specs.Plane.{handed}
 use Rattle.polygon.specs.Face.{triangles}
-use Rattle.mesh.specs.Lists.{joinN, place, flat}
+use Rattle.lists.specs.Lists.{joinN, place, flat}
 use Rattle.mesh.specs.Soup.{Face, pointsOf, Frame}
 use Rattle.mesh.specs.Normals.{outline, facing}
 use Rattle.mesh.specs.Vertices.{Key, noKey, sameKey, keysOf, wound, locals, faceIndices, indicesOf}
-use Rattle.mesh.proofs.Lists.{All-map, map-All}
+use Rattle.lists.proofs.Lists.{All-map, map-All}
 use Rattle.mesh.proofs.Corners.{locals-within, getD-keys}
 use Rattle.tables.specs.declared.layout.Plan.{Plan}
-use Rattle.tables.specs.Kept.{seg}
+use Rattle.lists.specs.Parts.{seg}
 use Rattle.tables.specs.Soups.{startIn, namedIn, bare, Sound, Holds}
-use Rattle.tables.proofs.Keep.{seg-at}
+use Rattle.lists.proofs.Keep.{seg-at}
 use Rattle.tables.proofs.Stays.{start-le, names-in}
 use Rattle.tables.proofs.Held.{faces-held, face-held, start-held}
 use Rattle.faces.specs.Naming.{numbered}

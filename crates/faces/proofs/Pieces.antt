@@ -11,7 +11,7 @@ use lib.Ieee.{Float}
 use lib.ListN.{length, take, drop}
 use lib.Seq.{sets, take-at, length-take-le}
 use Rattle.math.specs.declared.vector.V3.{V3}
-use Rattle.polygon.specs.Loops.{pick}
+use Rattle.lists.specs.Loops.{pick}
 use Rattle.polygon.specs.Points.{spots}
 use Rattle.polygon.specs.Facing.{newell}
 use Rattle.polygon.specs.Plane.{handed, projection, flat2, pairs}
@@ -21,9 +21,9 @@ use Rattle.polygon.proofs.Projection.{length-spots}
 use Rattle.polygon.proofs.Triangles.{by-plane, triangles-count}
 use Rattle.tables.specs.declared.layout.Plan.{Plan}
 use Rattle.tables.specs.Layout.{planOf}
-use Rattle.tables.specs.Kept.{seg, Kept}
+use Rattle.lists.specs.Parts.{seg, Kept}
 use Rattle.tables.specs.Soups.{startIn, pointsIn, Sound}
-use Rattle.tables.proofs.Keep.{kept-all, kept-seg, length-seg}
+use Rattle.lists.proofs.Keep.{kept-all, kept-seg, length-seg}
 use Rattle.tables.proofs.Stays.{start-le, start-kept, points-kept}
 use Rattle.faces.specs.Naming.{threes, numbered}
 use Rattle.faces.specs.Indices.{outlineIn, facingIn, trianglesIn, cornersMade, oneFace, planeIn, cornersFloats, oneFloats, Ready, Put}

@@ -9,14 +9,14 @@ use native.Mathlib.Omega.{arith}
 use lib.Ieee.{Float}
 use lib.ListN.{length, drop, length-append}
 use lib.Seq.{sets, sets-eq, length-sets}
-use Rattle.polygon.specs.Loops.{tab, run}
-use Rattle.polygon.proofs.Laws.{run-go, run-end}
-use Rattle.mesh.specs.Lists.{flat}
-use Rattle.mesh.proofs.Lists.{sets-append}
+use Rattle.lists.specs.Loops.{tab, run}
+use Rattle.lists.proofs.Loops.{run-go, run-end}
+use Rattle.lists.specs.Lists.{flat}
+use Rattle.lists.proofs.Lists.{sets-append}
 use Rattle.tables.specs.declared.layout.Plan.{Plan}
-use Rattle.tables.specs.Kept.{Kept}
+use Rattle.lists.specs.Parts.{Kept}
 use Rattle.tables.specs.Soups.{startIn}
-use Rattle.tables.proofs.Keep.{kept-all, kept-then}
+use Rattle.lists.proofs.Keep.{kept-all, kept-then}
 use Rattle.tables.proofs.Stays.{sound-kept}
 use Rattle.faces.specs.Indices.{oneFace, allFaces, oneFloats, allFloats, Ready, Put, Made}
 use Rattle.faces.proofs.Pieces.{length-one, one-kept, one-floats}

@@ -8,17 +8,17 @@ use lib.Ieee.{Float}
 use lib.ListN.{length, getD, drop}
 use lib.Seq.{sets}
 use Rattle.math.specs.declared.vector.V3.{V3}
-use Rattle.polygon.specs.Loops.{pick, tab, run}
+use Rattle.lists.specs.Loops.{pick, tab, run}
 use Rattle.polygon.specs.Points.{spots}
 use Rattle.polygon.specs.Facing.{newell}
 use Rattle.polygon.specs.Plane.{handed, projection, flat2}
 use Rattle.polygon.specs.Ears.{Tri}
 use Rattle.polygon.specs.Face.{triangles}
-use Rattle.mesh.specs.Lists.{place, flat}
+use Rattle.lists.specs.Lists.{place, flat}
 use Rattle.mesh.specs.Soup.{noCorner, Face, Frame}
 use Rattle.mesh.specs.Vertices.{Key, sameKey, keyOf}
 use Rattle.tables.specs.declared.layout.Plan.{Plan}
-use Rattle.tables.specs.Kept.{seg, Kept}
+use Rattle.lists.specs.Parts.{seg, Kept}
 use Rattle.tables.specs.Soups.{startIn, namedIn, pointsIn, Sound}
 use Rattle.faces.specs.Naming.{numbered}
 

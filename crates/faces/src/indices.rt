@@ -4,7 +4,7 @@ ghost use Prim.Native.Nat.{suc, _+_, _-_, _*_, _≤_, _<_};
 ghost use lib.ListN.{length, drop};
 ghost use lib.Seq.{sets};
 ghost use Rattle.polygon.specs.Ears.{flat};
-ghost use Rattle.tables.specs.Kept.{seg, Kept};
+ghost use Rattle.lists.specs.Parts.{seg, Kept};
 ghost use Rattle.tables.specs.Soups.{startIn, Sound};
 ghost use Rattle.faces.specs.Naming.{threes, numbered};
 ghost use Rattle.faces.specs.Indices.{trianglesIn, oneFace, allFaces, planeIn, oneFloats, allFloats, Ready, Put, Made};

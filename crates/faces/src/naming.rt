@@ -8,8 +8,8 @@ ghost use Rattle.polygon.specs.Ears.{triple};
 ghost use Rattle.faces.specs.Naming.{threes, numbered};
 use block::CornerNumber;
 use block::VertexNumber;
-use polygon::get;
-use polygon::put;
+use lists::get;
+use lists::put;
 use tables::wide;
 
 // The corner that place k names before it is renamed, counted from the face's first corner.

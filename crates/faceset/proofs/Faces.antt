@@ -10,11 +10,11 @@ use Rattle.bits.specs.Bits.{entries}
 use Rattle.bits.specs.declared.Words4.{Words4}
 use Rattle.block.specs.Runs.{Run, runOf, runs, kept, faces, sumOver}
 use Rattle.block.proofs.RunLaws.{kept-long, kept-below}
-use Rattle.polygon.specs.Loops.{All}
-use Rattle.mesh.specs.Lists.{mapN, joinN}
+use Rattle.lists.specs.Loops.{All}
+use Rattle.lists.specs.Lists.{mapN, joinN}
 use Rattle.mesh.specs.Soup.{Face, dense}
 use Rattle.mesh.specs.FaceSet.{Rest, pointCount, cornerOf, faceOf, facesOf}
-use Rattle.mesh.proofs.Lists.{All-joinN, length-mapN}
+use Rattle.lists.proofs.Lists.{All-joinN, length-mapN}
 use Rattle.tables.specs.Listed.{Use, Listing, facesWith}
 use Rattle.faceset.specs.Listings.{useOf, listingOf, listed, listingsOf, cornerUse}
 

@@ -3,7 +3,7 @@ use mathlib.Core.Path.{_≡_, refl}
 use mathlib.Core.List.{[], _∷_}
 use Prim.Native.Nat.{ℕ}
 use Rattle.block.specs.Runs.{endsRun, runsFrom, allBelow, kept}
-use Rattle.mesh.specs.Lists.{mapN, joinN}
+use Rattle.lists.specs.Lists.{mapN, joinN}
 use Rattle.faceset.specs.Listings.{useOf, listed, listingsOf}
 
 abbrev minus-one : ℕ

@@ -15,13 +15,13 @@ use Rattle.bits.specs.Bits.{entries}
 use Rattle.bits.proofs.Entries.{entries-length}
 use Rattle.block.specs.Runs.{runOf, runs, runsLeft, RunPart, nextStart, kept, faces, corners, sumOver}
 use Rattle.block.proofs.RunLaws.{runs-turn, sum-turn, sum-ended, kept-below, face-kept, face-lost}
-use Rattle.mesh.specs.Lists.{mapN, joinN}
-use Rattle.mesh.proofs.Lists.{length-mapN, getD-mapN}
+use Rattle.lists.specs.Lists.{mapN, joinN}
+use Rattle.lists.proofs.Lists.{length-mapN, getD-mapN}
 use Rattle.tables.specs.declared.layout.Plan.{Plan}
 use Rattle.tables.specs.Soups.{pointIn, startIn, numberIn, placeIn}
 use Rattle.tables.specs.Listed.{Use, noUse, noListing, Listing, usesAt, Beside}
-use Rattle.tables.proofs.Keep.{set-hit}
-use Rattle.tables.proofs.Written.{written-one}
+use Rattle.lists.proofs.Keep.{set-hit}
+use Rattle.lists.proofs.Written.{written-one}
 use Rattle.tables.proofs.Besides.{beside-all, beside-starts}
 use Rattle.faceset.specs.declared.listing.Progress.{Progress}
 use Rattle.faceset.specs.Listings.{useOf, listingOf, listed, listingsOf}

@@ -11,9 +11,9 @@ use lib.Seq.{length-take-le, getD-take, ext-getD}
 use Rattle.bits.specs.Bits.{entries}
 use Rattle.bits.proofs.Entries.{entries-length}
 use Rattle.tables.specs.declared.layout.Plan.{Plan}
-use Rattle.tables.specs.Kept.{seg, Written}
-use Rattle.tables.proofs.Keep.{length-seg, seg-at}
-use Rattle.tables.proofs.Written.{written-one}
+use Rattle.lists.specs.Parts.{seg, Written}
+use Rattle.lists.proofs.Keep.{length-seg, seg-at}
+use Rattle.lists.proofs.Written.{written-one}
 use Rattle.tables.proofs.Besides.{out-same, beside-then, beside-corners, beside-starts, beside-places, beside-numbers}
 use Rattle.faceset.specs.declared.listing.Progress.{Progress}
 use Rattle.faceset.specs.Written.{Copied, Alike, More}

@@ -4,7 +4,7 @@ use mathlib.Core.Bool.{cond}
 use mathlib.Core.List.{List, [], _∷_}
 use Rattle.bits.specs.declared.Words4.{Words4}
 use Rattle.block.specs.Runs.{Run, runs, kept}
-use Rattle.mesh.specs.Lists.{mapN, joinN}
+use Rattle.lists.specs.Lists.{mapN, joinN}
 use Rattle.mesh.specs.Soup.{Corner}
 use Rattle.mesh.specs.Texture.{fitOf, defaultAt}
 use Rattle.mesh.specs.FaceSet.{Rest, pointCount, cornerBy}

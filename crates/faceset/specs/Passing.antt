@@ -5,7 +5,7 @@ use Prim.Native.Nat.{ℕ, suc, _+_, _/_, _≤_, _<_}
 use lib.ListN.{length, getD, drop}
 use Rattle.bits.specs.Bits.{entries}
 use Rattle.block.specs.Runs.{runs, runsLeft, faces, corners, sumOver}
-use Rattle.mesh.specs.Lists.{joinN}
+use Rattle.lists.specs.Lists.{joinN}
 use Rattle.tables.specs.declared.layout.Plan.{Plan}
 use Rattle.tables.specs.Layout.{most, Room}
 use Rattle.tables.specs.Soups.{pointIn, startIn, numberIn, placeIn}

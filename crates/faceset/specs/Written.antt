@@ -3,7 +3,7 @@ use mathlib.Core.Path.{_≡_}
 use mathlib.Core.List.{List}
 use Prim.Native.Nat.{ℕ, _+_}
 use lib.ListN.{getD, take, drop}
-use Rattle.tables.specs.Kept.{seg, Kept, TableOf}
+use Rattle.lists.specs.Parts.{seg, Kept, TableOf}
 
 -- w′ is w with the n words from a replaced by the first n of xs
 pub record Copied (a n : ℕ) (xs w w′ : List ℕ) : Type 0 where

@@ -6,7 +6,7 @@ ghost use lib.ListN.{length, getD, set};
 ghost use Rattle.bits.specs.Bits.{entries};
 ghost use Rattle.block.specs.Runs.{kept};
 ghost use Rattle.tables.specs.Layout.{most, Room};
-ghost use Rattle.tables.specs.Kept.{Written};
+ghost use Rattle.lists.specs.Parts.{Written};
 ghost use Rattle.faceset.specs.Passing.{Fits, FaceAdded, Planned, Underway, Turned, FacesListed};
 use block::CornerNumber;
 use block::is_kept;

@@ -15,7 +15,7 @@ use Rattle.mesh.specs.Sizes.{listedPoints}
 use Rattle.tables.specs.declared.layout.Plan.{Plan}
 use Rattle.tables.specs.Soups.{pointIn, pointsIn}
 use Rattle.tables.specs.Listed.{Listing, Listed}
-use Rattle.tables.proofs.Keep.{kept-all, kept-seg}
+use Rattle.lists.proofs.Keep.{kept-all, kept-seg}
 use Rattle.tables.proofs.Besides.{beside-kept}
 use Rattle.tables.proofs.Stays.{points-kept}
 use Rattle.tables.proofs.Listings.{listed-sound, listed-kept}

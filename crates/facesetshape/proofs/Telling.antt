@@ -16,19 +16,19 @@ use Rattle.block.specs.declared.settings.Settings.{Settings}
 use Rattle.block.specs.Header.{headerOf}
 use Rattle.block.specs.Settings.{settingsOf}
 use Rattle.block.specs.Lists.{listBytes}
-use Rattle.polygon.specs.Loops.{tab}
-use Rattle.mesh.specs.Lists.{joinN}
+use Rattle.lists.specs.Loops.{tab}
+use Rattle.lists.specs.Lists.{joinN}
 use Rattle.mesh.specs.Soup.{Face, dense}
 use Rattle.mesh.specs.Vertices.{keysOf}
 use Rattle.mesh.specs.FaceSet.{Rest, restOf, coordIn, cornerOf, facesOf, frameOf}
 use Rattle.mesh.specs.declared.texture.Fit.{Fit}
 use Rattle.mesh.specs.Texture.{fitOf, defaultAt}
 use Rattle.mesh.specs.Sizes.{listedPoints}
-use Rattle.mesh.proofs.Lists.{All-getD}
+use Rattle.lists.proofs.Lists.{All-getD}
 use Rattle.tables.specs.declared.layout.Plan.{Plan}
 use Rattle.tables.specs.Soups.{pointIn, pointsIn, placeIn, startIn, Holds}
 use Rattle.tables.specs.Listed.{Listing, noUse, noListing, facesWith, usesAt}
-use Rattle.tables.proofs.Keep.{kept-then}
+use Rattle.lists.proofs.Keep.{kept-then}
 use Rattle.tables.proofs.Stays.{start-le, point-kept, place-kept, start-kept}
 use Rattle.tables.proofs.Listings.{listed-sound}
 use Rattle.corners.specs.Laid.{tablesOf}

@@ -13,7 +13,7 @@ use Rattle.block.specs.Runs.{faces, corners, sumOver}
 use Rattle.mesh.specs.Texture.{fitOf}
 use Rattle.mesh.specs.Sizes.{coordRuns, listedPoints}
 use Rattle.tables.specs.declared.layout.Plan.{Plan}
-use Rattle.tables.specs.Kept.{Kept}
+use Rattle.lists.specs.Parts.{Kept}
 use Rattle.tables.specs.Layout.{planOf}
 use Rattle.tables.specs.Soups.{pointsIn}
 use Rattle.tables.specs.Listed.{Listed}

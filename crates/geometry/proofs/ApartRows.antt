@@ -10,7 +10,7 @@ use Rattle.block.specs.Header.{countsOf, headerOf}
 use Rattle.block.specs.Lists.{widths, wordsIn, wordCount, listAt, listSize, placeOf}
 use Rattle.block.specs.Refusal.{blockRows, firstOf}
 use Rattle.block.specs.Runs.{endsRun, runsFrom, allBelow, kept, corners, triangles, sumOver}
-use Rattle.mesh.specs.Lists.{flat}
+use Rattle.lists.specs.Lists.{flat}
 use Rattle.mesh.specs.Sizes.{faceSetSizes, sizesOf, isNoShape, isOverCorners, shapeRows}
 use Rattle.mesh.specs.Result.{made}
 use Rattle.mesh.specs.OneRun.{OthersStay}

@@ -12,7 +12,7 @@ use Rattle.block.specs.Lists.{widths, wordsIn, wordCount, listAt, listSize, pla
 use Rattle.block.specs.Runs.{allBelow, endsRun, runsFrom, kept, corners, triangles, sumOver}
 use Rattle.block.specs.Refusal.{blockRows, firstOf}
 use Rattle.block.proofs.TableRows.{bytesOf, gridHeader, gridRest, grid}
-use Rattle.polygon.specs.Loops.{tab}
+use Rattle.lists.specs.Loops.{tab}
 use Rattle.mesh.specs.Arcs.{at2}
 use Rattle.mesh.specs.Extrusion.{sectionOf, closes, capLength}
 use Rattle.mesh.specs.Sizes.{named, linesAfter, faceSetSizes, lineSetSizes, gridSizes, extrusionSizes, sizesOf, isNoShape, isOverCorners, shapeRows}

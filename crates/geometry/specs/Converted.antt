@@ -45,7 +45,7 @@ abbrev pub cleared : {A : Type 0} → ℕ → A → List A → List A
 cleared zero z held = replicate (length held) z
 cleared (suc n) z held = held
 
--- FORMAT 3, 4, 5: a call on the block bs, with l lent, left m and answered r
+-- FORMAT 3, 4, 5: a call with what its caller chose, on the block bs, with l lent, left m and answered r
 pub record Converted (call : Call) (bs : List ℕ) (l m : Lending) (r : Answer) : Type 0 where
   pub answer : saying r ≡ said (numberFor bs l) (resultFor call bs)
   pub slices : m .slices ≡ afterAll (numberFor bs l) (made (call .colour) bs) (l .slices)

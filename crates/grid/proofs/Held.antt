@@ -5,17 +5,17 @@ use Prim.Native.Nat.{ℕ, suc, _+_, _-_, _*_, _/_, _%_, _≤_, _<_}
 use native.Mathlib.Nat.{one-mul}
 use native.Mathlib.Omega.{arith}
 use lib.ListN.{length, getD}
-use Rattle.polygon.proofs.Tabs.{length-tab, tab-at}
+use Rattle.lists.proofs.Tabs.{length-tab, tab-at}
 use Rattle.block.specs.declared.header.Header.{Header}
 use Rattle.mesh.specs.Quads.{quad}
 use Rattle.mesh.specs.Grid.{xDimension, zDimension}
-use Rattle.mesh.proofs.Lists.{getD-map-lt}
+use Rattle.lists.proofs.Lists.{getD-map-lt}
 use Rattle.tables.specs.declared.layout.Plan.{Plan}
-use Rattle.tables.specs.Kept.{Kept, TableOf, Written}
+use Rattle.lists.specs.Parts.{Kept, TableOf, Written}
 use Rattle.tables.specs.Layout.{most}
 use Rattle.tables.specs.Soups.{pointIn, startIn, numberIn, placeIn}
 use Rattle.tables.specs.Listed.{Use, noUse, Listing, noListing, usesAt, Beside, Listed}
-use Rattle.tables.proofs.Keep.{kept-then, table-kept}
+use Rattle.lists.proofs.Keep.{kept-then, table-kept}
 use Rattle.tables.proofs.Besides.{beside-then, beside-corners, beside-starts, beside-places, beside-numbers}
 use Rattle.grid.specs.Sides.{Planned}
 use Rattle.grid.specs.Listings.{quadOf, cornerPoint, useOf, gridListing, gridListings}

@@ -1,7 +1,7 @@
 -- FORMAT 8.3: a row, computed: the two quads of a grid of 3 by 2 points.
 use mathlib.Core.Path.{_≡_, refl}
 use mathlib.Core.List.{[], _∷_}
-use Rattle.polygon.specs.Loops.{tab}
+use Rattle.lists.specs.Loops.{tab}
 use Rattle.mesh.specs.Quads.{quad}
 use Rattle.grid.specs.Listings.{useOf, gridListing, gridListings}
 

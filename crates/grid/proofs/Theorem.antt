@@ -6,7 +6,7 @@ use Prim.Native.Nat.{ℕ, _+_, _-_, _*_, _/_, _%_, _≤_, _<_}
 use native.Mathlib.Nat.{mul-comm}
 use native.Mathlib.Omega.{arith}
 use lib.ListN.{length, getD}
-use Rattle.polygon.proofs.Tabs.{tab-same, map-tab}
+use Rattle.lists.proofs.Tabs.{tab-same, map-tab}
 use Rattle.bits.specs.declared.Words4.{Words4}
 use Rattle.block.specs.declared.header.Header.{Header}
 use Rattle.block.specs.Kind.{isIndexed}
@@ -15,10 +15,10 @@ use Rattle.block.specs.Settings.{settingsOf}
 use Rattle.mesh.specs.FaceSet.{Rest, cornerBy}
 use Rattle.mesh.specs.Quads.{quad}
 use Rattle.mesh.specs.Grid.{xDimension, zDimension, gridDefault, gridCorner, gridFaces, gridOf}
-use Rattle.mesh.specs.Lists.{total}
+use Rattle.lists.specs.Lists.{total}
 use Rattle.mesh.specs.Sizes.{quadCount}
-use Rattle.mesh.proofs.Lists.{getD-map-lt}
-use Rattle.mesh.proofs.Tabs.{total-tab}
+use Rattle.lists.proofs.Lists.{getD-map-lt}
+use Rattle.lists.proofs.Totals.{total-tab}
 use Rattle.mesh.proofs.Shapes.{grid-listed}
 use Rattle.tables.specs.Listed.{Use, noUse, Listing, facesWith}
 use Rattle.texture.proofs.Streams.{texture-grid}

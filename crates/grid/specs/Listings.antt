@@ -3,7 +3,7 @@ use mathlib.Core.List.{List, []}
 use Prim.Native.Nat.{ℕ, _+_, _-_, _*_, _/_, _%_}
 use lib.ListN.{getD}
 use Rattle.bits.specs.declared.Words4.{Words4}
-use Rattle.polygon.specs.Loops.{tab}
+use Rattle.lists.specs.Loops.{tab}
 use Rattle.mesh.specs.Soup.{Corner}
 use Rattle.mesh.specs.FaceSet.{Rest, cornerBy}
 use Rattle.mesh.specs.Quads.{quad}

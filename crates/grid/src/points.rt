@@ -6,7 +6,7 @@ ghost use Rattle.bits.specs.Bits.{entries};
 ghost use Rattle.block.specs.Lists.{listBytes};
 ghost use Rattle.mesh.specs.Words.{words3};
 ghost use Rattle.mesh.specs.Grid.{xDimension, zDimension, whole, stepWord, gridPoint, gridPoints};
-ghost use Rattle.tables.specs.Kept.{spliced};
+ghost use Rattle.lists.specs.Parts.{spliced};
 ghost use Rattle.grid.specs.Sides.{Sides};
 use bits::Words3;
 use block::Header;

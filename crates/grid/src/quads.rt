@@ -3,7 +3,7 @@ ghost use mathlib.Core.Path.{_≡_};
 ghost use Prim.Native.Nat.{ℕ, _+_, _-_, _*_, _≤_, _<_};
 ghost use lib.ListN.{length};
 ghost use Rattle.mesh.specs.Grid.{xDimension, zDimension};
-ghost use Rattle.tables.specs.Kept.{Written};
+ghost use Rattle.lists.specs.Parts.{Written};
 ghost use Rattle.tables.specs.Layout.{most};
 ghost use Rattle.tables.specs.Listed.{Beside, Listed};
 ghost use Rattle.grid.specs.Sides.{Planned};

@@ -16,7 +16,7 @@ use Rattle.mesh.specs.Grid.{xDimension, zDimension, gridOf, gridFaces, gridFram
 use Rattle.mesh.specs.Sizes.{quadCount, gridSizes}
 use Rattle.tables.specs.declared.layout.Plan.{Plan}
 use Rattle.tables.specs.Soups.{startIn}
-use Rattle.tables.proofs.Keep.{kept-then}
+use Rattle.lists.proofs.Keep.{kept-then}
 use Rattle.tables.proofs.Listings.{listed-kept}
 use Rattle.corners.specs.Laid.{tablesOf, Laid}
 use Rattle.corners.specs.Corner.{Lent}

@@ -12,11 +12,11 @@ use Rattle.block.specs.Lists.{listBytes}
 use Rattle.mesh.specs.Grid.{xDimension, zDimension, gridPoints}
 use Rattle.tables.specs.declared.layout.Plan.{Plan}
 use Rattle.mesh.proofs.Sizes.{grid-words}
-use Rattle.tables.specs.Kept.{seg, spliced, Kept}
+use Rattle.lists.specs.Parts.{seg, spliced, Kept}
 use Rattle.tables.specs.Soups.{pointIn, pointsIn}
 use Rattle.tables.specs.Listed.{Beside, Listed}
-use Rattle.tables.proofs.Keep.{kept-all, kept-seg}
-use Rattle.tables.proofs.Splices.{put-gives}
+use Rattle.lists.proofs.Keep.{kept-all, kept-seg}
+use Rattle.lists.proofs.Splices.{put-gives}
 use Rattle.tables.proofs.Besides.{beside-kept}
 use Rattle.tables.proofs.Listings.{listed-kept}
 use Rattle.corners.specs.Laid.{tablesAt, tablesOf}

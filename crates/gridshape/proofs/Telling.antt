@@ -14,20 +14,20 @@ use Rattle.block.specs.declared.header.Header.{Header}
 use Rattle.block.specs.declared.settings.Settings.{Settings}
 use Rattle.block.specs.Header.{headerOf}
 use Rattle.block.specs.Settings.{settingsOf}
-use Rattle.polygon.specs.Loops.{tab}
-use Rattle.polygon.proofs.Tabs.{tab-at}
-use Rattle.mesh.specs.Lists.{joinN}
+use Rattle.lists.specs.Loops.{tab}
+use Rattle.lists.proofs.Tabs.{tab-at}
+use Rattle.lists.specs.Lists.{joinN}
 use Rattle.mesh.specs.Soup.{Face}
 use Rattle.mesh.specs.Vertices.{keysOf}
 use Rattle.mesh.specs.FaceSet.{Rest}
 use Rattle.mesh.specs.Quads.{quad}
 use Rattle.mesh.specs.Grid.{xDimension, zDimension, gridDefault, gridOf, gridFaces, gridFrame}
 use Rattle.mesh.specs.Sizes.{quadCount}
-use Rattle.mesh.proofs.Lists.{getD-map-lt}
+use Rattle.lists.proofs.Lists.{getD-map-lt}
 use Rattle.tables.specs.declared.layout.Plan.{Plan}
 use Rattle.tables.specs.Soups.{pointIn, startIn, Holds}
 use Rattle.tables.specs.Listed.{Use, Listing, noUse, noListing, facesWith, usesAt}
-use Rattle.tables.proofs.Keep.{kept-then}
+use Rattle.lists.proofs.Keep.{kept-then}
 use Rattle.tables.proofs.Stays.{start-le, point-kept, start-kept}
 use Rattle.tables.proofs.Listings.{listed-sound}
 use Rattle.corners.specs.Laid.{tablesOf}

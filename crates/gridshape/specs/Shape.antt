@@ -14,7 +14,7 @@ use Rattle.mesh.specs.Mesh.{Slices}
 use Rattle.mesh.specs.Grid.{xDimension, zDimension, gridPoints}
 use Rattle.mesh.specs.Sizes.{quadCount, sizesOf}
 use Rattle.tables.specs.declared.layout.Plan.{Plan}
-use Rattle.tables.specs.Kept.{Kept}
+use Rattle.lists.specs.Parts.{Kept}
 use Rattle.tables.specs.Layout.{planOf}
 use Rattle.tables.specs.Soups.{pointIn, pointsIn}
 use Rattle.tables.specs.Listed.{Listed}

@@ -9,12 +9,12 @@ use lib.ListN.{length, getD, set, drop, drop-of-length-le, length-set}
 use Rattle.bits.specs.Bits.{entries}
 use Rattle.block.specs.Runs.{runOf, runs, runsLeft, RunPart, nextStart, sumOver}
 use Rattle.block.proofs.RunLaws.{runs-turn, runs-over}
-use Rattle.mesh.specs.Lists.{mapN, joinN}
+use Rattle.lists.specs.Lists.{mapN, joinN}
 use Rattle.mesh.specs.Lines.{these, somes}
 use Rattle.mesh.specs.Sizes.{named}
-use Rattle.mesh.proofs.Lists.{All-getD}
-use Rattle.tables.specs.Kept.{Kept, TableOf}
-use Rattle.tables.proofs.Keep.{kept-all, kept-set, set-miss, table-none, table-more}
+use Rattle.lists.proofs.Lists.{All-getD}
+use Rattle.lists.specs.Parts.{Kept, TableOf}
+use Rattle.lists.proofs.Keep.{kept-all, kept-set, set-miss, table-none, table-more}
 use Rattle.corners.specs.declared.laid.CornerTables.{CornerTables}
 use Rattle.corners.specs.Laid.{Laid}
 use Rattle.corners.specs.Corner.{pointAt, placeAt, numberAt}

@@ -10,7 +10,7 @@ use lib.ListN.{getD, drop}
 use Rattle.bits.specs.Bits.{entries}
 use Rattle.bits.specs.declared.Words4.{Words4}
 use Rattle.block.specs.Runs.{Run, runs}
-use Rattle.mesh.specs.Lists.{mapN, joinN, place}
+use Rattle.lists.specs.Lists.{mapN, joinN, place}
 use Rattle.mesh.specs.Words.{no2, no3}
 use Rattle.mesh.specs.Vertices.{Key, sameKey}
 use Rattle.mesh.specs.FaceSet.{Rest, pointCount, colourOf}

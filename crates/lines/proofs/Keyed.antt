@@ -19,15 +19,15 @@ use Rattle.block.specs.Runs.{runs, sumOver}
 use Rattle.block.specs.Value.{value4At}
 use Rattle.block.specs.Stream as stream
 use Rattle.block.specs.Stream.{streamOf, get4At}
-use Rattle.polygon.specs.Loops.{tab}
-use Rattle.polygon.proofs.Tabs.{length-tab, getD-tab}
+use Rattle.lists.specs.Loops.{tab}
+use Rattle.lists.proofs.Tabs.{length-tab, getD-tab}
 use Rattle.mesh.specs.Words.{words2, words3, words4, no2, no3, no4}
 use Rattle.mesh.specs.Vertices.{noKey}
 use Rattle.mesh.specs.FaceSet.{restOf, coordIn, pointCount, colourOf}
 use Rattle.mesh.specs.Sizes.{named}
-use Rattle.mesh.proofs.Lists.{getD-map-lt}
-use Rattle.tables.specs.Kept.{seg}
-use Rattle.tables.proofs.Keep.{kept-seg}
+use Rattle.lists.proofs.Lists.{getD-map-lt}
+use Rattle.lists.specs.Parts.{seg}
+use Rattle.lists.proofs.Keep.{kept-seg}
 use Rattle.vertices.specs.declared.places.Widths.{Widths}
 use Rattle.vertices.specs.Search.{two, three, four, cornerKey}
 use Rattle.vertices.specs.Adding.{pointsIn}

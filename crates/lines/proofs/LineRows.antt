@@ -3,7 +3,7 @@ use mathlib.Core.Path.{_≡_, refl}
 use mathlib.Core.List.{List, [], _∷_}
 use Prim.Native.Nat.{ℕ}
 use Rattle.block.specs.Runs.{endsRun, runsFrom, runs}
-use Rattle.mesh.specs.Lists.{mapN, joinN}
+use Rattle.lists.specs.Lists.{mapN, joinN}
 use Rattle.mesh.specs.Lines.{somes}
 use Rattle.mesh.specs.Sizes.{named}
 use Rattle.lines.specs.Uses.{LineUse, useOf, runUses, lineUses}

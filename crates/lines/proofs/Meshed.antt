@@ -5,20 +5,19 @@ use Prim.Native.Nat.{ℕ, _+_, _*_}
 use native.Mathlib.Nat.{add-zero, zero-add}
 use native.Mathlib.Omega.{arith}
 use lib.ListN.{length, getD, drop, length-map}
-use Rattle.polygon.proofs.Tabs.{length-tab, tab-shift, map-tab}
+use Rattle.lists.proofs.Tabs.{length-tab, tab-shift, map-tab, seg-tab}
 use Rattle.bits.specs.Bits.{entries}
 use Rattle.bits.specs.declared.Words4.{Words4}
 use Rattle.block.specs.Runs.{runs, sumOver}
-use Rattle.mesh.specs.Lists.{joinN, place, firsts}
+use Rattle.lists.specs.Lists.{joinN, place, firsts}
 use Rattle.mesh.specs.Words.{words3, words4, pointWords}
 use Rattle.mesh.specs.Vertices.{Key, sameKey}
 use Rattle.mesh.specs.Mesh.{meshOf, slicesOf}
 use Rattle.mesh.specs.FaceSet.{Rest}
 use Rattle.mesh.specs.Lines.{lineKeys, lineVertices, lineIndices, linesOf, lineFrame}
 use Rattle.mesh.specs.Sizes.{named}
-use Rattle.mesh.proofs.Lists.{length-words}
-use Rattle.tables.specs.Kept.{seg}
-use Rattle.tables.proofs.Tabs.{seg-tab}
+use Rattle.lists.proofs.Lists.{length-words}
+use Rattle.lists.specs.Parts.{seg}
 use Rattle.vertices.specs.declared.places.Widths.{Widths}
 use Rattle.vertices.specs.Places.{Store}
 use Rattle.vertices.specs.Adding.{Holds, madeOf}

@@ -16,8 +16,8 @@ use Rattle.block.specs.Runs.{runs, runsLeft, RunPart, nextStart, sumOver}
 use Rattle.block.proofs.RunLaws.{runs-turn, runs-over, sum-turn}
 use Rattle.mesh.specs.Lines.{line}
 use Rattle.mesh.specs.Sizes.{named, linesAfter}
-use Rattle.mesh.proofs.Lists.{sets-append}
-use Rattle.tables.specs.Kept.{seg}
+use Rattle.lists.proofs.Lists.{sets-append}
+use Rattle.lists.specs.Parts.{seg}
 use Rattle.lines.specs.declared.pairing.Progress.{Progress}
 use Rattle.lines.specs.Added.{Added}
 use Rattle.lines.specs.Steps.{lastOf, vertexAt, cornerAfter, pairs, runPairs, Stepped, RunPut, Put}

@@ -8,11 +8,11 @@ use borrow.Author.Tests.{ltb-true, lt-ltb, le-ltb}
 use lib.Dec.{ltb}
 use lib.ListN.{length, getD, length-append}
 use Rattle.block.specs.Runs.{Run, runOf, runs, sumOver}
-use Rattle.polygon.specs.Loops.{All}
-use Rattle.mesh.specs.Lists.{mapN, joinN}
+use Rattle.lists.specs.Loops.{All}
+use Rattle.lists.specs.Lists.{mapN, joinN}
 use Rattle.mesh.specs.Lines.{these, somes}
 use Rattle.mesh.specs.Sizes.{named}
-use Rattle.mesh.proofs.Lists.{All-joinN}
+use Rattle.lists.proofs.Lists.{All-joinN}
 use Rattle.lines.specs.Uses.{LineUse, useOf, runUses, lineUses}
 
 -- ---- one entry

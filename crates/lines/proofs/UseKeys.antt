@@ -9,7 +9,7 @@ use lib.ListN.{length, length-map}
 use Rattle.bits.specs.Bits.{entries}
 use Rattle.bits.specs.declared.Words4.{Words4}
 use Rattle.block.specs.Runs.{Run, runs, sumOver}
-use Rattle.mesh.specs.Lists.{mapN, joinN}
+use Rattle.lists.specs.Lists.{mapN, joinN}
 use Rattle.mesh.specs.Words.{no2, no3}
 use Rattle.mesh.specs.Vertices.{Key}
 use Rattle.mesh.specs.FaceSet.{Rest, pointCount, colourOf}

@@ -9,8 +9,8 @@ use lib.ListN.{length, drop, replicate}
 use Rattle.bits.specs.Bits.{entries}
 use Rattle.bits.specs.declared.Words4.{Words4}
 use Rattle.block.specs.Runs.{runs, sumOver}
-use Rattle.polygon.specs.Loops.{tab}
-use Rattle.mesh.specs.Lists.{joinN}
+use Rattle.lists.specs.Loops.{tab}
+use Rattle.lists.specs.Lists.{joinN}
 use Rattle.mesh.specs.Mesh.{Slices, slicesOf}
 use Rattle.mesh.specs.FaceSet.{Rest, pointCount}
 use Rattle.mesh.specs.Lines.{lineKeys, linesOf}

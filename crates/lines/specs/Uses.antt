@@ -7,9 +7,9 @@ use Prim.Native.Nat.{ℕ, suc, _+_, _<_}
 use lib.Dec.{ltb}
 use lib.ListN.{getD, set}
 use Rattle.block.specs.Runs.{Run, runs}
-use Rattle.mesh.specs.Lists.{mapN, joinN}
+use Rattle.lists.specs.Lists.{mapN, joinN}
 use Rattle.mesh.specs.Lines.{somes}
-use Rattle.tables.specs.Kept.{Kept}
+use Rattle.lists.specs.Parts.{Kept}
 use Rattle.corners.specs.declared.laid.CornerTables.{CornerTables}
 use Rattle.corners.specs.Corner.{pointAt, placeAt, numberAt}
 

@@ -9,7 +9,7 @@ ghost use Rattle.bits.specs.Bits.{entries};
 ghost use Rattle.block.specs.Runs.{runs, sumOver};
 ghost use Rattle.mesh.specs.Lines.{line};
 ghost use Rattle.mesh.specs.Sizes as sizes;
-ghost use Rattle.tables.specs.Kept.{seg};
+ghost use Rattle.lists.specs.Parts.{seg};
 ghost use Rattle.lines.specs.Added.{Added};
 ghost use Rattle.lines.specs.Steps.{lastOf, vertexAt, pairs, runPairs, Stepped, RunPut, Put};
 use block::CornerNumber;

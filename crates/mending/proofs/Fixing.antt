@@ -16,14 +16,14 @@ use Rattle.math.specs.declared.vector.Unit.{Unit}
 use Rattle.math.specs.declared.vector.Unit.the-variants.{Of, Nothing}
 use Rattle.math.specs.Vector.{yAxis, vlen, unitOf, oneF}
 use Rattle.math.specs.Order.{magnitude}
-use Rattle.polygon.specs.Loops.{tab}
-use Rattle.polygon.proofs.Tabs.{length-tab, map-tab}
-use Rattle.mesh.specs.Lists.{mapN, flat}
+use Rattle.lists.specs.Loops.{tab}
+use Rattle.lists.proofs.Tabs.{length-tab, map-tab}
+use Rattle.lists.specs.Lists.{mapN, flat}
 use Rattle.mesh.specs.Words.{words3, floats, bits, pointWords}
 use Rattle.mesh.specs.Mend.{visible, orWords, renorm, vertexSpot, firstNormal, mendBy, mended}
 use Rattle.mesh.specs.Mesh.{meshOf}
-use Rattle.mesh.proofs.Lists.{All-of, length-words, length-mapN, or-right}
-use Rattle.mesh.proofs.Tabs.{mapN-tab}
+use Rattle.lists.proofs.Lists.{All-of, length-words, length-mapN, or-right}
+use Rattle.lists.proofs.Totals.{mapN-tab}
 use Rattle.mending.specs.Mend.{lentFrame, lentKey, lentKeys, mendedWords, found, Firsts, isNone, badAt, anyBad, Served}
 use Rattle.mending.proofs.Threes.{Threes, threes-start, threes-go, threes-end}
 use Rattle.mending.proofs.Lent.{first-same, spot-in, spot-out}

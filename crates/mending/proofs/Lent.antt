@@ -7,8 +7,8 @@ use native.Mathlib.Nat.{add-zero, zero-add, add-suc, suc-add}
 use native.Mathlib.Omega.{arith}
 use lib.Dec.{eqb}
 use lib.ListN.{length, getD, List·getD-eq-default}
-use Rattle.polygon.specs.Loops.{tab, All}
-use Rattle.polygon.proofs.Tabs.{length-tab, getD-tab}
+use Rattle.lists.specs.Loops.{tab, All}
+use Rattle.lists.proofs.Tabs.{length-tab, getD-tab}
 use Rattle.polygon.specs.Points.{spot}
 use Rattle.mesh.specs.Words.{floats, pointWords}
 use Rattle.mesh.specs.Soup.{Frame}

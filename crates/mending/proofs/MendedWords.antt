@@ -7,15 +7,15 @@ use lib.ListN.{length, getD, drop, length-map}
 use lib.Seq.{ext-getD, drop-at}
 use Rattle.bits.specs.declared.Words3.{Words3}
 use Rattle.math.specs.Vector.{unitOf}
-use Rattle.polygon.specs.Loops.{All}
-use Rattle.polygon.proofs.Tabs.{length-tab}
-use Rattle.mesh.specs.Lists.{mapN, flat}
+use Rattle.lists.specs.Loops.{All}
+use Rattle.lists.proofs.Tabs.{length-tab}
+use Rattle.lists.specs.Lists.{mapN, flat}
 use Rattle.mesh.specs.Words.{words3, floats, pointWords, no3}
 use Rattle.mesh.specs.Soup.{Frame}
 use Rattle.mesh.specs.Vertices.{Key, noKey}
 use Rattle.mesh.specs.Mend.{vertexSpot, mendBy, mended}
 use Rattle.mesh.specs.Mesh.{meshOf}
-use Rattle.mesh.proofs.Lists.{All-map, getD-map-lt, length-mapN, getD-mapN, length-words}
+use Rattle.lists.proofs.Lists.{All-map, getD-map-lt, length-mapN, getD-mapN, length-words}
 use Rattle.mending.specs.Mend.{lentFrame, lentKey, lentKeys, mendedWords}
 use Rattle.mending.proofs.Lent.{floats-spot, key-at, spot-in, first-same}
 

@@ -6,9 +6,9 @@ use lib.Ieee.{ofBits, toBits}
 use Rattle.math.specs.SquareRoot.{rootOf}
 use Rattle.math.specs.Vector.{vlen, unitOf}
 use Rattle.math.specs.Order.{magnitude}
-use Rattle.polygon.specs.Loops.{tab}
+use Rattle.lists.specs.Loops.{tab}
 use Rattle.polygon.specs.Points.{spot}
-use Rattle.mesh.specs.Lists.{mapN, flat}
+use Rattle.lists.specs.Lists.{mapN, flat}
 use Rattle.mesh.specs.Words.{pointWords}
 use Rattle.mesh.specs.Normals.{orElse}
 use Rattle.mesh.specs.Mend.{mended, mendBy, renorm, orWords, firstNormal, triNormal, vertexSpot}

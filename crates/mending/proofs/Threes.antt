@@ -7,9 +7,9 @@ use native.Mathlib.Numerals.{add-one}
 use native.Mathlib.Omega.{arith}
 use lib.ListN.{length, getD, set, length-set}
 use lib.Seq.{sets, getD-set-same, getD-set-other}
-use Rattle.polygon.specs.Loops.{tab}
-use Rattle.mesh.specs.Lists.{flat}
-use Rattle.mesh.proofs.Lists.{sets-append}
+use Rattle.lists.specs.Loops.{tab}
+use Rattle.lists.specs.Lists.{flat}
+use Rattle.lists.proofs.Lists.{sets-append}
 
 -- ---- a run of stores
 

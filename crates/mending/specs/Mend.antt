@@ -9,9 +9,9 @@ use Rattle.math.specs.declared.vector.V3.{V3}
 use Rattle.math.specs.declared.vector.Unit.{Unit}
 use Rattle.math.specs.declared.vector.Unit.the-variants.{Of, Nothing}
 use Rattle.math.specs.Vector.{yAxis, unitOf}
-use Rattle.polygon.specs.Loops.{tab}
+use Rattle.lists.specs.Loops.{tab}
 use Rattle.block.specs.declared.crease.CreaseRule.the-variants.{Own}
-use Rattle.mesh.specs.Lists.{flat}
+use Rattle.lists.specs.Lists.{flat}
 use Rattle.mesh.specs.Words.{words3, floats, pointWords, no2, no4}
 use Rattle.mesh.specs.Soup.{Frame}
 use Rattle.mesh.specs.Normals.{orElse}

@@ -13,10 +13,10 @@ ghost use Rattle.mending.specs.Mend.{lentFrame, lentKeys, mendedWords, t
 use crate::words::put_three;
 use bits::Words3;
 use block::VertexNumber;
+use lists::get;
+use lists::put;
 use math::Unit;
 use math::V3;
-use polygon::get;
-use polygon::put;
 
 // ---- the words of a vertex
 

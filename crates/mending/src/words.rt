@@ -3,7 +3,7 @@ ghost use mathlib.Core.Path.{_≡_};
 ghost use mathlib.Core.List.{[], _∷_};
 ghost use Prim.Native.Nat.{_^_, _<_};
 ghost use lib.Seq.{sets};
-use polygon::put;
+use lists::put;
 
 pub fn put_three(l: &mut [u32], k: usize, a: u32, b: u32, c: u32)
     requires { ⌜ k < 2 ^ 40 ⌝ }

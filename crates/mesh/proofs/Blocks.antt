@@ -17,12 +17,12 @@ use Rattle.block.specs.Lists.{widths, wordsIn, listAt, listSize, placeOf}
 use Rattle.block.specs.Runs.{endsRun, runsFrom, allBelow, kept}
 use Rattle.block.specs.Stream.{itself, chosen, numberIn, numberAt}
 use Rattle.block.specs.Value.{valueAt}
-use Rattle.mesh.specs.Lists.{mapN, flat}
+use Rattle.lists.specs.Lists.{mapN, flat}
 use Rattle.mesh.specs.Words.{no4}
 use Rattle.mesh.specs.Mesh.{slicesOf, normalAt}
 use Rattle.mesh.specs.FaceSet.{restOf, coordIn, runsIn, normalOf, cornerBy, cornerOf, faceOf, facesOf, faceSetMesh}
 use Rattle.mesh.specs.OneRun.{byteOf, OneRun, runPart, names, NormalsApart, own, apart, supplied}
-use Rattle.mesh.proofs.Lists.{T-true}
+use Rattle.lists.proofs.Lists.{T-true}
 use Rattle.mesh.proofs.OneRun.{one-run}
 use Rattle.mesh.proofs.Sample.{bytesOf, end, w1}
 

@@ -8,7 +8,7 @@ use native.Mathlib.Omega.{arith}
 use lib.Dec.{eqb}
 use lib.ListN.{length, length-append}
 use Rattle.block.specs.Edition.{edition1}
-use Rattle.mesh.specs.Lists.{joinN, total}
+use Rattle.lists.specs.Lists.{joinN, total}
 use Rattle.mesh.specs.Soup.{Corner, Face, Frame}
 use Rattle.mesh.specs.Normals.{facing, Hit, hits, hitsOf, incident}
 use Rattle.mesh.specs.Budget.{creaseBudget, asked, askedBy, askedInAll}

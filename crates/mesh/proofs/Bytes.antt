@@ -15,7 +15,7 @@ use Rattle.block.proofs.Reading.{header-same, settings-same}
 use Rattle.block.proofs.ListLaws.{words-more}
 use Rattle.mesh.specs.FaceSet.{restOf, coordIn, runsIn}
 use Rattle.mesh.specs.OneRun.{runIn, byteOf, OneRun}
-use Rattle.mesh.proofs.Lists.{drop-take, back, middle}
+use Rattle.lists.proofs.Lists.{drop-take, back, middle}
 use Rattle.mesh.proofs.Runs.{run-within, OneRunOf}
 
 -- ---- the header and the twelve words

@@ -8,20 +8,20 @@ use native.Mathlib.Omega.{arith}
 use lib.Dec.{T}
 use lib.ListN.{length, getD, length-map}
 use Rattle.bits.specs.declared.Words3.{Words3}
-use Rattle.polygon.specs.Loops.{All}
+use Rattle.lists.specs.Loops.{All}
 use Rattle.polygon.specs.Points.{spot, spots}
 use Rattle.polygon.specs.Ears.{Tri}
 use Rattle.polygon.specs.Edges.{Within}
 use Rattle.polygon.specs.Face.{triangles}
 use Rattle.polygon.proofs.Triangles.{triangles-count, triangles-within}
-use Rattle.mesh.specs.Lists.{mapN, joinN, has, place}
+use Rattle.lists.specs.Lists.{mapN, joinN, has, place}
 use Rattle.mesh.specs.Words.{words2, words3, words4, no2, no3, no4, pointWords}
 use Rattle.mesh.specs.Soup.{Corner, noCorner, Face, pointsOf, Frame}
 use Rattle.mesh.specs.Normals.{outline, facing, cornerNormal}
 use Rattle.mesh.specs.Vertices.{Key, noKey, sameKey, keyOf, keysOf, vertices, wound, locals, faceIndices, indicesOf, width}
 use Rattle.mesh.specs.Mend.{Usable, renorm, firstNormal, mended}
 use Rattle.mesh.specs.Mesh.{meshOf, mesh, slicesOf, Shown, shownAt, normalAt, partOf}
-use Rattle.mesh.proofs.Lists.{All-map, All-getD, map-All, getD-map-lt, getD-mapN, length-mapN, piece, in-flat, has-firsts-new, has-getD, has-joinN, place-lt, getD-place}
+use Rattle.lists.proofs.Lists.{All-map, All-getD, map-All, getD-map-lt, getD-mapN, length-mapN, piece, in-flat, has-firsts-new, has-getD, has-joinN, place-lt, getD-place}
 use Rattle.mesh.proofs.Keys.{sameKey-sound, sameKey-self}
 use Rattle.mesh.proofs.Usable.{mend-usable}
 

@@ -15,14 +15,14 @@ use Rattle.math.specs.declared.vector.Unit.the-variants.{Of, Nothing}
 use Rattle.math.specs.Vector.{v3, zeroF, yAxis, vadd, unitOf}
 use Rattle.block.specs.declared.crease.CreaseRule.{CreaseRule}
 use Rattle.block.specs.declared.crease.CreaseRule.the-variants.{Own, Every, Bound}
-use Rattle.polygon.specs.Loops.{All}
-use Rattle.mesh.specs.Lists.{joinN, firsts, place}
+use Rattle.lists.specs.Loops.{All}
+use Rattle.lists.specs.Lists.{joinN, firsts, place}
 use Rattle.mesh.specs.Words.{bits}
 use Rattle.mesh.specs.Soup.{Corner, Face, dense, Frame}
 use Rattle.mesh.specs.Normals.{facing, Hit, hits, hitsOf, incident, sumAll, isNear, sumNear, nearSum, creaseSum, orElse, generated, cornerNormal}
 use Rattle.mesh.specs.Vertices.{Key, noKey, sameKey, keyOf, keysOf, vertices, locals, faceIndices, indicesOf, width}
 use Rattle.mesh.specs.Mesh.{meshOf, mesh}
-use Rattle.mesh.proofs.Lists.{All-map, All-append, joinN-append}
+use Rattle.lists.proofs.Lists.{All-map, All-append, joinN-append}
 use Rattle.mesh.proofs.Sums.{near-append, step-own, step-other}
 use Rattle.mesh.proofs.Corners.{length-locals}
 

@@ -17,15 +17,15 @@ use Rattle.block.specs.Runs.{Run, runs, kept, corners, triangles, sumOver}
 use Rattle.block.specs.Stream.{isNegative, chosen, entryAt, numberIn, numberAt}
 use Rattle.block.specs.Value.{value2At, value3At, value4At}
 use Rattle.block.specs.Texture.{uvWords}
-use Rattle.polygon.specs.Loops.{All}
-use Rattle.mesh.specs.Lists.{mapN, total}
+use Rattle.lists.specs.Loops.{All}
+use Rattle.lists.specs.Lists.{mapN, total}
 use Rattle.mesh.specs.Words.{no2, no3, no4}
 use Rattle.mesh.specs.Soup.{Corner, Face}
 use Rattle.mesh.specs.Vertices.{width}
 use Rattle.mesh.specs.Texture.{fitOf, defaultAt}
 use Rattle.mesh.specs.FaceSet.{Rest, pointCount, normalOf, colourOf, textureBy, cornerBy, cornerOf, faceOf, facesOf}
 use Rattle.mesh.specs.OneRun.{names}
-use Rattle.mesh.proofs.Lists.{All-map, length-mapN, getD-mapN, mapN-same, or-right}
+use Rattle.lists.proofs.Lists.{All-map, length-mapN, getD-mapN, mapN-same, or-right}
 use Rattle.mesh.proofs.Runs.{noRun, run-within, reads, OneRunOf, AllButRun, one-run-of}
 use Rattle.mesh.proofs.OneFace.{gathers, AllBut}
 

@@ -10,7 +10,7 @@ use Rattle.bits.specs.declared.Words4.{Words4}
 use Rattle.math.specs.Vector.{vlen, unitOf}
 use Rattle.math.specs.SquareRoot.{rootOf}
 use Rattle.math.specs.Order.{isZero, negative, magnitude, choice, minOf, maxOf}
-use Rattle.polygon.specs.Loops.{any, tab, run, first}
+use Rattle.lists.specs.Loops.{any, tab, run, first}
 use Rattle.polygon.specs.Points.{spot, spots}
 use Rattle.polygon.specs.Facing.{newellFrom, newell}
 use Rattle.polygon.specs.Plane.{handed, axisOf, flipOf, projected, projection}
@@ -25,7 +25,7 @@ use Rattle.block.specs.Texture.{uvWords}
 use Rattle.block.specs.Runs.{endsRun, runsFrom, allBelow, kept}
 use Rattle.block.specs.Stream.{itself, chosen, numberIn, numberAt}
 use Rattle.block.specs.Value.{valueAt}
-use Rattle.mesh.specs.Lists.{mapN, joinN, has, place, meet, firsts, sameWords, flat}
+use Rattle.lists.specs.Lists.{mapN, joinN, has, place, meet, firsts, sameWords, flat}
 use Rattle.mesh.specs.Words.{pointWords}
 use Rattle.mesh.specs.Normals.{outline, facing, hits, hitsOf, incident, creaseSum, orElse, generated, cornerNormal}
 use Rattle.mesh.specs.Vertices.{sameKey, keyOf, keysOf, vertices, wound, locals, faceIndices, indicesOf}

@@ -10,15 +10,15 @@ use lib.ListN.{length, getD, length-map}
 use lib.Seq.{append-snoc}
 use Rattle.bits.specs.declared.Words4.{Words4}
 use Rattle.block.specs.Runs.{corners, triangles, sumOver}
-use Rattle.polygon.specs.Loops.{All}
-use Rattle.mesh.specs.Lists.{mapN, joinN, total, has, place, meet, firsts}
+use Rattle.lists.specs.Loops.{All}
+use Rattle.lists.specs.Lists.{mapN, joinN, total, has, place, meet, firsts}
 use Rattle.mesh.specs.Words.{words2, words3, words4, pointWords}
 use Rattle.mesh.specs.Soup.{Face, Frame}
 use Rattle.mesh.specs.Vertices.{Key, noKey, sameKey, keysOf, vertices, locals, faceIndices, indicesOf, width}
 use Rattle.mesh.specs.Mend.{mended}
 use Rattle.mesh.specs.Mesh.{meshOf, mesh, Slices, slicesOf}
 use Rattle.mesh.specs.FaceSet.{restOf, pointCount, coordIn, runsIn, facesOf, frameOf, faceSetMesh}
-use Rattle.mesh.proofs.Lists.{length-mapN, length-words, All-map, map-All, getD-map-lt, All-of-map, All-joinN, length-joinN, length-firsts, Distinct, firsts-distinct, firsts-append, firsts-snoc, meet-has, place-firsts}
+use Rattle.lists.proofs.Lists.{length-mapN, length-words, All-map, map-All, getD-map-lt, All-of-map, All-joinN, length-joinN, length-firsts, Distinct, firsts-distinct, firsts-append, firsts-snoc, meet-has, place-firsts}
 use Rattle.mesh.proofs.Keys.{sameKey-self}
 use Rattle.mesh.proofs.Corners.{length-keys, length-faceIndices, locals-within, number-lt}
 use Rattle.mesh.proofs.FaceSet.{lengths-are, widths-are}

@@ -9,10 +9,10 @@ use lib.ListN.{getD}
 use Rattle.bits.specs.declared.Words2.{Words2}
 use Rattle.bits.specs.declared.Words3.{Words3}
 use Rattle.bits.specs.declared.Words4.{Words4}
-use Rattle.mesh.specs.Lists.{sameWords}
+use Rattle.lists.specs.Lists.{sameWords}
 use Rattle.mesh.specs.Words.{words2, words3, words4}
 use Rattle.mesh.specs.Vertices.{Key, sameKey}
-use Rattle.mesh.proofs.Lists.{sameWords-sound, sameWords-self}
+use Rattle.lists.proofs.Lists.{sameWords-sound, sameWords-self}
 
 -- the words say which record it is
 at-word : (i : ℕ) {a b : List ℕ} → a ≡ b → getD a i 0 ≡ getD b i 0

@@ -2,7 +2,6 @@
 mod Sample
 pub mod Rows
 pub mod FaceSetRow
-pub mod Lists
 pub mod Keys
 pub mod Usable
 pub mod Sums

@@ -5,7 +5,7 @@ use mathlib.Core.List.{List, [], _∷_, _++_, map}
 use Rattle.bits.specs.Bits.{entries}
 use Rattle.bits.specs.declared.Words4.{Words4}
 use Rattle.block.specs.Runs.{Run, runs}
-use Rattle.mesh.specs.Lists.{mapN, joinN, firsts}
+use Rattle.lists.specs.Lists.{mapN, joinN, firsts}
 use Rattle.mesh.specs.Soup.{Face}
 use Rattle.mesh.specs.Normals.{cornerNormal}
 use Rattle.mesh.specs.Vertices.{Key, sameKey, keyOf, keysOf, vertices}

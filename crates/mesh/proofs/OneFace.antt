@@ -11,14 +11,14 @@ use Rattle.math.specs.declared.vector.V3.{V3}
 use Rattle.math.specs.Vector.{yAxis, unitOf}
 use Rattle.block.specs.declared.crease.CreaseRule.{CreaseRule}
 use Rattle.block.specs.declared.crease.CreaseRule.the-variants.{Own}
-use Rattle.polygon.specs.Loops.{All}
+use Rattle.lists.specs.Loops.{All}
 use Rattle.mesh.specs.Words.{words3, bits}
 use Rattle.mesh.specs.Soup.{Corner, noCorner, Face, Frame}
 use Rattle.mesh.specs.Normals.{facing, Hit, hits, hitsOf, incident, creaseSum, orElse, generated, cornerNormal}
 use Rattle.mesh.specs.Vertices.{locals}
 use Rattle.mesh.specs.Mend.{Usable, renorm}
 use Rattle.mesh.specs.Mesh.{mesh, slicesOf, shownAt, normalAt, partOf}
-use Rattle.mesh.proofs.Lists.{All-of, All-map, All-getD, map-All, joinN-same}
+use Rattle.lists.proofs.Lists.{All-of, All-map, All-getD, map-All, joinN-same}
 use Rattle.mesh.proofs.Usable.{generated-usable, bits-usable}
 use Rattle.mesh.proofs.Corners.{locals-within, faceShown, part-shown, part-normals}
 

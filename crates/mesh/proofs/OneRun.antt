@@ -16,14 +16,14 @@ use Rattle.block.specs.Crease.{π, creaseOf}
 use Rattle.block.specs.Settings.{floatAt, settingsOf}
 use Rattle.block.specs.declared.crease.CreaseRule.the-variants.{Own, Every, Bound}
 use Rattle.block.specs.Runs.{Run, allBelow, kept, triangles, sumOver}
-use Rattle.polygon.specs.Loops.{All}
-use Rattle.mesh.specs.Lists.{joinN, total}
+use Rattle.lists.specs.Loops.{All}
+use Rattle.lists.specs.Lists.{joinN, total}
 use Rattle.mesh.specs.Soup.{Corner, Face}
 use Rattle.mesh.specs.Vertices.{Key, vertices, faceIndices, indicesOf, width}
 use Rattle.mesh.specs.Mesh.{Slices, meshOf, mesh, slicesOf, shownAt, normalAt, partOf}
 use Rattle.mesh.specs.FaceSet.{Rest, restOf, pointCount, coordIn, runsIn, faceOf, facesOf, frameOf, faceSetMesh}
 use Rattle.mesh.specs.OneRun.{runIn, OneRun, runPart, names, creaseAngle, NormalsApart, own, apart, supplied, SameTriangles, Parts, OthersStay}
-use Rattle.mesh.proofs.Lists.{All-map, take-mapN, joinN-same}
+use Rattle.lists.proofs.Lists.{All-map, take-mapN, joinN-same}
 use Rattle.mesh.proofs.Runs.{noRun, one-run-of}
 use Rattle.mesh.proofs.Corners.{part-is, length-faceIndices}
 use Rattle.mesh.proofs.Facts.{indices-within}

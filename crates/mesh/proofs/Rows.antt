@@ -12,13 +12,13 @@ use Rattle.block.specs.declared.crease.CreaseRule.the-variants.{Own, Every, Bou
 use Rattle.math.specs.Vector.{vlen, unitOf}
 use Rattle.math.specs.SquareRoot.{rootOf}
 use Rattle.math.specs.Order.{magnitude}
-use Rattle.polygon.specs.Loops.{tab}
+use Rattle.lists.specs.Loops.{tab}
 use Rattle.polygon.specs.Points.{spot, spots}
 use Rattle.polygon.specs.Facing.{newellFrom, newell}
 use Rattle.polygon.specs.Plane.{handed, axisOf, flipOf, projected, projection}
 use Rattle.polygon.specs.Ears.{fanFrom, fan, outline as numbers}
 use Rattle.polygon.specs.Face.{faceTris, triangles}
-use Rattle.mesh.specs.Lists.{mapN, joinN, has, place, meet, firsts, sameWords}
+use Rattle.lists.specs.Lists.{mapN, joinN, has, place, meet, firsts, sameWords}
 use Rattle.mesh.specs.Words.{no2, no3, no4, pointWords}
 use Rattle.mesh.specs.Soup.{Corner, Face, Frame}
 use Rattle.mesh.specs.Normals.{outline, facing, hits, hitsOf, incident, sumAll, isNear, nearBy, nearStep, sumNear, nearSum, creaseSum, orElse, generated, cornerNormal}

@@ -9,7 +9,7 @@ use native.Mathlib.Omega.{arith}
 use lib.ListN.{length, getD, take, drop, length-append, List·getD-append}
 use lib.Seq.{take-at, drop-at, drop-append-add, getD-append-add}
 use Rattle.block.specs.Runs.{endsRun, Run, runOf, before, runsFrom, runs}
-use Rattle.polygon.specs.Loops.{All}
+use Rattle.lists.specs.Loops.{All}
 
 abbrev pub noRun : Run
 noRun = runOf 0 []

@@ -13,8 +13,8 @@ use Rattle.math.specs.declared.vector.V3.{V3}
 use Rattle.math.specs.declared.vector.Unit.{Unit}
 use Rattle.math.specs.declared.vector.Unit.the-variants.{Of, Nothing}
 use Rattle.math.specs.Vector.{yAxis}
-use Rattle.polygon.specs.Loops.{tab}
-use Rattle.polygon.proofs.Tabs.{length-tab, tab-at, tab-same}
+use Rattle.lists.specs.Loops.{tab}
+use Rattle.lists.proofs.Tabs.{length-tab, tab-at, tab-same}
 use Rattle.mesh.specs.Normals.{orElse}
 use Rattle.mesh.specs.Frames.{Axes, or, firstOf, lastOf, closed, isEnd, yOwn, firstY, yAt, bend, zEnd, zOwn, firstZ, pickZ, prevZ, bent, straight, axesBy, axesAt}
 use Rattle.mesh.specs.SourceFrames.{forward, headOf, backward, first, ys, zRaw, copyEnds, zs, walk, framesBy, sourceFrames}

@@ -2,7 +2,7 @@
 use mathlib.Core.List.{List, [], _∷_, map}
 use Prim.Native.Nat.{ℕ, _/_, _%_, _^_}
 use Rattle.bits.specs.declared.Words3.{Words3}
-use Rattle.mesh.specs.Lists.{flat}
+use Rattle.lists.specs.Lists.{flat}
 
 -- words as a block's bytes
 abbrev pub bytesOf : List ℕ → List ℕ

@@ -26,8 +26,8 @@ use Rattle.block.specs.declared.texture.Pair.{Pair}
 use Rattle.block.specs.Texture.{pairOf, uvWords}
 use Rattle.block.specs.Value.{valueAt}
 use Rattle.block.proofs.TableRows.{gridHeader, gridRest, grid}
-use Rattle.polygon.specs.Loops.{tab}
-use Rattle.mesh.specs.Lists.{mapN, joinN, has, place, meet, firsts, sameWords, flat}
+use Rattle.lists.specs.Loops.{tab}
+use Rattle.lists.specs.Lists.{mapN, joinN, has, place, meet, firsts, sameWords, flat}
 use Rattle.mesh.specs.Words.{words3, no2, no3, no4, floats, bits, pointWords}
 use Rattle.mesh.specs.Soup.{Corner, Frame}
 use Rattle.mesh.specs.Vertices.{sameKey}

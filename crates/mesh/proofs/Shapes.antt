@@ -6,8 +6,8 @@ use native.Mathlib.Nat.{add-comm, div-add-mod'}
 use native.Mathlib.Omega.{arith}
 use lib.ListN.{length}
 use Rattle.bits.specs.declared.Words4.{Words4}
-use Rattle.polygon.specs.Loops.{tab}
-use Rattle.polygon.proofs.Tabs.{tab-same}
+use Rattle.lists.specs.Loops.{tab}
+use Rattle.lists.proofs.Tabs.{tab-same}
 use Rattle.mesh.specs.FaceSet.{Rest}
 use Rattle.mesh.specs.Quads.{quad}
 use Rattle.mesh.specs.Grid.{xDimension, zDimension, gridCorner, gridFace, gridFaces}

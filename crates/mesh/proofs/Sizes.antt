@@ -14,9 +14,9 @@ use Rattle.block.specs.declared.header.Header.{Header}
 use Rattle.block.specs.declared.settings.Settings.{Settings}
 use Rattle.block.specs.Header.{headerOf}
 use Rattle.block.specs.Runs.{Run, runs, sumOver}
-use Rattle.polygon.specs.Loops.{tab}
-use Rattle.polygon.proofs.Tabs.{length-tab}
-use Rattle.mesh.specs.Lists.{mapN, joinN, total, place}
+use Rattle.lists.specs.Loops.{tab}
+use Rattle.lists.proofs.Tabs.{length-tab}
+use Rattle.lists.specs.Lists.{mapN, joinN, total, place}
 use Rattle.mesh.specs.Words.{words3}
 use Rattle.mesh.specs.Soup.{Face}
 use Rattle.mesh.specs.Vertices.{Key, sameKey, width}
@@ -26,8 +26,9 @@ use Rattle.mesh.specs.Quads.{quad}
 use Rattle.mesh.specs.Grid.{xDimension, zDimension, gridPoint, gridPoints, gridOf, gridFace, gridFaces}
 use Rattle.mesh.specs.Extrusion.{Extrusion, extrusionOf, sectionOf, spineCount, sectionCount, rowWords, rowAt, extrusionPoints, sideCorner, sides, capLength, capCorner, capFace, faceIf, hasCap, caps, extrusionFaces}
 use Rattle.mesh.specs.Sizes.{named, linesAfter, lineSetSizes, quadCount, gridSizes, one, capCount, extrusionSizes}
-use Rattle.mesh.proofs.Lists.{length-joinN, length-words}
-use Rattle.mesh.proofs.Tabs.{flat-total, total-append, total-tab, total-tabs, total-mapN}
+use Rattle.lists.proofs.Lists.{length-joinN, length-words}
+use Rattle.lists.proofs.Totals.{flat-total, total-append, total-tab, total-mapN}
+use Rattle.mesh.proofs.Tabs.{total-tabs}
 
 -- what each run gives, added up
 sum-total : (f : List ℕ → ℕ) (rs : List Run) → total (λ (r : Run). f (r .items)) rs ≡ sumOver f rs

@@ -16,9 +16,9 @@ use Rattle.block.specs.Lists.{listBytes}
 use Rattle.block.specs.Runs.{Run, runs, allBelow, kept}
 use Rattle.block.specs.Value.{words2, words3}
 use Rattle.block.specs.Texture.{pairOf}
-use Rattle.polygon.specs.Loops.{tab, All}
-use Rattle.polygon.proofs.Tabs.{tab-at}
-use Rattle.mesh.specs.Lists.{mapN, flat}
+use Rattle.lists.specs.Loops.{tab, All}
+use Rattle.lists.proofs.Tabs.{tab-at}
+use Rattle.lists.specs.Lists.{mapN, flat}
 use Rattle.mesh.specs.Words.{no2, no3, floats}
 use Rattle.mesh.specs.Soup.{Corner, Face}
 use Rattle.mesh.specs.Vertices.{Key}
@@ -29,8 +29,8 @@ use Rattle.mesh.specs.Frames.{at}
 use Rattle.mesh.specs.Arcs.{at2}
 use Rattle.mesh.specs.Extrusion.{Extrusion, extrusionOf, sectionOf, spineCount, sectionCount, pointNumber, cornerAt, sideCorner, capCorner, sides, closes, capLength, capFace, faceIf, hasCap, caps, extrusionFaces}
 use Rattle.mesh.specs.Lines.{these, somes, itemOf, itemsOf, lineKeys, cornerFor, lineFaces}
-use Rattle.mesh.proofs.Lists.{All-append}
-use Rattle.mesh.proofs.Tabs.{tab-reverse}
+use Rattle.lists.proofs.Lists.{All-append}
+use Rattle.lists.proofs.Totals.{tab-reverse}
 
 -- a face whose corners are within n points
 abbrev pub Within : ℕ → Face → Type 0

@@ -9,7 +9,7 @@ use Rattle.math.specs.declared.vector.V3.{V3}
 use Rattle.math.specs.SquareRoot.{rootOf}
 use Rattle.math.specs.Vector.{zeroF, vsub, vlen}
 use Rattle.block.specs.declared.texture.Pair.{Pair}
-use Rattle.polygon.specs.Loops.{tab}
+use Rattle.lists.specs.Loops.{tab}
 use Rattle.mesh.specs.Grid.{whole}
 use Rattle.mesh.specs.Frames.{at}
 

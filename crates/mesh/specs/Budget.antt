@@ -2,7 +2,7 @@
 use Prim.Native.Nat.{ℕ}
 use mathlib.Core.List.{List}
 use lib.ListN.{length}
-use Rattle.mesh.specs.Lists.{total}
+use Rattle.lists.specs.Lists.{total}
 use Rattle.mesh.specs.Soup.{Corner, Face, Frame}
 use Rattle.mesh.specs.Normals.{incident}
 

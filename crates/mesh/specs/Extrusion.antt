@@ -19,8 +19,8 @@ use Rattle.block.specs.Lists.{listBytes}
 use Rattle.block.specs.Settings.{settingsOf}
 use Rattle.block.specs.Value.{valueWord, words2, words3}
 use Rattle.block.specs.Texture.{pairOf, uvWords}
-use Rattle.polygon.specs.Loops.{tab}
-use Rattle.mesh.specs.Lists.{flat}
+use Rattle.lists.specs.Loops.{tab}
+use Rattle.lists.specs.Lists.{flat}
 use Rattle.mesh.specs.Words.{words3 as wordsOf, no2, no3, no4, floats, bits}
 use Rattle.mesh.specs.Soup.{Corner, Face, Frame}
 use Rattle.mesh.specs.Mesh.{Mesh, mesh}

@@ -16,7 +16,7 @@ use Rattle.block.specs.Runs.{Run, runs, kept}
 use Rattle.block.specs.Stream.{numberAt}
 use Rattle.block.specs.Value.{value2At, value3At, value4At}
 use Rattle.block.specs.Texture.{uvWords}
-use Rattle.mesh.specs.Lists.{mapN}
+use Rattle.lists.specs.Lists.{mapN}
 use Rattle.mesh.specs.Words.{no2, no3, no4}
 use Rattle.mesh.specs.Soup.{Corner, Face, Frame}
 use Rattle.mesh.specs.Mesh.{Mesh, mesh}

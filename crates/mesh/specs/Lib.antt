@@ -1,5 +1,4 @@
 -- The mesh of a soup, the soups of the four kinds, and what one changed run leaves as it was, by definition.
-pub mod Lists
 pub mod Words
 pub mod Soup
 pub mod Normals

@@ -7,7 +7,7 @@ use lib.Dec.{ltb}
 use Rattle.bits.specs.Bits.{entries}
 use Rattle.bits.specs.declared.Words4.{Words4}
 use Rattle.block.specs.Runs.{Run, runs}
-use Rattle.mesh.specs.Lists.{mapN, joinN, place, firsts}
+use Rattle.lists.specs.Lists.{mapN, joinN, place, firsts}
 use Rattle.mesh.specs.Words.{no2, no3, pointWords}
 use Rattle.mesh.specs.Soup.{Corner, Face, Frame}
 use Rattle.mesh.specs.Vertices.{Key, sameKey}

@@ -5,7 +5,7 @@ use lib.ListN.{length, getD, take, drop}
 use Rattle.bits.specs.declared.Words2.{Words2}
 use Rattle.bits.specs.declared.Words3.{Words3}
 use Rattle.bits.specs.declared.Words4.{Words4}
-use Rattle.mesh.specs.Lists.{mapN, total, flat}
+use Rattle.lists.specs.Lists.{mapN, total, flat}
 use Rattle.mesh.specs.Words.{words2, words3, words4, pointWords}
 use Rattle.mesh.specs.Soup.{Face, Frame}
 use Rattle.mesh.specs.Vertices.{Key, vertices, indicesOf, width}

@@ -14,7 +14,7 @@ use Rattle.polygon.specs.Facing.{newell}
 use Rattle.polygon.specs.Plane.{handed}
 use Rattle.block.specs.declared.crease.CreaseRule.{CreaseRule}
 use Rattle.block.specs.declared.crease.CreaseRule.the-variants.{Own, Every, Bound}
-use Rattle.mesh.specs.Lists.{joinN}
+use Rattle.lists.specs.Lists.{joinN}
 use Rattle.mesh.specs.Words.{bits}
 use Rattle.mesh.specs.Soup.{Corner, Face, pointsOf, Frame}
 

@@ -13,8 +13,8 @@ use Rattle.block.specs.Header.{headerOf}
 use Rattle.block.specs.Lists.{placeOf}
 use Rattle.block.specs.Settings.{floatAt, finiteOr}
 use Rattle.block.specs.Runs.{Run, runOf, triangles, sumOver}
-use Rattle.polygon.specs.Loops.{All}
-use Rattle.mesh.specs.Lists.{joinN}
+use Rattle.lists.specs.Loops.{All}
+use Rattle.lists.specs.Lists.{joinN}
 use Rattle.mesh.specs.Soup.{Corner}
 use Rattle.mesh.specs.Mend.{Usable}
 use Rattle.mesh.specs.Mesh.{Slices, shownAt, normalAt}

@@ -8,7 +8,7 @@ use Rattle.math.specs.declared.vector.V3.{V3}
 use Rattle.math.specs.declared.vector.Unit.{Unit}
 use Rattle.math.specs.declared.vector.Unit.the-variants.{Of, Nothing}
 use Rattle.math.specs.Vector.{yAxis}
-use Rattle.polygon.specs.Loops.{tab}
+use Rattle.lists.specs.Loops.{tab}
 use Rattle.mesh.specs.Normals.{orElse}
 use Rattle.mesh.specs.Frames.{Axes, or, closed, isEnd, yOwn, bend, pickZ, bent, straight}
 

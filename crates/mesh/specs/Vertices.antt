@@ -9,7 +9,7 @@ use Rattle.bits.specs.declared.Words3.{Words3}
 use Rattle.bits.specs.declared.Words4.{Words4}
 use Rattle.polygon.specs.Ears.{Tri}
 use Rattle.polygon.specs.Face.{triangles}
-use Rattle.mesh.specs.Lists.{joinN, place, firsts, sameWords}
+use Rattle.lists.specs.Lists.{joinN, place, firsts, sameWords}
 use Rattle.mesh.specs.Words.{words2, words3, words4, no2, no3, no4}
 use Rattle.mesh.specs.Soup.{Corner, Face, Frame}
 use Rattle.mesh.specs.Normals.{outline, facing, cornerNormal}

@@ -10,13 +10,13 @@ use lib.Ieee.{Float}
 use borrow.Rule.Slice.PartMut.{putMid}
 use Rattle.math.specs.declared.vector.V3.{V3}
 use Rattle.block.specs.declared.crease.CreaseRule.{CreaseRule}
-use Rattle.polygon.specs.Loops.{tab}
-use Rattle.polygon.proofs.Tabs.{length-tab, tab-shift, tab-add}
-use Rattle.mesh.specs.Lists.{flat}
+use Rattle.lists.specs.Loops.{tab}
+use Rattle.lists.proofs.Tabs.{length-tab, tab-shift, tab-add}
+use Rattle.lists.specs.Lists.{flat}
 use Rattle.tables.specs.declared.layout.Plan.{Plan}
 use Rattle.tables.specs.Soups.{gatherIn, startIn, Sound}
-use Rattle.tables.specs.Kept.{spliced}
-use Rattle.tables.proofs.Splices.{part-back, grow}
+use Rattle.lists.specs.Parts.{spliced}
+use Rattle.lists.proofs.Splices.{part-back, grow}
 use Rattle.normals.specs.Rows.{Owned}
 use Rattle.normals.specs.Written.{three, spread, normalAt, cornerNormalIn}
 

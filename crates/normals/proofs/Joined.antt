@@ -15,11 +15,11 @@ use Rattle.math.specs.Vector.{yAxis, unitOf}
 use Rattle.polygon.specs.Points.{spots}
 use Rattle.polygon.specs.Facing.{newell}
 use Rattle.polygon.specs.Plane.{handed}
-use Rattle.mesh.specs.Lists.{joinN, total, flat}
+use Rattle.lists.specs.Lists.{joinN, total, flat}
 use Rattle.mesh.specs.Words.{words3, no3, bits}
 use Rattle.mesh.specs.Soup.{Corner, noCorner, Face, Frame, pointsOf}
 use Rattle.mesh.specs.Normals.{outline, facing, Hit, hits, hitsOf, incident, creaseSum, orElse, generated, cornerNormal}
-use Rattle.mesh.proofs.Lists.{All-of, All-of-map, getD-map-lt, length-joinN, piece, length-flat, in-flat}
+use Rattle.lists.proofs.Lists.{All-of, All-of-map, getD-map-lt, length-joinN, piece, length-flat, in-flat}
 use Rattle.tables.specs.declared.layout.Plan.{Plan}
 use Rattle.tables.specs.Soups.{startIn, bare, pointsIn, soupIn, frameIn, Holds}
 use Rattle.tables.proofs.Stays.{start-le}

@@ -10,9 +10,9 @@ use lib.Dec.{eqb}
 use borrow.Author.Tests.{eq-eqb, ne-eqb, eqb-true, eqb-false}
 use lib.ListN.{length, getD, set, drop, length-set, length-drop, drop-of-length-le}
 use lib.Seq.{drop-cons, drop-drop, getD-drop}
-use Rattle.tables.specs.Kept.{seg, Kept}
+use Rattle.lists.specs.Parts.{seg, Kept}
 use Rattle.normals.specs.Chain.{uses, skip, usesFrom, nextUse, Chained, Chainable}
-use Rattle.tables.proofs.Keep.{kept-all, kept-set, kept-then, kept-at, length-seg, seg-at, set-hit, set-miss}
+use Rattle.lists.proofs.Keep.{kept-all, kept-set, kept-then, kept-at, length-seg, seg-at, set-hit, set-miss}
 
 pub skip-le : (p : ℕ) (l : List ℕ) → skip p l ≤ length l
 unfolding skip

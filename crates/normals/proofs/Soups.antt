@@ -11,14 +11,14 @@ use lib.Seq.{drop-cons}
 use Rattle.math.specs.declared.vector.V3.{V3}
 use Rattle.math.specs.Vector.{yAxis, unitOf}
 use Rattle.block.specs.declared.crease.CreaseRule.{CreaseRule}
-use Rattle.polygon.specs.Loops.{tab}
-use Rattle.polygon.proofs.Tabs.{tab-shift, tab-add, map-tab}
+use Rattle.lists.specs.Loops.{tab}
+use Rattle.lists.proofs.Tabs.{tab-shift, tab-add, map-tab}
 use Rattle.mesh.specs.Soup.{Corner, Frame}
 use Rattle.mesh.specs.Normals.{outline, facing, Hit, hits, hitsOf, incident, creaseSum, orElse, generated}
 use Rattle.tables.specs.declared.layout.Plan.{Plan}
 use Rattle.tables.specs.Layout.{Room}
 use Rattle.tables.specs.Soups.{gatherIn, startIn, cornerIn, faceIn, soupIn, frameIn, Sound}
-use Rattle.tables.proofs.Keep.{length-seg, seg-at}
+use Rattle.lists.proofs.Keep.{length-seg, seg-at}
 use Rattle.tables.proofs.Stays.{start-le, face-kept, soup-kept}
 use Rattle.tables.proofs.Joins.{join-soup}
 use Rattle.normals.specs.Chain.{uses, usesFrom}

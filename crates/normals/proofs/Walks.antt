@@ -11,7 +11,7 @@ use Rattle.math.specs.Vector.{vadd, unitOf}
 use Rattle.mesh.specs.Normals.{Hit, sumAll, sumNear}
 use Rattle.tables.specs.declared.layout.Plan.{Plan}
 use Rattle.tables.specs.Soups.{ownerIn}
-use Rattle.tables.proofs.Keep.{length-seg}
+use Rattle.lists.proofs.Keep.{length-seg}
 use Rattle.normals.specs.Chain.{usesFrom, nextUse}
 use Rattle.normals.specs.Rows.{normalIn, unitIn, gathersIn, hitIn, hitsFrom, hitsAt, Ready}
 use Rattle.mesh.specs.Normals.{nearBy, nearStep}

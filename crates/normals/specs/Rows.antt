@@ -13,7 +13,7 @@ use Rattle.math.specs.Vector.{v3, unitOf}
 use Rattle.block.specs.declared.crease.CreaseRule.the-variants.{Own}
 use Rattle.mesh.specs.Normals.{facing, Hit}
 use Rattle.tables.specs.declared.layout.Plan.{Plan}
-use Rattle.tables.specs.Kept.{seg, Kept}
+use Rattle.lists.specs.Parts.{seg, Kept}
 use Rattle.tables.specs.Layout.{Room}
 use Rattle.tables.specs.Soups.{ownerIn, startIn, faceIn, frameIn, Sound, Spread}
 use Rattle.normals.specs.Chain.{usesFrom, Chained}

@@ -9,11 +9,11 @@ use Rattle.math.specs.declared.vector.V3.{V3}
 use Rattle.math.specs.declared.vector.Unit.{Unit}
 use Rattle.math.specs.Vector.{yAxis, unitOf}
 use Rattle.block.specs.declared.crease.CreaseRule.{CreaseRule}
-use Rattle.mesh.specs.Lists.{joinN, flat}
+use Rattle.lists.specs.Lists.{joinN, flat}
 use Rattle.mesh.specs.Soup.{Corner, Face, Frame}
 use Rattle.mesh.specs.Normals.{creaseSum, orElse, generated}
 use Rattle.tables.specs.declared.layout.Plan.{Plan}
-use Rattle.tables.specs.Kept.{Kept}
+use Rattle.lists.specs.Parts.{Kept}
 use Rattle.tables.specs.Soups.{gatherIn, ownerIn, soupIn, frameIn}
 use Rattle.normals.specs.Rows.{normalIn, hitsAt}
 

@@ -2,7 +2,7 @@
 ghost use mathlib.Core.Path.{_≡_};
 ghost use Prim.Native.Nat.{_+_, _<_};
 ghost use lib.ListN.{length, getD};
-ghost use Rattle.tables.specs.Kept.{seg, Kept};
+ghost use Rattle.lists.specs.Parts.{seg, Kept};
 ghost use Rattle.tables.specs.Layout.{Room};
 ghost use Rattle.normals.specs.Chain.{Chained, Chainable};
 use block::CornerNumber;

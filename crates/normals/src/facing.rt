@@ -3,7 +3,7 @@ ghost use mathlib.Core.Path.{_≡_};
 ghost use Prim.Native.Nat.{_+_, _≤_, _<_};
 ghost use lib.ListN.{length};
 ghost use Rattle.math.specs.Vector.{unitOf};
-ghost use Rattle.tables.specs.Kept.{Kept};
+ghost use Rattle.lists.specs.Parts.{Kept};
 ghost use Rattle.tables.specs.Soups.{Sound};
 ghost use Rattle.normals.specs.Rows.{at3, unitAt, facingIn, OwnedTo, Rowed};
 use crate::vectors::store3;

@@ -3,7 +3,7 @@ ghost use mathlib.Core.Path.{_≡_};
 ghost use mathlib.Core.List.{_++_};
 ghost use Prim.Native.Nat.{ℕ, _+_, _*_, _≤_, _<_};
 ghost use lib.ListN.{length, drop};
-ghost use Rattle.polygon.specs.Loops.{tab};
+ghost use Rattle.lists.specs.Loops.{tab};
 ghost use Rattle.tables.specs.Soups.{gatherIn, Sound};
 ghost use Rattle.normals.specs.Rows.{Owned, Ready};
 ghost use Rattle.normals.specs.Written.{normalAt, cornerNormalIn, spread};

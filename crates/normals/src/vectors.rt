@@ -2,7 +2,7 @@
 ghost use mathlib.Core.Path.{_≡_};
 ghost use Prim.Native.Nat.{_+_, _≤_};
 ghost use lib.ListN.{length};
-ghost use Rattle.tables.specs.Kept.{Kept, spliced};
+ghost use Rattle.lists.specs.Parts.{Kept, spliced};
 ghost use Rattle.normals.specs.Rows.{at3, unitAt};
 ghost use Rattle.normals.specs.Written.{three};
 use math::Unit;

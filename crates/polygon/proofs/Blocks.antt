@@ -10,10 +10,10 @@ use lib.ListN.{getD}
 use lib.Dec.{eqb}
 use lib.Ieee.{le}
 use Rattle.polygon.specs.Ears.{Pt, +0, cross2, pointInTri, blocks}
-use Rattle.polygon.specs.Loops.{pick, first}
+use Rattle.lists.specs.Loops.{pick, first}
 use Rattle.polygon.specs.Memo.{dotOf, spotOf, inWay, hits}
 use Rattle.polygon.specs.declared.memo.Dot.{Dot}
-use Rattle.polygon.proofs.Laws.{first-go, first-stop, first-end}
+use Rattle.lists.proofs.Loops.{first-go, first-stop, first-end}
 use Rattle.polygon.proofs.Keep.{first-find, first-below}
 
 module _ (f : ℕ → Bool) where

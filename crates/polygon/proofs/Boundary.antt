@@ -10,12 +10,12 @@ use lib.Dec.{eqb}
 use lib.ListN.{length, getD, List·getD-append}
 use lib.Seq.{getD-at}
 use lib.Ieee.{nan}
-use Rattle.polygon.specs.Loops.{pick, tab}
+use Rattle.lists.specs.Loops.{pick, tab}
 use Rattle.polygon.specs.Ears.{Pt, Tri, remove, fanFrom, fan, goes, firstEar, before, here, after, corner, clip, place, order, isReversed, turn, earClipBy, earClip, outline}
 use Rattle.polygon.specs.Edges.{back, edge, named, tris, walk, around}
 use Rattle.polygon.specs.Face.{faceTris}
 use Rattle.polygon.proofs.Count.{goes-long, goes-ear, either}
-use Rattle.polygon.proofs.Laws.{back-zero, back-some, on-last, on-more}
+use Rattle.lists.proofs.Loops.{back-zero, back-some, on-last, on-more}
 
 -- ---- a fan fills the list that it is over
 

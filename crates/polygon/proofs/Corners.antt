@@ -7,7 +7,7 @@ use native.Mathlib.Nat.{mod-lt}
 use native.Mathlib.Omega.{arith}
 use lib.ListN.{length, getD}
 use lib.Ieee.{nan}
-use Rattle.polygon.specs.Loops.{pick, tab, All}
+use Rattle.lists.specs.Loops.{pick, tab, All}
 use Rattle.polygon.specs.Ears.{Pt, Tri, remove, fanFrom, fan, goes, firstEar, corner, clip, place, order, isReversed, turn, earClipBy, earClip, outline, flat}
 use Rattle.polygon.specs.Edges.{Within}
 use Rattle.polygon.specs.Face.{faceTris}

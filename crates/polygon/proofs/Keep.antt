@@ -12,10 +12,10 @@ use lib.Dec.{ltb, eqb}
 use lib.ListN.{length, getD, set, length-set, List·getD-eq-default}
 use lib.Seq.{sets, getD-set-same, getD-set-other}
 use lib.Ieee.{le}
-use Rattle.polygon.specs.Loops.{pick, any, tab, first}
+use Rattle.lists.specs.Loops.{pick, any, tab, first}
 use Rattle.polygon.specs.Ears.{Pt, +0, cross2, blocks, isEar, before, here, after, remove, place, order}
 use Rattle.polygon.specs.Memo.{hits, hit, Tells, Once, earOf, Known, Sound, entry, Full}
-use Rattle.polygon.proofs.Laws.{first-go, and-right, and-no}
+use Rattle.lists.proofs.Loops.{first-go, and-right, and-no}
 
 -- ---- Bool
 

@@ -1,5 +1,3 @@
-pub mod Tabs
-pub mod Laws
 pub mod Lists
 pub mod Count
 pub mod Corners

@@ -10,9 +10,9 @@ use borrow.Author.Tests.{le-ltb, lt-ltb}
 use lib.Dec.{ltb}
 use lib.ListN.{length, getD, take, drop, set, length-drop}
 use lib.Seq.{drop-cons, sets, sets-eq, take-at}
-use Rattle.polygon.specs.Loops.{pick}
+use Rattle.lists.specs.Loops.{pick}
 use Rattle.polygon.specs.Ears.{Pt, Tri, triple, flat, turn, remove, fan, fanFrom, clip, goes, firstEar, corner}
-use Rattle.polygon.proofs.Laws.{and-no}
+use Rattle.lists.proofs.Loops.{and-no}
 
 -- ---- a list whose front is filled
 

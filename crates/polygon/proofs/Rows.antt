@@ -6,7 +6,7 @@ use lib.IntN.{pos}
 use lib.Ieee.{Float, nan, fin, add, sub, mul, lt, le, neg, ofBits}
 use Rattle.math.specs.Vector.{v3}
 use Rattle.math.specs.Order.{magnitude}
-use Rattle.polygon.specs.Loops.{any, tab, run, first}
+use Rattle.lists.specs.Loops.{any, tab, run, first}
 use Rattle.polygon.specs.Facing.{newellFrom, newell}
 use Rattle.polygon.specs.Ears.{triple, earClip, earClipBy, cross2, pointInTri, blocks, isEar, firstEar, remove, fanFrom, fan, goes, clip, areaTerm, area, isReversed, place, order, turn, outline}
 use Rattle.polygon.specs.Plane.{axisOf, flipOf, handed, projected, projection}

@@ -9,7 +9,7 @@ use lib.ListN.{length, getD, take, drop}
 use lib.Seq.{sets, length-take-le}
 use lib.Ieee.{Float}
 use Rattle.math.specs.declared.vector.V3.{V3}
-use Rattle.polygon.specs.Loops.{tab, All}
+use Rattle.lists.specs.Loops.{tab, All}
 use Rattle.polygon.specs.Points.{spots}
 use Rattle.polygon.specs.Ears.{Tri, triple, fanFrom, fan, outline, turn, flat}
 use Rattle.polygon.specs.Plane.{pairs, projection, flat2}
@@ -17,7 +17,7 @@ use Rattle.polygon.specs.Face.{faceTris, triangles}
 use Rattle.polygon.specs.Edges.{Within, edge, named, tris, around}
 use Rattle.polygon.proofs.Count.{length-outline, count-face, face-convex}
 use Rattle.polygon.proofs.Corners.{face-within, below}
-use Rattle.polygon.proofs.Tabs.{tab-at}
+use Rattle.lists.proofs.Tabs.{tab-at}
 use Rattle.polygon.proofs.Boundary.{face-boundary}
 use Rattle.polygon.proofs.Lists.{fan-start, fan-write, fan-written}
 use Rattle.polygon.proofs.Whole.{length-pairs, length-flat, map-same}

@@ -9,7 +9,7 @@ use lib.ListN.{length, getD, set, take, drop, List·getD-append}
 use lib.Seq.{sets, length-take-le, take-take, take-append-le, getD-take, getD-drop, drop-drop, take-at, drop-at}
 use lib.Ieee.{le}
 use borrow.Rule.Slice.PartMut.{putMid, midOf, mid-len}
-use Rattle.polygon.specs.Loops.{first}
+use Rattle.lists.specs.Loops.{first}
 use Rattle.polygon.specs.Ears.{Pt, Tri, triple, +0, cross2, blocks, isEar, corner, remove, order}
 use Rattle.polygon.specs.Memo.{hits, Tells, Once, earOf, Known, Sound, Clear, Full, flags, kept, Searched, Gone, Held, Fresh}
 use Rattle.polygon.proofs.Tables.{length-flags, flag-at, stored, as-was, tail-take, tail-drop, front-drop}

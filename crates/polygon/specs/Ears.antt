@@ -5,7 +5,7 @@ use mathlib.Core.List.{List, [], _∷_, map}
 use lib.ListN.{length, getD}
 use lib.Dec.{ltb, eqb}
 use lib.Ieee.{Float, nan, binary32, add, sub, mul, lt, le, ofBits}
-use Rattle.polygon.specs.Loops.{pick, any, tab, run, first}
+use Rattle.lists.specs.Loops.{pick, any, tab, run, first}
 
 -- a point in the plane
 abbrev pub Pt : Type 0

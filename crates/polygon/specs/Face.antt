@@ -5,7 +5,7 @@ use Prim.Native.Nat.{ℕ}
 use lib.Dec.{eqb, ltb}
 use lib.ListN.{length}
 use Rattle.math.specs.declared.vector.V3.{V3}
-use Rattle.polygon.specs.Loops.{pick}
+use Rattle.lists.specs.Loops.{pick}
 use Rattle.polygon.specs.Ears.{Pt, Tri, triple, outline, fan, earClip}
 use Rattle.polygon.specs.Plane.{projection}
 

@@ -1,4 +1,3 @@
-pub mod Loops
 pub mod Points
 pub mod Facing
 pub mod Ears

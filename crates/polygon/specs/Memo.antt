@@ -6,7 +6,7 @@ use mathlib.Core.List.{List, [], _∷_}
 use lib.ListN.{length, getD, take, drop, set}
 use lib.Dec.{ltb, eqb}
 use lib.Ieee.{Float, nan, le}
-use Rattle.polygon.specs.Loops.{pick, any, first}
+use Rattle.lists.specs.Loops.{pick, any, first}
 use Rattle.polygon.specs.Ears.{Pt, +0, cross2, pointInTri, blocks, order, remove}
 use Rattle.polygon.specs.declared.memo.Dot.{Dot}
 

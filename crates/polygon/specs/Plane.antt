@@ -6,7 +6,7 @@ use lib.Ieee.{Float, binary32, lt, le, neg, ofBits}
 use Rattle.math.specs.declared.vector.V3.{V3}
 use Rattle.math.specs.Vector.{vscale, oneF}
 use Rattle.math.specs.Order.{magnitude}
-use Rattle.polygon.specs.Loops.{pick}
+use Rattle.lists.specs.Loops.{pick}
 use Rattle.polygon.specs.Ears.{Pt}
 
 -- FORMAT 12.2, p[k]: entry k of a vector

@@ -11,8 +11,8 @@ use crate::memo::dot_at;
 use crate::memo::first_ear;
 use crate::memo::place_after;
 use crate::memo::place_before;
-use crate::points::get;
-use crate::points::put;
+use lists::get;
+use lists::put;
 
 // One triangle, at the t'th place of `out`.
 pub fn put_tri(out: &mut [u32], t: usize, rev: bool, a: u32, b: u32, c: u32)

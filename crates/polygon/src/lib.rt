@@ -10,5 +10,3 @@ pub use face::triangulate;
 pub use facing::newell;
 pub use plane::handed_of;
 pub use plane::project;
-pub use points::get;
-pub use points::put;

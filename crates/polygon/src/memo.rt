@@ -7,11 +7,11 @@ ghost use lib.Dec.{eqb};
 ghost use lib.ListN.{length, getD, take, set};
 ghost use lib.Seq.{sets};
 ghost use lib.Ieee.{nan, le};
-ghost use Rattle.polygon.specs.Loops.{pick, first};
+ghost use Rattle.lists.specs.Loops.{pick, first};
 ghost use Rattle.polygon.specs.Ears.{+0, cross2, pointInTri, blocks, isEar, firstEar};
 ghost use Rattle.polygon.specs.Memo.{xy, dotOf, spotOf, inWay, hits, Clear, Tells, earOf, Known, Sound, entry, flags, kept, Searched};
-use crate::points::get;
-use crate::points::put;
+use lists::get;
+use lists::put;
 
 // A corner: its number, and where it lies in the plane.
 pub struct Dot {

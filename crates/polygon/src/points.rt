@@ -1,29 +1,10 @@
-// Tables of words, and FORMAT 9.1: points as words, three a point.
+// FORMAT 9.1: points as words, three a point.
 ghost use mathlib.Core.Path.{_≡_};
 ghost use Prim.Native.Nat.{_^_, _<_};
-ghost use lib.ListN.{getD, set};
 ghost use Rattle.polygon.specs.Points.{spot};
 use block::PointNumber;
+use lists::get;
 use math::V3;
-
-// A read past the end is 0.
-pub fn get(table: &[u32], k: usize) -> u32
-    ensures { λ r. ⌜ r ≡ getD (now (table .entry)) k 0 ⌝ }
-{
-    if k < table.len() {
-        return table[k];
-    }
-    0
-}
-
-// A write past the end does nothing.
-pub fn put(table: &mut [u32], k: usize, v: u32)
-    ensures { λ _. ⌜ now (table .exit) ≡ set (now (table .entry)) k v ⌝ }
-{
-    if k < table.len() {
-        table[k] = v;
-    }
-}
 
 // The point that an entry of a face names.
 pub fn point_number(name: u32) -> PointNumber

@@ -8,7 +8,7 @@ use lib.Ieee.{Float}
 use lib.ListN.{length}
 use Rattle.block.specs.declared.crease.CreaseRule.{CreaseRule}
 use Rattle.tables.specs.declared.layout.Plan.{Plan}
-use Rattle.tables.specs.Kept.{Kept}
+use Rattle.lists.specs.Parts.{Kept}
 use Rattle.tables.specs.Layout.{Room}
 use Rattle.tables.specs.Soups.{numberIn, startIn, Spread}
 use Rattle.tables.proofs.Stays.{start-kept, number-kept}

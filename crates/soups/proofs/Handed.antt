@@ -6,16 +6,16 @@ use Prim.Native.Nat.{ℕ, suc, _+_, _*_, _≤_, _<_}
 use native.Mathlib.Omega.{arith}
 use lib.ListN.{length, getD}
 use lib.Ieee.{Float}
-use Rattle.polygon.specs.Loops.{tab}
-use Rattle.mesh.specs.Lists.{joinN}
+use Rattle.lists.specs.Loops.{tab}
+use Rattle.lists.specs.Lists.{joinN}
 use Rattle.mesh.specs.Soup.{Corner, noCorner, Face, Frame}
 use Rattle.mesh.specs.Normals.{cornerNormal}
 use Rattle.mesh.specs.Vertices.{keysOf}
 use Rattle.tables.specs.declared.layout.Plan.{Plan}
-use Rattle.tables.specs.Kept.{Kept}
+use Rattle.lists.specs.Parts.{Kept}
 use Rattle.tables.specs.Soups.{ownerIn, startIn, pointsIn, Holds}
 use Rattle.tables.specs.Listed.{Use, Listing, noListing, facesWith, usesAt, Listed}
-use Rattle.tables.proofs.Keep.{kept-then}
+use Rattle.lists.proofs.Keep.{kept-then}
 use Rattle.tables.proofs.Stays.{start-le, start-kept, owner-kept, points-kept}
 use Rattle.tables.proofs.Listings.{listed-sound, listed-holds, listed-kept, listed-long}
 use Rattle.vertices.specs.declared.places.Widths.{Widths}

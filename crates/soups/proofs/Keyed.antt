@@ -15,17 +15,17 @@ use Rattle.bits.specs.declared.Words4.{Words4}
 use Rattle.math.specs.Vector.{zeroF}
 use Rattle.block.specs.declared.crease.CreaseRule.{CreaseRule}
 use Rattle.block.specs.Stream.{get3At, get4At}
-use Rattle.polygon.specs.Loops.{tab}
-use Rattle.polygon.proofs.Tabs.{length-tab, getD-tab, tab-add}
-use Rattle.mesh.specs.Lists.{joinN}
+use Rattle.lists.specs.Loops.{tab}
+use Rattle.lists.proofs.Tabs.{length-tab, getD-tab, tab-add}
+use Rattle.lists.specs.Lists.{joinN}
 use Rattle.mesh.specs.Words.{words2, words3, words4, no2, no3, no4, bits}
 use Rattle.mesh.specs.Soup.{Corner, noCorner, Face, Frame}
 use Rattle.mesh.specs.Normals.{generated, cornerNormal}
 use Rattle.mesh.specs.Vertices.{Key, noKey, keyOf, keysOf}
-use Rattle.mesh.proofs.Lists.{getD-map-lt}
+use Rattle.lists.proofs.Lists.{getD-map-lt}
 use Rattle.mesh.proofs.Corners.{length-keys, getD-keys}
 use Rattle.tables.specs.declared.layout.Plan.{Plan}
-use Rattle.tables.specs.Kept.{seg}
+use Rattle.lists.specs.Parts.{seg}
 use Rattle.tables.specs.Soups.{pointIn, placeIn, ownerIn, numberIn, startIn, Holds, Spread}
 use Rattle.tables.specs.Listed.{Use, Listing, noUse, noListing, facesWith, usesAt, Listed}
 use Rattle.tables.proofs.Stays.{start-le, rise}

@@ -7,7 +7,7 @@ use lib.ListN.{drop}
 use lib.Ieee.{Float}
 use Rattle.block.specs.declared.crease.CreaseRule.{CreaseRule}
 use Rattle.tables.specs.declared.layout.Plan.{Plan}
-use Rattle.tables.specs.Kept.{Kept}
+use Rattle.lists.specs.Parts.{Kept}
 use Rattle.tables.specs.Soups.{numberIn, soupIn, frameIn, Spread}
 use Rattle.normals.specs.Written.{spread, normalsOf}
 

@@ -2,7 +2,7 @@
 ghost use mathlib.Core.Path.{_≡_};
 ghost use Prim.Native.Nat.{_*_, _≤_};
 ghost use lib.ListN.{length};
-ghost use Rattle.tables.specs.Kept.{Kept};
+ghost use Rattle.lists.specs.Parts.{Kept};
 ghost use Rattle.tables.specs.Soups.{numberIn, Sound, Spread};
 ghost use Rattle.soups.specs.Prepared.{Normals, Prepared};
 use block::CreaseRule;

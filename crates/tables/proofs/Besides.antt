@@ -7,10 +7,10 @@ use native.Mathlib.Omega.{arith}
 use lib.ListN.{length, getD, take, drop, length-take}
 use lib.Seq.{getD-take, getD-drop, ext-getD}
 use Rattle.tables.specs.declared.layout.Plan.{Plan}
-use Rattle.tables.specs.Kept.{Kept}
+use Rattle.lists.specs.Parts.{Kept}
 use Rattle.tables.specs.Layout.{Room}
 use Rattle.tables.specs.Listed.{Out, Beside}
-use Rattle.tables.proofs.Keep.{kept-at}
+use Rattle.lists.proofs.Keep.{kept-at}
 
 -- the words below a, one by one
 kept-by : (a : ℕ) (w w′ : List ℕ) → length w′ ≡ length w → ((i : ℕ) → i < a → getD w′ i 0 ≡ getD w i 0) → Kept a w w′

@@ -6,14 +6,14 @@ use native.Mathlib.Nat.{zero-add, not-suc-le-zero, le-of-suc-le-suc}
 use native.Mathlib.Omega.{arith}
 use lib.ListN.{length, getD, take, length-map}
 use lib.Seq.{ext-getD}
-use Rattle.mesh.specs.Lists.{total}
+use Rattle.lists.specs.Lists.{total}
 use Rattle.mesh.specs.Soup.{Corner, noCorner, Face, dense, Frame}
-use Rattle.mesh.proofs.Lists.{getD-map-lt}
-use Rattle.mesh.proofs.Tabs.{total-suc}
-use Rattle.polygon.specs.Loops.{tab}
-use Rattle.polygon.proofs.Tabs.{length-tab, getD-tab}
+use Rattle.lists.proofs.Lists.{getD-map-lt}
+use Rattle.lists.proofs.Totals.{total-suc}
+use Rattle.lists.specs.Loops.{tab}
+use Rattle.lists.proofs.Tabs.{length-tab, getD-tab}
 use Rattle.tables.specs.declared.layout.Plan.{Plan}
-use Rattle.tables.specs.Kept.{Kept}
+use Rattle.lists.specs.Parts.{Kept}
 use Rattle.tables.specs.Soups.{pointIn, gatherIn, startIn, pointsIn, plain, bare, cornerIn, faceIn, soupIn, Sound, Holds}
 use Rattle.tables.proofs.Stays.{sound-kept, points-kept, soup-kept}
 

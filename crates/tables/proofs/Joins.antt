@@ -3,8 +3,8 @@ use mathlib.Core.Path.{_≡_, sym, ap, _∙_}
 use mathlib.Core.List.{List, [], _++_}
 use Prim.Native.Nat.{ℕ, zero, suc, _+_, _<_}
 use native.Mathlib.Omega.{arith}
-use Rattle.polygon.specs.Loops.{tab}
-use Rattle.mesh.specs.Lists.{joinN}
+use Rattle.lists.specs.Loops.{tab}
+use Rattle.lists.specs.Lists.{joinN}
 use Rattle.mesh.specs.Soup.{Face}
 use Rattle.tables.specs.declared.layout.Plan.{Plan}
 use Rattle.tables.specs.Soups.{startIn, faceIn, soupIn, Sound}

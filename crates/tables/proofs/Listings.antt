@@ -6,9 +6,9 @@ use native.Mathlib.Nat.{not-suc-le-zero}
 use native.Mathlib.Omega.{arith}
 use lib.ListN.{length, getD, length-map}
 use Rattle.mesh.specs.Soup.{Corner, noCorner, Face, dense, Frame}
-use Rattle.mesh.proofs.Lists.{getD-map-lt}
+use Rattle.lists.proofs.Lists.{getD-map-lt}
 use Rattle.tables.specs.declared.layout.Plan.{Plan}
-use Rattle.tables.specs.Kept.{Kept}
+use Rattle.lists.specs.Parts.{Kept}
 use Rattle.tables.specs.Soups.{pointIn, gatherIn, startIn, placeIn, pointsIn, Sound, Holds}
 use Rattle.tables.specs.Listed.{Use, Listing, noUse, noListing, facesWith, usesAt, Listed}
 use Rattle.tables.proofs.Stays.{start-le, point-kept, place-kept, start-kept, number-kept}

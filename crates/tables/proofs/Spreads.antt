@@ -8,9 +8,9 @@ use native.Mathlib.Numerals.{add-one}
 use native.Mathlib.Omega.{arith}
 use lib.ListN.{getD}
 use Rattle.tables.specs.declared.layout.Plan.{Plan}
-use Rattle.tables.specs.Kept.{Kept, AllAre}
+use Rattle.lists.specs.Parts.{Kept, AllAre}
 use Rattle.tables.specs.Soups.{ownerIn, startIn, Sound, Spread}
-use Rattle.tables.proofs.Keep.{kept-then, kept-at}
+use Rattle.lists.proofs.Keep.{kept-then, kept-at}
 use Rattle.tables.proofs.Stays.{rise, start-kept, sound-kept}
 
 pub spread-none : {v w : List ℕ} {t : Plan} {f : ℕ → ℕ} → Spread v w t f 0

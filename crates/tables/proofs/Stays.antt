@@ -7,15 +7,14 @@ use native.Mathlib.Nat.{add-zero, add-suc, zero-add}
 use native.Mathlib.Numerals.{add-one}
 use native.Mathlib.Omega.{arith}
 use Rattle.block.specs.declared.crease.CreaseRule.{CreaseRule}
-use Rattle.polygon.specs.Loops.{tab}
-use Rattle.polygon.proofs.Tabs.{tab-shift, tab-same, map-tab}
+use Rattle.lists.specs.Loops.{tab}
+use Rattle.lists.proofs.Tabs.{tab-shift, tab-same, map-tab, seg-tab}
 use Rattle.mesh.specs.Soup.{Corner, pointsOf}
 use Rattle.tables.specs.declared.layout.Plan.{Plan}
 use Rattle.tables.specs.declared.reading.Stretch.{Stretch}
-use Rattle.tables.specs.Kept.{seg, Kept}
+use Rattle.lists.specs.Parts.{seg, Kept}
 use Rattle.tables.specs.Soups.{pointIn, gatherIn, ownerIn, startIn, numberIn, placeIn, namedIn, pointsIn, plain, cornerIn, faceIn, soupIn, frameIn, Sound, Ends}
-use Rattle.tables.proofs.Keep.{kept-at, kept-seg}
-use Rattle.tables.proofs.Tabs.{seg-tab}
+use Rattle.lists.proofs.Keep.{kept-at, kept-seg}
 
 -- ---- first corners
 

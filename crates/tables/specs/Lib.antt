@@ -1,5 +1,4 @@
 -- Where the tables of a soup lie in a slice of words, and what they hold.
-pub mod Kept
 pub mod Layout
 pub mod Soups
 pub mod Listed

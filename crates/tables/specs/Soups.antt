@@ -5,12 +5,12 @@ use mathlib.Core.List.{List, map}
 use Prim.Native.Nat.{ℕ, suc, _+_, _*_, _-_, _≤_, _<_}
 use lib.ListN.{length, getD}
 use Rattle.block.specs.declared.crease.CreaseRule.{CreaseRule}
-use Rattle.polygon.specs.Loops.{tab}
+use Rattle.lists.specs.Loops.{tab}
 use Rattle.mesh.specs.Words.{no2, no3, no4}
 use Rattle.mesh.specs.Soup.{Corner, Face, dense, Frame}
 use Rattle.tables.specs.declared.layout.Plan.{Plan}
 use Rattle.tables.specs.declared.reading.Stretch.{Stretch}
-use Rattle.tables.specs.Kept.{seg}
+use Rattle.lists.specs.Parts.{seg}
 use Rattle.tables.specs.Layout.{Room}
 
 -- a corner's point, the number that it is gathered by (FORMAT 10.2), and its face among the kept ones

@@ -4,7 +4,7 @@ ghost use Prim.Native.Nat.{_+_, _≤_};
 ghost use lib.ListN.{length, replicate};
 ghost use lib.Ieee.{binary32, ofBits};
 ghost use Rattle.tables.specs.Layout.{most};
-ghost use Rattle.tables.specs.Kept.{Filled};
+ghost use Rattle.lists.specs.Parts.{Filled};
 
 pub fn narrow(x: usize) -> u32
     requires { ⌜ x ≤ most ⌝ }

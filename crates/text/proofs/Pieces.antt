@@ -7,9 +7,9 @@ use native.Mathlib.Nat.{add-zero, zero-add, sub-zero}
 use native.Mathlib.Numerals.{add-one}
 use lib.ListN.{length, drop, length-append}
 use lib.Seq.{sets, sets-eq}
-use Rattle.polygon.specs.Loops.{tab}
-use Rattle.mesh.specs.Lists.{flat}
-use Rattle.mesh.proofs.Lists.{sets-append}
+use Rattle.lists.specs.Loops.{tab}
+use Rattle.lists.specs.Lists.{flat}
+use Rattle.lists.proofs.Lists.{sets-append}
 use Rattle.text.specs.Wrote.{Wrote, Printed}
 
 -- one text after another

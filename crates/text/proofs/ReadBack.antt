@@ -8,7 +8,7 @@ use native.Mathlib.Omega.{arith}
 use lib.Dec.{ltb}
 use lib.ListN.{length, length-append}
 use borrow.Author.Tests.{lt-ltb, le-ltb, ltb-true, ltb-false}
-use Rattle.polygon.specs.Loops.{pick}
+use Rattle.lists.specs.Loops.{pick}
 use Rattle.text.specs.Digits.{digitByte, digits, hexadecimal, decimal, digitOf, readOn}
 
 digit-read : (d : ℕ) → d < 16 → digitOf (digitByte d) ≡ d

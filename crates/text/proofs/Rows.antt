@@ -3,8 +3,8 @@ use Prim.Native.Nat.{ℕ}
 use mathlib.Core.Path.{_≡_, refl}
 use mathlib.Core.Bool.{true, false}
 use mathlib.Core.List.{List, [], _∷_, _++_}
-use Rattle.polygon.specs.Loops.{tab}
-use Rattle.mesh.specs.Lists.{flat}
+use Rattle.lists.specs.Loops.{tab}
+use Rattle.lists.specs.Lists.{flat}
 use Rattle.mesh.specs.Mesh.{Slices}
 use Rattle.text.specs.declared.answer.Head.{Head}
 use Rattle.text.specs.declared.lines.Parts.{Parts}

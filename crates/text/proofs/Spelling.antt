@@ -5,7 +5,7 @@ use mathlib.Core.Bool.{Bool, true, false, _&&_}
 use mathlib.Core.List.{List, [], _∷_, _++_}
 use native.Mathlib.Omega.{arith}
 use lib.Dec.{ltb}
-use Rattle.polygon.specs.Loops.{pick}
+use Rattle.lists.specs.Loops.{pick}
 use Rattle.text.specs.Digits.{digitByte, digits}
 use Rattle.text.specs.Wrote.{Wrote}
 use Rattle.text.proofs.Pieces.{then, looser, nothing}

@@ -6,8 +6,8 @@ use mathlib.Core.List.{List, [], _∷_, _++_}
 use native.Mathlib.Nat.{add-zero, add-suc, suc-add, zero-add, mul-suc, le-trans, mul-le-mul-left}
 use native.Mathlib.Omega.{arith}
 use lib.ListN.{length, getD, length-append}
-use Rattle.polygon.specs.Loops.{tab}
-use Rattle.mesh.specs.Lists.{flat}
+use Rattle.lists.specs.Loops.{tab}
+use Rattle.lists.specs.Lists.{flat}
 use Rattle.mesh.specs.Mesh.{Slices}
 use Rattle.text.specs.declared.answer.Head.{Head}
 use Rattle.text.specs.declared.lines.Parts.{Parts}

@@ -3,7 +3,7 @@ use Prim.Native.Nat.{ℕ, zero, suc, _+_, _-_, _*_, _/_, _%_}
 use mathlib.Core.Bool.{Bool, true, false, _&&_}
 use mathlib.Core.List.{List, [], _∷_, _++_}
 use lib.Dec.{ltb}
-use Rattle.polygon.specs.Loops.{pick}
+use Rattle.lists.specs.Loops.{pick}
 
 -- FORMAT 14: the character of a digit below 16: '0' to '9' (48 to 57), then 'a' to 'f' (97 to 102)
 unfoldable pub digitByte : ℕ → ℕ

@@ -3,8 +3,8 @@ use Prim.Native.Nat.{ℕ, _+_}
 use mathlib.Core.Bool.{Bool, true, false}
 use mathlib.Core.List.{List, [], _∷_}
 use lib.ListN.{getD}
-use Rattle.polygon.specs.Loops.{pick, tab}
-use Rattle.mesh.specs.Lists.{flat}
+use Rattle.lists.specs.Loops.{pick, tab}
+use Rattle.lists.specs.Lists.{flat}
 use Rattle.text.specs.Digits.{hexadecimal, decimal}
 
 -- FORMAT 14: a word

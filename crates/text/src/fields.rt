@@ -4,7 +4,7 @@ ghost use Rattle.text.specs.Wrote.{Wrote};
 ghost use Rattle.text.specs.Fields.{fieldOf, fields, attribute};
 use crate::digits::put_byte;
 use crate::digits::put_digits;
-use polygon::get;
+use lists::get;
 
 // A word where `word` is set, else a number.
 pub fn put_field(out: &mut [u8], at: usize, word: bool, n: u32) -> usize

@@ -1,7 +1,7 @@
 // The lines of vertices, triangles and lines (FORMAT 14).
 ghost use Prim.Native.Nat.{_+_, _*_, _^_, _≤_, _<_};
-ghost use Rattle.polygon.specs.Loops.{tab};
-ghost use Rattle.mesh.specs.Lists.{flat};
+ghost use Rattle.lists.specs.Loops.{tab};
+ghost use Rattle.lists.specs.Lists.{flat};
 ghost use Rattle.text.specs.Wrote.{Wrote};
 ghost use Rattle.text.specs.Lines.{placeText, madeText, vertexLine, elementLine, elementLines};
 use crate::digits::put_byte;
@@ -9,7 +9,7 @@ use crate::fields::put_attribute;
 use crate::fields::put_field;
 use crate::fields::put_fields;
 use block::VertexNumber;
-use polygon::get;
+use lists::get;
 
 // Which attributes stand on a vertex line, and whether the indices are lines in twos or triangles in threes.
 pub struct Parts {

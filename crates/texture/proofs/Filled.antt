@@ -14,9 +14,9 @@ use Rattle.block.specs.declared.settings.Settings.{Settings}
 use Rattle.mesh.specs.declared.texture.Fit.{Fit}
 use Rattle.mesh.specs.Texture.{defaultAt}
 use Rattle.mesh.specs.Words.{words2}
-use Rattle.tables.specs.Kept.{seg, spliced, Kept}
-use Rattle.tables.proofs.Keep.{kept-all, kept-then, kept-at, kept-seg, seg-at}
-use Rattle.tables.proofs.Splices.{spliced-above, put-gives}
+use Rattle.lists.specs.Parts.{seg, spliced, Kept}
+use Rattle.lists.proofs.Keep.{kept-all, kept-then, kept-at, kept-seg, seg-at}
+use Rattle.lists.proofs.Splices.{spliced-above, put-gives}
 use Rattle.texture.specs.Corner.{textureIn}
 use Rattle.texture.specs.Textured.{pairAt, Textured, setTexture, Fitted}
 

@@ -17,7 +17,7 @@ use Rattle.mesh.specs.FaceSet.{Rest, restOf, pointCount, textureBy, cornerBy, c
 use Rattle.mesh.specs.declared.texture.Fit.{Fit}
 use Rattle.mesh.specs.Texture.{fitOf, defaultAt}
 use Rattle.mesh.specs.Grid.{gridOf}
-use Rattle.tables.specs.Kept.{seg}
+use Rattle.lists.specs.Parts.{seg}
 use Rattle.texture.specs.Corner.{textureIn}
 use Rattle.texture.specs.Textured.{setTexture}
 

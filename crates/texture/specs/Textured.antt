@@ -8,7 +8,7 @@ use Rattle.block.specs.declared.header.Header.{Header}
 use Rattle.block.specs.declared.settings.Settings.{Settings}
 use Rattle.mesh.specs.declared.texture.Fit.{Fit}
 use Rattle.mesh.specs.Texture.{defaultAt}
-use Rattle.tables.specs.Kept.{seg, Kept}
+use Rattle.lists.specs.Parts.{seg, Kept}
 use Rattle.tables.specs.Layout.{most}
 use Rattle.texture.specs.Corner.{textureIn}
 

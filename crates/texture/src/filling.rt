@@ -4,7 +4,7 @@ ghost use Prim.Native.Nat.{_+_, _*_, _≤_, _<_};
 ghost use lib.ListN.{length};
 ghost use Rattle.mesh.specs.Texture.{defaultAt};
 ghost use Rattle.mesh.specs.Words.{words2};
-ghost use Rattle.tables.specs.Kept.{seg, spliced};
+ghost use Rattle.lists.specs.Parts.{seg, spliced};
 ghost use Rattle.texture.specs.Corner.{textureIn};
 ghost use Rattle.texture.specs.Textured.{Textured, setTexture, Fitted};
 use crate::corner::corner_texture;

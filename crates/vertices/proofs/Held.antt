@@ -11,15 +11,15 @@ use lib.Dec.{T}
 use lib.ListN.{length, getD, set, take, drop, length-append, length-set}
 use lib.Seq.{sets, getD-append-seam, take-set-le}
 use Rattle.block.specs.declared.number.VertexNumber.{VertexNumber}
-use Rattle.mesh.specs.Lists.{has, place, meet, firsts}
+use Rattle.lists.specs.Lists.{has, place, meet, firsts}
 use Rattle.mesh.specs.Vertices.{Key, sameKey}
-use Rattle.mesh.proofs.Lists.{All-append, All-getD, T-true, has-getD, firsts-distinct, meet-old, meet-new}
+use Rattle.lists.proofs.Lists.{All-append, All-getD, T-true, has-getD, firsts-distinct, meet-old, meet-new}
 use Rattle.mesh.proofs.Keys.{sameKey-sound, sameKey-self}
 use Rattle.vertices.specs.declared.places.Widths.{Widths}
 use Rattle.vertices.specs.declared.places.Chains.{Chains}
 use Rattle.vertices.specs.declared.search.Known.{Known}
 use Rattle.vertices.specs.declared.search.Known.the-variants.{At, Nowhere}
-use Rattle.tables.specs.Kept.{seg}
+use Rattle.lists.specs.Parts.{seg}
 use Rattle.vertices.specs.Places.{Store, Roomy, Laid, Room}
 use Rattle.vertices.specs.Search.{two, three, four, keyAt, cornerKey, placeOf, Chained}
 use Rattle.vertices.specs.Adding.{linked, Appended, positionOf, normalOf, colourOf, textureOf, trimmed, Holds, pointsIn, countAfter, Vertexed}

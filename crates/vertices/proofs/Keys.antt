@@ -9,11 +9,11 @@ use native.Mathlib.Omega.{arith}
 use lib.Dec.{eqb}
 use lib.ListN.{length, getD, take}
 use lib.Seq.{take-append-le}
-use Rattle.mesh.specs.Lists.{sameWords}
+use Rattle.lists.specs.Lists.{sameWords}
 use Rattle.mesh.specs.Words.{words2, words3, words4, no2, no3, no4}
 use Rattle.mesh.specs.Vertices.{Key, sameKey}
 use Rattle.vertices.specs.declared.places.Widths.{Widths}
-use Rattle.tables.specs.Kept.{seg}
+use Rattle.lists.specs.Parts.{seg}
 use Rattle.vertices.specs.Places.{Store, Roomy}
 use Rattle.vertices.specs.Search.{two, three, four, keyAt, cornerKey}
 use Rattle.vertices.specs.Adding.{normalOf, colourOf, textureOf, trimmed}

@@ -6,12 +6,12 @@ use native.Mathlib.Nat.{not-suc-le-zero, le-of-suc-le-suc, mul-suc, mul-le-mul-l
 use native.Mathlib.Omega.{arith}
 use lib.ListN.{length, getD, set, take, drop, length-append, length-drop, length-map}
 use lib.Seq.{sets, sets-eq, take-at, drop-at, drop-drop, drop-cons, set-at, append-snoc, take-append-seam, take-length, length-take-le, getD-take, getD-drop}
-use Rattle.mesh.specs.Lists.{flat}
+use Rattle.lists.specs.Lists.{flat}
 use Rattle.mesh.specs.Words.{words2, words3, words4, pointWords}
 use Rattle.mesh.specs.Vertices.{Key}
-use Rattle.mesh.proofs.Lists.{All-of, All-of-map, middle, length-flat, in-flat}
+use Rattle.lists.proofs.Lists.{All-of, All-of-map, middle, length-flat, in-flat}
 use Rattle.vertices.specs.declared.places.Widths.{Widths}
-use Rattle.tables.specs.Kept.{seg}
+use Rattle.lists.specs.Parts.{seg}
 use Rattle.vertices.specs.Adding.{positionOf, normalOf, colourOf, textureOf}
 
 -- ---- rows of n words, one for each key

@@ -5,12 +5,12 @@ use Prim.Native.Nat.{ℕ, _*_, _≤_}
 use native.Mathlib.Nat.{le-refl, zero-mul}
 use lib.ListN.{length, take, drop}
 use lib.Seq.{take-all}
-use Rattle.mesh.specs.Lists.{flat}
+use Rattle.lists.specs.Lists.{flat}
 use Rattle.mesh.specs.Words.{words2, words3, words4, pointWords}
 use Rattle.mesh.specs.Soup.{Frame}
 use Rattle.mesh.specs.Vertices.{Key}
 use Rattle.mesh.specs.Mesh.{meshOf, slicesOf}
-use Rattle.mesh.proofs.Lists.{All-of, map-All}
+use Rattle.lists.proofs.Lists.{All-of, map-All}
 use Rattle.vertices.specs.declared.places.Widths.{Widths}
 use Rattle.vertices.specs.Places.{Store}
 use Rattle.vertices.specs.Adding.{positionOf, normalOf, colourOf, textureOf, Holds}

@@ -8,16 +8,16 @@ use native.Mathlib.Omega.{arith}
 use lib.Dec.{T}
 use lib.ListN.{length, getD, set, length-append, length-map, length-set}
 use lib.Seq.{take-set-le}
-use Rattle.polygon.specs.Loops.{tab}
-use Rattle.polygon.proofs.Tabs.{length-tab, tab-add}
-use Rattle.mesh.specs.Lists.{has, place, meet, firsts, flat}
+use Rattle.lists.specs.Loops.{tab}
+use Rattle.lists.proofs.Tabs.{length-tab, tab-add}
+use Rattle.lists.specs.Lists.{has, place, meet, firsts, flat}
 use Rattle.mesh.specs.Vertices.{Key, sameKey}
-use Rattle.mesh.proofs.Lists.{meet-old, meet-new, T-true, middle, place-lt, length-firsts, firsts-append, has-firsts-new}
+use Rattle.lists.proofs.Lists.{meet-old, meet-new, T-true, middle, place-lt, length-firsts, firsts-append, has-firsts-new}
 use Rattle.mesh.proofs.Keys.{sameKey-sound, sameKey-self}
 use Rattle.mesh.proofs.Facts.{number-stays}
 use Rattle.vertices.specs.declared.places.Widths.{Widths}
 use Rattle.vertices.specs.declared.places.Chains.{Chains}
-use Rattle.tables.specs.Kept.{seg}
+use Rattle.lists.specs.Parts.{seg}
 use Rattle.vertices.specs.Places.{Store, Roomy, Laid}
 use Rattle.vertices.specs.Search.{Chained}
 use Rattle.vertices.specs.Adding.{positionOf, normalOf, colourOf, textureOf, Holds, madeOf, pointsIn, countAfter, Ready, Vertexed}

@@ -9,9 +9,9 @@ use borrow.Author.Tests.{eq-eqb, ne-eqb}
 use lib.Dec.{eqb}
 use lib.ListN.{length, getD, set, take, drop, length-drop}
 use lib.Seq.{sets, drop-cons, length-take-le}
-use Rattle.mesh.specs.Lists.{sameWords}
-use Rattle.mesh.proofs.Lists.{T-true, sameWords-self}
-use Rattle.tables.specs.Kept.{seg}
+use Rattle.lists.specs.Lists.{sameWords}
+use Rattle.lists.proofs.Lists.{T-true, sameWords-self}
+use Rattle.lists.specs.Parts.{seg}
 
 pub length-seg : (l : List ℕ) (a n : ℕ) → a + n ≤ length l → length (seg l a n) ≡ n
 unfolding seg

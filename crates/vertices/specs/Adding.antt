@@ -6,13 +6,13 @@ use Prim.Native.Nat.{ℕ, suc, _+_, _*_, _≤_, _<_}
 use lib.Dec.{eqb}
 use lib.ListN.{length, getD, set, take, drop}
 use lib.Seq.{sets}
-use Rattle.polygon.specs.Loops.{tab, All}
-use Rattle.mesh.specs.Lists.{place, meet, firsts, flat}
+use Rattle.lists.specs.Loops.{tab, All}
+use Rattle.lists.specs.Lists.{place, meet, firsts, flat}
 use Rattle.mesh.specs.Words.{words2, words3, words4, pointWords}
 use Rattle.mesh.specs.Vertices.{Key, sameKey}
 use Rattle.vertices.specs.declared.places.Widths.{Widths}
 use Rattle.vertices.specs.declared.places.Chains.{Chains}
-use Rattle.tables.specs.Kept.{seg}
+use Rattle.lists.specs.Parts.{seg}
 use Rattle.vertices.specs.Places.{Store, Room}
 use Rattle.vertices.specs.Search.{two, three, four, Chained}
 

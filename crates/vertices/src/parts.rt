@@ -3,8 +3,8 @@ ghost use mathlib.Core.Path.{_≡_};
 ghost use Prim.Native.Nat.{_+_, _*_, _≤_};
 ghost use lib.ListN.{length};
 ghost use lib.Seq.{sets};
-ghost use Rattle.mesh.specs.Lists.{sameWords};
-ghost use Rattle.tables.specs.Kept.{seg};
+ghost use Rattle.lists.specs.Lists.{sameWords};
+ghost use Rattle.lists.specs.Parts.{seg};
 
 // Whether the n words of a from i are those of b from j (FORMAT 11).
 pub fn same_words(a: &[u32], i: usize, b: &[u32], j: usize, n: usize) -> bool

@@ -1,6 +1,6 @@
 use Prim.Native.Nat.{_-_, _<_}
 use Rattle.extrusion.proofs.Lengths.{length-start, length-step, param-is, paramAt, params-all}
-use Rattle.tables.proofs.Pieces.{Pieces, pieces-none, single, single-more}
+use Rattle.lists.proofs.Pieces.{Pieces, pieces-none, single, single-more}
 use Rattle.extrusion.specs.Steps.{stepOf}
 use Rattle.mesh.specs.Arcs.{lengthTo}
 use borrow.Author.Needs.{needs}

@@ -1,7 +1,7 @@
 use Prim.Native.Nat.{_+_, ℕ}
-use Rattle.tables.proofs.Splices.{splice-start}
+use Rattle.lists.proofs.Splices.{splice-start}
 use Rattle.extrusion.proofs.Sides.{begin-no, begin-yes, length-by}
-use Rattle.tables.specs.Kept.{spliced}
+use Rattle.lists.specs.Parts.{spliced}
 use borrow.Author.Needs.{needs}
 use lib.ListN.{length}
 use mathlib.Core.List.{List}

@@ -1,5 +1,5 @@
 use Prim.Native.Nat.{_-_, _≤_}
-use Rattle.tables.proofs.Pieces.{Pieces, pieces-none, single, single-more, singles-all}
+use Rattle.lists.proofs.Pieces.{Pieces, pieces-none, single, single-more, singles-all}
 use mathlib.Core.Path.{refl}
 use native.Mathlib.Omega.{arith}
 use borrow.Author.Needs.{needs}

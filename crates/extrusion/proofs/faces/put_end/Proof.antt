@@ -1,6 +1,6 @@
-use Rattle.tables.proofs.Splices.{splice-start}
+use Rattle.lists.proofs.Splices.{splice-start}
 use Rattle.extrusion.proofs.Sides.{end-no, end-yes, length-by}
-use Rattle.tables.specs.Kept.{spliced}
+use Rattle.lists.specs.Parts.{spliced}
 use borrow.Author.Needs.{needs}
 use mathlib.Core.Path.{_∙_, ap, sym}
 use native.Mathlib.Omega.{arith}

@@ -1,5 +1,5 @@
 use Prim.Native.Nat.{_-_, _≤_}
-use Rattle.tables.proofs.Pieces.{Pieces, pieces-all, pieces-more, pieces-none}
+use Rattle.lists.proofs.Pieces.{Pieces, pieces-all, pieces-more, pieces-none}
 use Rattle.extrusion.proofs.Sides.{quad-length, quad-room}
 use Rattle.extrusion.specs.Listings.{spot}
 use Rattle.mesh.specs.Quads.{quad}

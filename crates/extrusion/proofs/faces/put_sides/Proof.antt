@@ -1,12 +1,12 @@
 use Prim.Native.Nat.{_*_, _-_, _≤_}
-use Rattle.tables.proofs.Pieces.{Pieces, pieces-all, pieces-more, pieces-none}
+use Rattle.lists.proofs.Pieces.{Pieces, pieces-all, pieces-more, pieces-none}
 use Rattle.extrusion.proofs.Sides.{row-width, rows-most, section-least, sides-are}
 use Rattle.extrusion.proofs.Walking.{row-room}
 use Rattle.extrusion.specs.Listings.{spot}
-use Rattle.mesh.specs.Lists.{flat}
+use Rattle.lists.specs.Lists.{flat}
 use Rattle.mesh.specs.Quads.{quad}
-use Rattle.polygon.specs.Loops.{tab}
-use Rattle.tables.specs.Kept.{spliced}
+use Rattle.lists.specs.Loops.{tab}
+use Rattle.lists.specs.Parts.{spliced}
 use borrow.Author.Needs.{needs}
 use mathlib.Core.Path.{_∙_, ap, refl}
 use native.Mathlib.Omega.{arith}

@@ -1,5 +1,5 @@
 use Prim.Native.Nat.{_-_}
-use Rattle.tables.proofs.Written.{Writing, writing-none, writing-more, writing-end}
+use Rattle.lists.proofs.Written.{Writing, writing-none, writing-more, writing-end}
 use borrow.Author.Needs.{needs}
 use native.Mathlib.Omega.{arith}
 use Rattle.extrusion.proofs.listing.put_numbers.Statement.{statement}

@@ -1,7 +1,7 @@
 use Prim.Native.Nat.{_+_, _-_}
 use Rattle.extrusion.proofs.Counting.{size-most, start-more, start-none, start-rises}
 use Rattle.extrusion.specs.Listings.{startAt}
-use Rattle.tables.proofs.Written.{Writing, writing-none, writing-more, writing-end}
+use Rattle.lists.proofs.Written.{Writing, writing-none, writing-more, writing-end}
 use borrow.Author.Needs.{needs}
 use mathlib.Core.Path.{_∙_, _≡_}
 use native.Mathlib.Omega.{arith}

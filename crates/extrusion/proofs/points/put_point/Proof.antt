@@ -1,5 +1,5 @@
-use Rattle.tables.proofs.Splices.{put-three}
-use Rattle.tables.specs.Kept.{spliced}
+use Rattle.lists.proofs.Splices.{put-three}
+use Rattle.lists.specs.Parts.{spliced}
 use borrow.Author.Needs.{needs}
 use lib.ListN.{length-set}
 use mathlib.Core.List.{[], _∷_}

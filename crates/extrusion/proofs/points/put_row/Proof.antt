@@ -1,9 +1,9 @@
 use Prim.Native.Nat.{_-_, _≤_}
-use Rattle.tables.proofs.Pieces.{Pieces, pieces-all, pieces-more, pieces-none}
+use Rattle.lists.proofs.Pieces.{Pieces, pieces-all, pieces-more, pieces-none}
 use Rattle.extrusion.proofs.Walking.{row-is, spot-is, spot-length, spotOf}
 use Rattle.extrusion.specs.Rows.{axesOf}
 use Rattle.mesh.specs.Extrusion.{twos}
-use Rattle.tables.specs.Kept.{spliced}
+use Rattle.lists.specs.Parts.{spliced}
 use borrow.Author.Needs.{needs}
 use mathlib.Core.Path.{_∙_, _≡_, refl, ap}
 use native.Mathlib.Omega.{arith}

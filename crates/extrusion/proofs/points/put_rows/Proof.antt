@@ -1,9 +1,9 @@
 use Prim.Native.Nat.{_*_, _-_, _<_, _^_, _≤_}
-use Rattle.tables.proofs.Pieces.{pieces-all}
+use Rattle.lists.proofs.Pieces.{pieces-all}
 use Rattle.extrusion.proofs.Values.{count2}
 use Rattle.extrusion.proofs.Walking.{Walked, row-room, walk-start, walk-step}
 use Rattle.mesh.specs.Extrusion.{threes, turnIn, twos}
-use Rattle.polygon.specs.Loops.{tab}
+use Rattle.lists.specs.Loops.{tab}
 use borrow.Author.Needs.{needs}
 use lib.ListN.{length}
 use mathlib.Core.Path.{_≡_}

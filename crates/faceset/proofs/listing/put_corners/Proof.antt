@@ -5,7 +5,7 @@ use lib.ListN.{getD}
 use Rattle.bits.specs.Bits.{entries}
 use Rattle.bits.proofs.Entries.{entries-length}
 use Rattle.block.proofs.RunLaws.{kept-below}
-use Rattle.tables.proofs.Written.{Writing, writing-none, writing-more, writing-end}
+use Rattle.lists.proofs.Written.{Writing, writing-none, writing-more, writing-end}
 use borrow.Author.Needs.{needs}
 use Rattle.faceset.proofs.listing.put_corners.Statement.{statement}
 use Rattle.faceset.proofs.listing.put_corners.Tie as tie

@@ -1,6 +1,6 @@
 use native.Mathlib.Omega.{arith}
 use Prim.Native.Nat.{_+_, _-_}
-use Rattle.tables.proofs.Written.{Writing, writing-none, writing-more, writing-end}
+use Rattle.lists.proofs.Written.{Writing, writing-none, writing-more, writing-end}
 use borrow.Author.Needs.{needs}
 use Rattle.faceset.proofs.listing.put_places.Statement.{statement}
 use Rattle.faceset.proofs.listing.put_places.Tie as tie

@@ -3,7 +3,7 @@ use Prim.Native.Nat.{_-_}
 use lib.ListN.{getD}
 use Rattle.bits.specs.Bits.{entries}
 use Rattle.bits.proofs.Entries.{entries-length}
-use Rattle.tables.proofs.Written.{Writing, writing-none, writing-more, writing-end}
+use Rattle.lists.proofs.Written.{Writing, writing-none, writing-more, writing-end}
 use Rattle.faceset.proofs.Writing.{copied-of}
 use borrow.Author.Needs.{needs}
 use Rattle.faceset.proofs.points.put_points.Statement.{statement}

@@ -1,7 +1,7 @@
 use mathlib.Core.Path.{_≡_}
 use Prim.Native.Nat.{_+_, _*_, _-_}
 use native.Mathlib.Omega.{arith}
-use Rattle.tables.specs.Kept.{seg}
+use Rattle.lists.specs.Parts.{seg}
 use Rattle.tables.specs.Soups.{pointsIn}
 use borrow.Author.Needs.{needs}
 use Rattle.facesetshape.proofs.filling.fit_in.Statement.{statement}

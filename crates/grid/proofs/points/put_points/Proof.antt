@@ -1,6 +1,6 @@
 use mathlib.Core.List.{List}
 use lib.ListN.{length}
-use Rattle.tables.proofs.Pieces.{Pieces, pieces-none, pieces-more, pieces-all}
+use Rattle.lists.proofs.Pieces.{Pieces, pieces-none, pieces-more, pieces-all}
 use Rattle.mesh.specs.Grid.{xDimension, zDimension, gridPoint, gridPoints}
 use Rattle.mesh.specs.Words.{words3}
 use Rattle.block.specs.Lists.{listBytes}

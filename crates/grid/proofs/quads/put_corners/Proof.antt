@@ -1,5 +1,5 @@
 use Rattle.grid.specs.Listings.{cornerPoint}
-use Rattle.tables.proofs.Written.{Writing, writing-none, writing-more, writing-end}
+use Rattle.lists.proofs.Written.{Writing, writing-none, writing-more, writing-end}
 use mathlib.Core.Path.{_∙_}
 use Prim.Native.Nat.{_-_}
 use native.Mathlib.Omega.{arith}

@@ -1,5 +1,5 @@
 use Rattle.grid.proofs.Numbers.{multiple-below}
-use Rattle.tables.proofs.Written.{Writing, writing-none, writing-more, writing-end}
+use Rattle.lists.proofs.Written.{Writing, writing-none, writing-more, writing-end}
 use Prim.Native.Nat.{ℕ, _-_, _*_}
 use native.Mathlib.Omega.{arith}
 use borrow.Author.Needs.{needs}

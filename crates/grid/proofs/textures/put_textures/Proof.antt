@@ -1,7 +1,7 @@
 use Rattle.grid.specs.Textures.{gridTexture}
 use Rattle.texture.proofs.Filled.{textured-none, textured-more}
 use Rattle.texture.specs.Textured.{Textured}
-use Rattle.tables.proofs.Keep.{kept-at}
+use Rattle.lists.proofs.Keep.{kept-at}
 use lib.ListN.{length, getD}
 use mathlib.Core.Path.{_≡_, _∙_, ap}
 use Prim.Native.Nat.{ℕ, _+_, _*_, _-_, _≤_}

@@ -4,8 +4,8 @@ use native.Mathlib.Nat.{zero-add}
 use native.Mathlib.Omega.{arith}
 use lib.ListN.{length}
 use lib.Seq.{sets}
-use Rattle.tables.specs.Kept.{seg}
-use Rattle.tables.proofs.Keep.{length-seg}
+use Rattle.lists.specs.Parts.{seg}
+use Rattle.lists.proofs.Keep.{length-seg}
 use Rattle.lines.proofs.Putting.{left-all}
 use Rattle.lines.proofs.Pairs.{Lining, lining-here, lining-room, lining-next, lining-end, part-is}
 use borrow.Author.Needs.{needs}

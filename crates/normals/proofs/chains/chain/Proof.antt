@@ -2,9 +2,9 @@ use native.Mathlib.Omega.{arith}
 use mathlib.Core.Path.{_≡_, _∙_}
 use Prim.Native.Nat.{_-_, _≤_}
 use lib.ListN.{length-set}
-use Rattle.tables.specs.Kept.{seg, Kept}
+use Rattle.lists.specs.Parts.{seg, Kept}
 use Rattle.normals.specs.Chain.{Chained, Chainable}
-use Rattle.tables.proofs.Keep.{kept-all, kept-then, kept-seg}
+use Rattle.lists.proofs.Keep.{kept-all, kept-then, kept-seg}
 use Rattle.normals.proofs.Links.{chain-start, chain-next, chainable-kept}
 use borrow.Author.Needs.{needs}
 use Rattle.normals.proofs.chains.chain.Statement.{statement}

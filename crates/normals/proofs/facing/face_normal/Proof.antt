@@ -1,5 +1,5 @@
 use mathlib.Core.Path.{refl}
-use Rattle.tables.specs.Kept.{seg}
+use Rattle.lists.specs.Parts.{seg}
 use Rattle.normals.proofs.Making.{facing-made}
 use borrow.Author.Needs.{needs}
 use Rattle.normals.proofs.facing.face_normal.Statement.{statement}

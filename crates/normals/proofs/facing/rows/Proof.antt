@@ -1,9 +1,9 @@
 use native.Mathlib.Omega.{arith}
 use mathlib.Core.Path.{_≡_}
 use Prim.Native.Nat.{_-_, _≤_}
-use Rattle.tables.specs.Kept.{Kept}
+use Rattle.lists.specs.Parts.{Kept}
 use Rattle.tables.specs.Soups.{Sound}
-use Rattle.tables.proofs.Keep.{kept-all}
+use Rattle.lists.proofs.Keep.{kept-all}
 use Rattle.normals.specs.Rows.{Rowed}
 use Rattle.normals.proofs.Making.{rows-next}
 use borrow.Author.Needs.{needs}

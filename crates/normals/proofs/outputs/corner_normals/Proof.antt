@@ -4,7 +4,7 @@ use mathlib.Core.List.{_++_}
 use Prim.Native.Nat.{_*_, _-_, _≤_}
 use lib.ListN.{length, drop}
 use borrow.Rule.Slice.PartMut.{mid-len}
-use Rattle.polygon.specs.Loops.{tab}
+use Rattle.lists.specs.Loops.{tab}
 use Rattle.tables.specs.Soups.{startIn}
 use Rattle.normals.specs.Written.{spread, cornerNormalIn}
 use Rattle.normals.proofs.Fills.{faces-start, faces-next}

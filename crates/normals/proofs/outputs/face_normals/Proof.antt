@@ -4,7 +4,7 @@ use Prim.Native.Nat.{ℕ, _*_, _-_, _≤_}
 use lib.ListN.{length}
 use mathlib.Core.List.{_++_}
 use lib.ListN.{drop}
-use Rattle.polygon.specs.Loops.{tab}
+use Rattle.lists.specs.Loops.{tab}
 use Rattle.tables.specs.Soups.{gatherIn}
 use Rattle.normals.specs.Written.{spread, normalAt}
 use Rattle.normals.proofs.Fills.{spread-none, spread-step, made-length, made-all}

@@ -1,6 +1,6 @@
 use native.Mathlib.Omega.{arith}
 use lib.ListN.{length-set}
-use Rattle.tables.proofs.Splices.{put-three}
+use Rattle.lists.proofs.Splices.{put-three}
 use borrow.Author.Needs.{needs}
 use Rattle.normals.proofs.vectors.put3.Statement.{statement}
 use Rattle.normals.proofs.vectors.put3.Tie as tie

@@ -4,9 +4,9 @@ use native.Mathlib.Nat.{sub-zero}
 use native.Mathlib.Omega.{arith}
 use borrow.Author.Needs.{needs}
 use Rattle.polygon.specs.Ears.{areaTerm, area}
-use Rattle.polygon.specs.Loops.{run}
+use Rattle.lists.specs.Loops.{run}
 use Rattle.polygon.specs.Memo.{xy}
-use Rattle.polygon.proofs.Laws.{run-go, run-end}
+use Rattle.lists.proofs.Loops.{run-go, run-end}
 use Rattle.polygon.proofs.ears.area_of.Statement.{statement}
 use Rattle.polygon.proofs.ears.area_of.Tie as tie
 

@@ -7,9 +7,9 @@ use lib.ListN.{length, take}
 use lib.Seq.{sets}
 use borrow.Author.Needs.{needs}
 use Rattle.polygon.specs.Ears.{place, order}
-use Rattle.polygon.specs.Loops.{tab}
+use Rattle.lists.specs.Loops.{tab}
 use Rattle.polygon.proofs.Count.{length-order}
-use Rattle.polygon.proofs.Laws.{tab-go, tab-end}
+use Rattle.lists.proofs.Loops.{tab-go, tab-end}
 use Rattle.polygon.proofs.Lists.{take-sets}
 use Rattle.polygon.proofs.ears.set_order.Statement.{statement}
 use Rattle.polygon.proofs.ears.set_order.Tie as tie

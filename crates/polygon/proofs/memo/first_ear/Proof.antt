@@ -6,9 +6,9 @@ use lib.ListN.{length, take}
 use lib.Seq.{length-take-le}
 use borrow.Author.Needs.{needs}
 use Rattle.polygon.specs.Ears.{isEar, firstEar}
-use Rattle.polygon.specs.Loops.{first}
+use Rattle.lists.specs.Loops.{first}
 use Rattle.polygon.specs.Memo.{xy, Searched}
-use Rattle.polygon.proofs.Laws.{first-go, first-stop, first-end}
+use Rattle.lists.proofs.Loops.{first-go, first-stop, first-end}
 use Rattle.polygon.proofs.Tables.{as-was}
 use Rattle.polygon.proofs.Turns.{searched-ear, searched-tells, searched-sound, searched-then}
 use Rattle.polygon.proofs.memo.first_ear.Statement.{statement}

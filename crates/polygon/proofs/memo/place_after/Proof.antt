@@ -1,5 +1,5 @@
 use borrow.Author.Needs.{needs}
-use Rattle.polygon.proofs.Laws.{on-last, on-more}
+use Rattle.lists.proofs.Loops.{on-last, on-more}
 use Rattle.polygon.proofs.memo.place_after.Statement.{statement}
 use Rattle.polygon.proofs.memo.place_after.Tie as tie
 

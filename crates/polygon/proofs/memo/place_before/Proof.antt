@@ -1,5 +1,5 @@
 use borrow.Author.Needs.{needs}
-use Rattle.polygon.proofs.Laws.{back-zero, back-some}
+use Rattle.lists.proofs.Loops.{back-zero, back-some}
 use Rattle.polygon.proofs.memo.place_before.Statement.{statement}
 use Rattle.polygon.proofs.memo.place_before.Tie as tie
 

@@ -2,9 +2,9 @@ use mathlib.Core.Path.{_≡_, refl, sym, _∙_}
 use Prim.Native.Nat.{_-_}
 use native.Mathlib.Omega.{arith}
 use borrow.Author.Needs.{needs}
-use Rattle.polygon.specs.Loops.{first}
+use Rattle.lists.specs.Loops.{first}
 use Rattle.polygon.specs.Memo.{xy, dotOf, inWay, hits}
-use Rattle.polygon.proofs.Laws.{first-go, first-stop, first-end}
+use Rattle.lists.proofs.Loops.{first-go, first-stop, first-end}
 use Rattle.polygon.proofs.memo.scan.Statement.{statement}
 use Rattle.polygon.proofs.memo.scan.Tie as tie
 

@@ -4,9 +4,9 @@ use Prim.Native.Nat.{_-_, _≤_}
 use native.Mathlib.Omega.{arith}
 use lib.ListN.{length}
 use borrow.Author.Needs.{needs}
-use Rattle.polygon.specs.Loops.{first}
+use Rattle.lists.specs.Loops.{first}
 use Rattle.polygon.specs.Memo.{xy, dotOf, inWay, hits}
-use Rattle.polygon.proofs.Laws.{first-end}
+use Rattle.lists.proofs.Loops.{first-end}
 use Rattle.polygon.proofs.Blocks.{block-hit, block-past}
 use Rattle.polygon.proofs.memo.scan_blocks.Statement.{statement}
 use Rattle.polygon.proofs.memo.scan_blocks.Tie as tie

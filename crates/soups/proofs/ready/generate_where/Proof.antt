@@ -1,5 +1,5 @@
 use borrow.Author.Needs.{needs}
-use Rattle.tables.proofs.Keep.{kept-all}
+use Rattle.lists.proofs.Keep.{kept-all}
 use Rattle.soups.proofs.Generating.{as-supplied, as-generated}
 use Rattle.soups.proofs.ready.generate_where.Statement.{statement}
 use Rattle.soups.proofs.ready.generate_where.Tie as tie

@@ -1,5 +1,5 @@
 use native.Mathlib.Omega.{arith}
-use Rattle.tables.proofs.Keep.{kept-then}
+use Rattle.lists.proofs.Keep.{kept-then}
 use Rattle.tables.proofs.Stays.{sound-kept}
 use Rattle.soups.proofs.Generating.{spread-from}
 use borrow.Author.Needs.{needs}

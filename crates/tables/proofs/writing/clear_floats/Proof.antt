@@ -3,7 +3,7 @@ use native.Mathlib.Omega.{arith}
 use lib.ListN.{length}
 use lib.Ieee.{binary32, ofBits}
 use borrow.Author.Needs.{needs}
-use Rattle.tables.proofs.Clear.{Cleared, clear-none, clear-more, clear-all}
+use Rattle.lists.proofs.Clear.{Cleared, clear-none, clear-more, clear-all}
 use Rattle.tables.proofs.writing.clear_floats.Statement.{statement}
 use Rattle.tables.proofs.writing.clear_floats.Tie as tie
 

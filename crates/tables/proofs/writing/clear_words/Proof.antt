@@ -2,7 +2,7 @@ use Prim.Native.Nat.{_-_}
 use native.Mathlib.Omega.{arith}
 use lib.ListN.{length}
 use borrow.Author.Needs.{needs}
-use Rattle.tables.proofs.Clear.{Cleared, clear-none, clear-more, clear-all}
+use Rattle.lists.proofs.Clear.{Cleared, clear-none, clear-more, clear-all}
 use Rattle.tables.proofs.writing.clear_words.Statement.{statement}
 use Rattle.tables.proofs.writing.clear_words.Tie as tie
 

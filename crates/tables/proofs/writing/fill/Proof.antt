@@ -1,7 +1,7 @@
 use native.Mathlib.Omega.{arith}
 use mathlib.Core.Path.{refl}
 use Prim.Native.Nat.{_-_}
-use Rattle.tables.proofs.Written.{Writing, writing-none, writing-more, writing-end}
+use Rattle.lists.proofs.Written.{Writing, writing-none, writing-more, writing-end}
 use borrow.Author.Needs.{needs}
 use Rattle.tables.proofs.writing.fill.Statement.{statement}
 use Rattle.tables.proofs.writing.fill.Tie as tie

@@ -1,4 +1,4 @@
-use Rattle.tables.proofs.Splices.{put-two}
+use Rattle.lists.proofs.Splices.{put-two}
 use lib.ListN.{length-set}
 use native.Mathlib.Omega.{arith}
 use borrow.Author.Needs.{needs}

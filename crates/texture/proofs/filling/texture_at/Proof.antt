@@ -1,6 +1,6 @@
 use Prim.Native.Nat.{_+_, _*_, _-_}
 use mathlib.Core.Path.{_≡_}
-use Rattle.tables.specs.Kept.{seg}
+use Rattle.lists.specs.Parts.{seg}
 use native.Mathlib.Omega.{arith}
 use borrow.Author.Needs.{needs}
 use Rattle.texture.proofs.filling.texture_at.Statement.{statement}

@@ -4,7 +4,7 @@ use mathlib.Core.Path.{_≡_, refl, sym, _∙_}
 use Prim.Native.Nat.{_+_, _-_, _≤_}
 use lib.ListN.{length, length-set}
 use lib.Seq.{sets}
-use Rattle.tables.specs.Kept.{seg}
+use Rattle.lists.specs.Parts.{seg}
 use Rattle.vertices.proofs.Words.{put-next, put-end}
 use borrow.Author.Needs.{needs}
 use Rattle.vertices.proofs.parts.put_words.Statement.{statement}

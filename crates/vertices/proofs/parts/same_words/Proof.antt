@@ -2,8 +2,8 @@ use native.Mathlib.Omega.{arith}
 use native.Mathlib.Nat.{add-zero, sub-zero}
 use mathlib.Core.Path.{_≡_, sym, _∙_}
 use Prim.Native.Nat.{_+_, _-_, _≤_}
-use Rattle.mesh.specs.Lists.{sameWords}
-use Rattle.tables.specs.Kept.{seg}
+use Rattle.lists.specs.Lists.{sameWords}
+use Rattle.lists.specs.Parts.{seg}
 use Rattle.vertices.proofs.Words.{same-next, same-differ, same-end}
 use borrow.Author.Needs.{needs}
 use Rattle.vertices.proofs.parts.same_words.Statement.{statement}

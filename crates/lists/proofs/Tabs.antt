@@ -1,11 +1,14 @@
 -- Lists made by number: their length, their elements, parts joined.
 use mathlib.Core.Path.{_≡_, refl, sym, ap, ap₂, _∙_}
 use mathlib.Core.List.{List, _∷_, _++_, map}
-use Prim.Native.Nat.{ℕ, zero, suc, _+_, _<_}
+use Prim.Native.Nat.{ℕ, zero, suc, _+_, _<_, _≤_}
 use native.Mathlib.Nat.{not-suc-le-zero, le-of-suc-le-suc, zero-add, add-zero, add-suc, suc-add}
 use native.Mathlib.Omega.{arith}
 use lib.ListN.{length, getD}
-use Rattle.polygon.specs.Loops.{tab}
+use Rattle.lists.specs.Loops.{tab}
+use lib.Seq.{ext-getD}
+use Rattle.lists.specs.Parts.{seg}
+use Rattle.lists.proofs.Keep.{length-seg, seg-at}
 
 module _ {A : Type 0} where
   pub length-tab : (f : ℕ → A) (k i : ℕ) → length (tab f k i) ≡ k
@@ -43,3 +46,11 @@ module _ {A : Type 0} where
   unfolding tab
   map-tab {B} f h zero i = refl
   map-tab {B} f h (suc k) i = ap (λ (l : List B). h (f i) ∷ l) (map-tab f h k (suc i))
+
+pub seg-tab : (w : List ℕ) (a n i : ℕ) → a + i + n ≤ length w → seg w (a + i) n ≡ tab (λ (j : ℕ). getD w (a + j) 0) n i
+seg-tab w a n i h =
+    let f : ℕ → ℕ = λ (j : ℕ). getD w (a + j) 0 in
+    let l = length-seg w (a + i) n h in
+    ext-getD 0 (seg w (a + i) n) (tab f n i) (l ∙ sym (length-tab f n i))
+    (λ j b. let q : j < n = omega arith in let s : a + i + j ≡ a + (i + j) = omega arith in
+    seg-at w (a + i) n j q ∙ ap (λ (k : ℕ). getD w k 0) s ∙ sym (getD-tab f n i j 0 q))

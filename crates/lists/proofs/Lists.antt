@@ -10,8 +10,8 @@ use lib.Dec.{T, eqb, ltb, eqb→eq, eqb-refl}
 use lib.Ieee.Fits.{and-i, and-l, and-r}
 use lib.ListN.{length, getD, set, take, drop, length-append, length-drop, length-map, List·getD-append}
 use lib.Seq.{sets, take-append-le, drop-append-le, take-at, drop-append-add, getD-at, take-nil, take-take, drop-drop}
-use Rattle.polygon.specs.Loops.{All}
-use Rattle.mesh.specs.Lists.{mapN, joinN, total, has, place, meet, firsts, sameWords, flat}
+use Rattle.lists.specs.Loops.{All}
+use Rattle.lists.specs.Lists.{mapN, joinN, total, has, place, meet, firsts, sameWords, flat}
 
 -- ---- a fact of each element
 

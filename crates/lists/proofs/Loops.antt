@@ -8,7 +8,7 @@ use native.Mathlib.Numerals.{add-one}
 use native.Mathlib.Omega.{arith}
 use lib.ListN.{set}
 use lib.Seq.{sets}
-use Rattle.polygon.specs.Loops.{pick, tab, run, first}
+use Rattle.lists.specs.Loops.{pick, tab, run, first}
 
 left-suc : (n i : ℕ) → i < n → n - i ≡ suc (n - (i + 1))
 left-suc n i h = omega arith

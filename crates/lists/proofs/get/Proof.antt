@@ -2,8 +2,8 @@ use mathlib.Core.Path.{sym}
 use native.Mathlib.Omega.{arith}
 use lib.ListN.{List·getD-eq-default}
 use borrow.Author.Needs.{needs}
-use Rattle.polygon.proofs.points.get.Statement.{statement}
-use Rattle.polygon.proofs.points.get.Tie as tie
+use Rattle.lists.proofs.get.Statement.{statement}
+use Rattle.lists.proofs.get.Tie as tie
 
 mul-result : tie.Need-mul-result
 mul-result c = search needs

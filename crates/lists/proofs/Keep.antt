@@ -8,7 +8,7 @@ use native.Mathlib.Numerals.{add-one}
 use native.Mathlib.Omega.{arith}
 use lib.ListN.{length, getD, set, take, drop, length-set, length-drop}
 use lib.Seq.{take-set-le, take-take, getD-take, getD-drop, getD-set-same, getD-set-other, ext-getD, length-take-le}
-use Rattle.tables.specs.Kept.{seg, Kept, TableOf}
+use Rattle.lists.specs.Parts.{seg, Kept, TableOf}
 
 pub kept-all : {a : ℕ} {w : List ℕ} → Kept a w w
 kept-all = record { len = refl; front = refl }

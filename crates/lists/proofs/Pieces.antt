@@ -5,12 +5,12 @@ use Prim.Native.Nat.{ℕ, zero, suc, _+_, _*_, _≤_, _<_}
 use native.Mathlib.Nat.{zero-add}
 use native.Mathlib.Omega.{arith}
 use lib.ListN.{length, set, length-append}
-use Rattle.polygon.specs.Loops.{tab}
-use Rattle.polygon.proofs.Tabs.{tab-add}
-use Rattle.mesh.specs.Lists.{flat}
-use Rattle.mesh.proofs.Tabs.{flat-total, total-tab}
-use Rattle.tables.specs.Kept.{spliced}
-use Rattle.tables.proofs.Splices.{splice-start, splice-more, length-splice, set-is}
+use Rattle.lists.specs.Loops.{tab}
+use Rattle.lists.proofs.Tabs.{tab-add}
+use Rattle.lists.specs.Lists.{flat}
+use Rattle.lists.proofs.Totals.{flat-total, total-tab}
+use Rattle.lists.specs.Parts.{spliced}
+use Rattle.lists.proofs.Splices.{splice-start, splice-more, length-splice, set-is}
 
 module _ {A : Type 0} where
   pub flat-append : (x y : List (List A)) → flat (x ++ y) ≡ flat x ++ flat y

@@ -5,8 +5,8 @@ use Prim.Native.Nat.{ℕ, _+_, _≤_, _<_}
 use native.Mathlib.Omega.{arith}
 use lib.ListN.{length, set, drop}
 use lib.Seq.{drop-set-lt}
-use Rattle.tables.specs.Kept.{Kept, TableOf, Written}
-use Rattle.tables.proofs.Keep.{kept-all, kept-set, set-hit, table-none, table-more}
+use Rattle.lists.specs.Parts.{Kept, TableOf, Written}
+use Rattle.lists.proofs.Keep.{kept-all, kept-set, set-hit, table-none, table-more}
 
 -- a loop: the first i of n words are written
 pub record Writing (a n : ℕ) (f : ℕ → ℕ) (w w′ : List ℕ) (i : ℕ) : Type 0 where

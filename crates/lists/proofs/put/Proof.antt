@@ -1,8 +1,8 @@
 use mathlib.Core.Path.{sym}
 use lib.Seq.{set-out}
 use borrow.Author.Needs.{needs}
-use Rattle.polygon.proofs.points.put.Statement.{statement}
-use Rattle.polygon.proofs.points.put.Tie as tie
+use Rattle.lists.proofs.put.Statement.{statement}
+use Rattle.lists.proofs.put.Tie as tie
 
 mul-table : tie.Need-mul-table
 mul-table c = search needs

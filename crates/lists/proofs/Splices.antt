@@ -8,7 +8,7 @@ use native.Mathlib.Omega.{arith}
 use lib.ListN.{length, set, take, drop, length-append, length-take, length-drop, take-append-drop}
 use lib.Seq.{take-at, drop-at, drop-append-add, drop-drop, length-take-le, set-split, sets-eq, append-snoc, take-append-seam}
 use borrow.Rule.Slice.PartMut.{putMid, post-is}
-use Rattle.tables.specs.Kept.{seg, spliced, Kept}
+use Rattle.lists.specs.Parts.{seg, spliced, Kept}
 
 module _ {A : Type 0} where
   -- a part that was lent and came back as ys
