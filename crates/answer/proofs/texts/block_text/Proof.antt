@@ -49,7 +49,9 @@ slice-aggregate-put-mesh-6 : tie.Need-slice-aggregate-put-mesh-6
 slice-aggregate-put-mesh-6 c = search needs
 
 put-mesh-requires : tie.Need-put-mesh-requires
-put-mesh-requires c κs = let f = answer-few _ _ _ (c .before .before .before .before .before .before .before .before .before .before .before .before .before .before .before .before .before .lend-and-convert .ensures) (c .before .before .before .before .before .before .before .before .before .before .before .before .before .before .before .answer2 .given .1) in (omega (arith, f .0), omega (arith, f .1))
+put-mesh-requires c κs =
+    let c15 = c .before .before .before .before .before .before .before .before .before .before .before .before .before .before .before in
+    let f = answer-few _ _ _ (c15 .before .before .lend-and-convert .ensures) (c15 .answer2 .given .1) in (omega (arith, f .0), omega (arith, f .1))
 
 same-length : tie.Need-same-length
 same-length c = search needs

@@ -34,7 +34,9 @@ loop-less : tie.Need-loop-less Inv-loop μ-loop
 loop-less c = omega arith
 
 loop-again : tie.Need-loop-again Inv-loop μ-loop
-loop-again c = (c .before .before .loop .inv .0, omega arith, below-step (suc (c .before .before .before .args .limit)) (c .before .before .before .args .t1) (c .before .before .loop .k) _ (omega arith) refl (c .before .before .loop .inv .2) (omega arith))
+loop-again c =
+    let c2 = c .before .before in
+    (c2 .loop .inv .0, omega arith, below-step (suc (c2 .before .args .limit)) (c2 .before .args .t1) (c2 .loop .k) _ (omega arith) refl (c2 .loop .inv .2) (omega arith))
 
 returns-2 : tie.Need-returns-2 Inv-loop μ-loop
 returns-2 c = ap not (below-all (suc (c .before .before .args .limit)) (c .before .before .args .t1) (c .before .loop .k) (omega arith) (c .before .loop .inv .2))

@@ -54,16 +54,20 @@ loop-less c = omega arith
 
 loop-again : tie.Need-loop-again Inv-loop μ-loop
 loop-again c =
-    let points = c .before .before .before .before .before .before .before .args .points in
-    let run = c .before .before .before .run-at .result .now in
+    let c2 = c .before .before in
+    let c3 = c2 .before in
+    let c5 = c3 .before .before in
+    let c7 = c5 .before .before in
+    let points = c7 .args .points in
+    let run = c3 .run-at .result .now in
     let l = entries-length run in
-    let turn = sum-turn (c .before .before .before .before .before .before .before .args .list .now) (c .before .before .before .before .before .loop .start) run (c .before .before .before .run-at .ensures .items) _ (c .next-start .ensures) (omega arith) in
+    let turn = sum-turn (c7 .args .list .now) (c5 .loop .start) run (c3 .run-at .ensures .items) _ (c .next-start .ensures) (omega arith) in
     let fs = turn (faces points) in
     let cs = turn (corners points) in
     let ts = turn (triangles points) in
     ⊎-elim
-    (λ w. omega (arith, w, face-kept points (entries run) (sym (c .before .before .is-kept .ensures) ∙ w .0 .taken)))
-    (λ w. omega (arith, w, face-lost points (entries run) (sym (c .before .before .is-kept .ensures) ∙ w .0 .left)))
+    (λ w. omega (arith, w, face-kept points (entries run) (sym (c2 .is-kept .ensures) ∙ w .0 .taken)))
+    (λ w. omega (arith, w, face-lost points (entries run) (sym (c2 .is-kept .ensures) ∙ w .0 .left)))
     (c .before .if1 .came)
 
 returns : tie.Need-returns Inv-loop μ-loop

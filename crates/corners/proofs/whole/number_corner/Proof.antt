@@ -14,13 +14,21 @@ add-at : tie.Need-add-at
 add-at c = omega (arith, c .before .before .before .before .before .before .before .before .before .before .before .before .before .before .before .before .before .before .before .before .before .before .before .before .before .before .before .before .before .before .pre)
 
 narrow-requires : tie.Need-narrow-requires
-narrow-requires c κs = omega (arith, number-few (c .before .before .before .before .before .before .before .before .before .before .before .before .before .before .before .before .before .before .before .before .before .before .before .before .before .before .before .before .before .before .pre .0) (c .before .before .before .before .before .before .before .before .before .before .before .before .before .before .vertex .ensures), c .before .before .before .before .before .before .before .before .before .before .before .before .before .before .before .before .before .before .before .before .before .before .before .before .before .before .before .before .before .before .pre .0 .room .roomy)
+narrow-requires c κs =
+    let c14 = c .before .before .before .before .before .before .before .before .before .before .before .before .before .before in
+    let c30 = c14 .before .before .before .before .before .before .before .before .before .before .before .before .before .before .before .before in
+    omega (arith, number-few (c30 .pre .0) (c14 .vertex .ensures), c30 .pre .0 .room .roomy)
 
 mul-work : tie.Need-mul-work
-mul-work c = omega (arith, c .before .before .before .before .before .before .before .before .before .before .before .before .before .before .before .before .before .before .before .before .before .before .before .before .before .before .before .before .before .before .before .pre .1, c .before .before .before .before .before .before .before .before .before .before .before .before .before .before .before .before .before .before .before .before .before .before .before .before .before .before .before .before .before .before .before .pre .2, c .before .before .before .before .before .before .before .before .before .before .before .before .before .before .before .vertex .ensures .len, c .before .before .before .before .before .before .before .before .before .before .before .before .before .before .before .before .before .before .before .before .before .before .before .before .before .before .before .before .before .before .before .good)
+mul-work c =
+    let c15 = c .before .before .before .before .before .before .before .before .before .before .before .before .before .before .before in
+    let c31 = c15 .before .before .before .before .before .before .before .before .before .before .before .before .before .before .before .before in
+    omega (arith, c31 .pre .1, c31 .pre .2, c15 .vertex .ensures .len, c31 .good)
 
 slice-write-work : tie.Need-slice-write-work
-slice-write-work c = omega (arith, c .before .before .before .before .before .before .before .before .before .before .before .before .before .before .before .before .before .before .before .before .before .before .before .before .before .before .before .before .before .before .before .pre, c .before .before .before .before .before .before .before .before .before .before .before .before .before .before .before .vertex .ensures .len)
+slice-write-work c =
+    let c15 = c .before .before .before .before .before .before .before .before .before .before .before .before .before .before .before in
+    omega (arith, c15 .before .before .before .before .before .before .before .before .before .before .before .before .before .before .before .before .pre, c15 .vertex .ensures .len)
 
 count-after-requires : tie.Need-count-after-requires
 count-after-requires c κs = omega (arith, c .before .before .before .before .before .before .before .before .before .before .before .before .before .before .before .before .before .before .before .before .before .before .before .before .before .before .before .before .before .before .before .pre .0 .room .roomy)

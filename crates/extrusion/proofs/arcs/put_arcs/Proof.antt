@@ -15,12 +15,15 @@ list-part-requires : tie.Need-list-part-requires
 list-part-requires c κs = search needs
 
 put-params-requires : tie.Need-put-params-requires
-put-params-requires c κs = let G = c .before .before .before .before .before .before .pre .0 in (
-  section-room G _ _ (c .before .list-part .ensures) (c .before .before .section-count .ensures),
-  rw (c .before .before .section-count .ensures) (G .section),
-  omega (arith, c .before .before .section-count .ensures, section-few G),
-  omega (arith, c .before .before .section-count .ensures, c .before .before .before .before .before .before .pre .1),
-)
+put-params-requires c κs =
+    let c2 = c .before .before in
+    let c6 = c2 .before .before .before .before in
+    let G = c6 .pre .0 in (
+      section-room G _ _ (c .before .list-part .ensures) (c2 .section-count .ensures),
+      rw (c2 .section-count .ensures) (G .section),
+      omega (arith, c2 .section-count .ensures, section-few G),
+      omega (arith, c2 .section-count .ensures, c6 .pre .1),
+    )
 
 list-part-requires-2 : tie.Need-list-part-requires-2
 list-part-requires-2 c κs = search needs
@@ -29,18 +32,30 @@ add-put-params : tie.Need-add-put-params
 add-put-params c = search needs
 
 put-params-requires-2 : tie.Need-put-params-requires-2
-put-params-requires-2 c κs = let G = c .before .before .before .before .before .before .before .before .before .before .before .pre .0 in (
-  spine-room G _ _ (c .before .list-part2 .ensures) (c .before .before .before .before .before .before .before .before .spine-count .ensures),
-  rw (c .before .before .before .before .before .before .before .before .spine-count .ensures) (G .spine),
-  omega (arith, c .before .before .before .before .before .before .before .before .spine-count .ensures, spine-few G),
-  omega (arith, c .before .before .before .before .before .before .before .section-count .ensures, c .before .before .before .before .before .before .before .before .spine-count .ensures, c .before .before .before .before .before .before .before .before .before .before .before .pre .1, c .before .before .before .floats .given),
-)
+put-params-requires-2 c κs =
+    let c3 = c .before .before .before in
+    let c7 = c3 .before .before .before .before in
+    let c8 = c7 .before in
+    let c11 = c8 .before .before .before in
+    let G = c11 .pre .0 in (
+      spine-room G _ _ (c .before .list-part2 .ensures) (c8 .spine-count .ensures),
+      rw (c8 .spine-count .ensures) (G .spine),
+      omega (arith, c8 .spine-count .ensures, spine-few G),
+      omega (arith, c7 .section-count .ensures, c8 .spine-count .ensures, c11 .pre .1, c3 .floats .given),
+    )
 
 same-length : tie.Need-same-length
 same-length c = search needs
 
 returns : tie.Need-returns
-returns c = arcs-put (c .before .before .before .before .before .before .before .before .before .before .before .before .before .before .pre .0) _ _ _ _ _ _ _ _ (c .before .before .before .before .before .before .before .before .before .list-part .ensures) (c .before .before .before .before .before .before .before .before .before .before .section-count .ensures) (c .before .before .before .before .list-part2 .ensures) (c .before .before .before .before .before .before .before .before .before .before .before .spine-count .ensures) (omega (arith, c .before .before .before .before .before .before .before .before .before .before .section-count .ensures, c .before .before .before .before .before .before .before .before .before .before .before .spine-count .ensures, c .before .before .before .before .before .before .before .before .before .before .before .before .before .before .pre .1)) (c .before .before .before .before .before .before .before .put-params .ensures) (c .before .before .put-params2 .ensures)
+returns c =
+    let c2 = c .before .before in
+    let c4 = c2 .before .before in
+    let c7 = c4 .before .before .before in
+    let c9 = c7 .before .before in
+    let c11 = c9 .before .before in
+    let c14 = c11 .before .before .before in
+    arcs-put (c14 .pre .0) _ _ _ _ _ _ _ _ (c9 .list-part .ensures) (c9 .before .section-count .ensures) (c4 .list-part2 .ensures) (c11 .spine-count .ensures) (omega (arith, c9 .before .section-count .ensures, c11 .spine-count .ensures, c14 .pre .1)) (c7 .put-params .ensures) (c2 .put-params2 .ensures)
 
 pub put-arcs-spec : {M : Type 1} → statement M
 put-arcs-spec =

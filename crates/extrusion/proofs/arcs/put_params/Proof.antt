@@ -53,11 +53,14 @@ loop-less : tie.Need-loop-less Inv-loop μ-loop
 loop-less c = search needs
 
 loop-again : tie.Need-loop-again Inv-loop μ-loop
-loop-again c = (
-  omega arith,
-  length-step _ _ _ _ _ (c .before .before .before .before .loop .inv .1) (c .before .step-of .ensures) (c .counted .ensures),
-  single-more _ (c .before .before .before .before .before .before .before .before .args .floats .now) _ (c .before .before .before .before .before .before .before .before .args .k) (c .before .before .before .before .loop .j) _ (omega arith) (c .before .before .before .before .loop .inv .2) (param-is _ _ _ _ _ _ (c .before .before .before .before .before .arc-total .ensures) (c .before .before .before .before .loop .inv .1) (c .before .before .share .ensures)),
-)
+loop-again c =
+    let c2 = c .before .before in
+    let c4 = c2 .before .before in
+    let c8 = c4 .before .before .before .before in (
+      omega arith,
+      length-step _ _ _ _ _ (c4 .loop .inv .1) (c .before .step-of .ensures) (c .counted .ensures),
+      single-more _ (c8 .args .floats .now) _ (c8 .args .k) (c4 .loop .j) _ (omega arith) (c4 .loop .inv .2) (param-is _ _ _ _ _ _ (c4 .before .arc-total .ensures) (c4 .loop .inv .1) (c2 .share .ensures)),
+    )
 
 sub-share-2 : tie.Need-sub-share-2 Inv-loop μ-loop
 sub-share-2 c = search needs
@@ -78,7 +81,10 @@ same-length : tie.Need-same-length Inv-loop μ-loop
 same-length c = simp length-set (c .before .before .loop .inv .2 .size)
 
 returns : tie.Need-returns Inv-loop μ-loop
-returns c = params-all _ _ _ _ _ _ (single-more _ (c .before .before .before .before .before .before .args .floats .now) _ (c .before .before .before .before .before .before .args .k) (c .before .before .loop .j) _ (omega arith) (c .before .before .loop .inv .2) (param-is _ _ _ _ _ _ (c .before .before .before .arc-total .ensures) (c .before .before .loop .inv .1) (c .share2 .ensures))) (omega arith)
+returns c =
+    let c2 = c .before .before in
+    let c6 = c2 .before .before .before .before in
+    params-all _ _ _ _ _ _ (single-more _ (c6 .args .floats .now) _ (c6 .args .k) (c2 .loop .j) _ (omega arith) (c2 .loop .inv .2) (param-is _ _ _ _ _ _ (c2 .before .arc-total .ensures) (c2 .loop .inv .1) (c .share2 .ensures))) (omega arith)
 
 pub put-params-spec : {M : Type 1} → statement M
 put-params-spec =

@@ -55,8 +55,11 @@ divisor-of-requires : tie.Need-divisor-of-requires Inv-loop μ-loop
 divisor-of-requires c κs = search needs
 
 returns : tie.Need-returns Inv-loop μ-loop
-returns c = let e : c .before .before .before .before .before .loop .j ≡ length (twos (c .before .before .before .before .before .before .before .before .before .args .section .now) (c .before .before .before .before .before .before .before .before .before .args .m)) = omega (arith, count2 (c .before .before .before .before .before .before .before .before .before .args .section .now) (c .before .before .before .before .before .before .before .before .before .args .m)) in
-    fit-is _ (c .before .before .before .before .before .loop .j) _ _ _ _ e (c .before .before .before .before .before .loop .inv .1) (c .before .before .before .before .before .loop .inv .2) (c .before .max .ensures) (c .divisor-of .ensures)
+returns c =
+    let c5 = c .before .before .before .before .before in
+    let c9 = c5 .before .before .before .before in
+    let e : c5 .loop .j ≡ length (twos (c9 .args .section .now) (c9 .args .m)) = omega (arith, count2 (c9 .args .section .now) (c9 .args .m)) in
+    fit-is _ (c5 .loop .j) _ _ _ _ e (c5 .loop .inv .1) (c5 .loop .inv .2) (c .before .max .ensures) (c .divisor-of .ensures)
 
 pub section-fit-spec : {M : Type 1} → statement M
 section-fit-spec =

@@ -20,7 +20,10 @@ add-result : tie.Need-add-result
 add-result c = search needs
 
 returns : tie.Need-returns
-returns c = (caps-by (c .before .before .before .before .args .h) (c .before .before .before .before .args .cap) (c .before .before .before .has-cap .ensures) (c .before .before .one-if .ensures .0) (c .before .has-cap2 .ensures) (c .one-if2 .ensures .0), omega (arith, c .before .before .one-if .ensures .1, c .one-if2 .ensures .1))
+returns c =
+    let c2 = c .before .before in
+    let c3 = c2 .before in
+    (caps-by (c3 .before .args .h) (c3 .before .args .cap) (c3 .has-cap .ensures) (c2 .one-if .ensures .0) (c .before .has-cap2 .ensures) (c .one-if2 .ensures .0), omega (arith, c2 .one-if .ensures .1, c .one-if2 .ensures .1))
 
 pub cap-count-spec : {M : Type 1} → statement M
 cap-count-spec =

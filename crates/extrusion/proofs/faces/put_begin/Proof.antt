@@ -15,7 +15,10 @@ has-cap-requires : tie.Need-has-cap-requires
 has-cap-requires c κs = search needs
 
 put-down-requires : tie.Need-put-down-requires
-put-down-requires c κs = (c .before .before .before .before .pre .0, omega (arith, c .before .before .before .before .pre .1, length-by _ _ _ (begin-yes (c .before .before .before .before .args .wanted) (c .before .before .before .before .args .cap) _ (c .before .before .has-cap .ensures) (c .before .if1 .taken))))
+put-down-requires c κs =
+    let c2 = c .before .before in
+    let c4 = c2 .before .before in
+    (c4 .pre .0, omega (arith, c4 .pre .1, length-by _ _ _ (begin-yes (c4 .args .wanted) (c4 .args .cap) _ (c2 .has-cap .ensures) (c .before .if1 .taken))))
 
 add-result : tie.Need-add-result
 add-result c = search needs

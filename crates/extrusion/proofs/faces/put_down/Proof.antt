@@ -34,7 +34,12 @@ loop-less : tie.Need-loop-less Inv-loop μ-loop
 loop-less c = search needs
 
 loop-again : tie.Need-loop-again Inv-loop μ-loop
-loop-again c = (omega arith, rw (c .before .before .put-point-number .ensures) (single-more _ (c .before .before .before .before .before .before .before .args .work .now) _ (c .before .before .before .before .before .before .before .args .k) (c .before .before .before .before .before .loop .j) _ (omega (arith, c .before .before .before .before .loop-test .taken, c .before .before .before .before .before .before .before .pre .1)) (c .before .before .before .before .before .loop .inv .1) refl))
+loop-again c =
+    let c2 = c .before .before in
+    let c4 = c2 .before .before in
+    let c5 = c4 .before in
+    let c7 = c5 .before .before in
+    (omega arith, rw (c2 .put-point-number .ensures) (single-more _ (c7 .args .work .now) _ (c7 .args .k) (c5 .loop .j) _ (omega (arith, c4 .loop-test .taken, c7 .pre .1)) (c5 .loop .inv .1) refl))
 
 same-length : tie.Need-same-length Inv-loop μ-loop
 same-length c = c .before .loop .inv .1 .size

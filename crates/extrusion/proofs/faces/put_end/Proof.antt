@@ -11,7 +11,10 @@ has-cap-requires : tie.Need-has-cap-requires
 has-cap-requires c κs = search needs
 
 put-up-requires : tie.Need-put-up-requires
-put-up-requires c κs = (c .before .before .before .before .pre .0, omega (arith, c .before .before .before .before .pre .1, length-by _ _ _ (end-yes (c .before .before .before .before .args .wanted) (c .before .before .before .before .args .cap) _ (c .before .before .has-cap .ensures) (c .before .before .before .before .args .p .0) (c .before .if1 .taken))))
+put-up-requires c κs =
+    let c2 = c .before .before in
+    let c4 = c2 .before .before in
+    (c4 .pre .0, omega (arith, c4 .pre .1, length-by _ _ _ (end-yes (c4 .args .wanted) (c4 .args .cap) _ (c2 .has-cap .ensures) (c4 .args .p .0) (c .before .if1 .taken))))
 
 same-length : tie.Need-same-length
 same-length c = search needs

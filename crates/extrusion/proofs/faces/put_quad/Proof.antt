@@ -20,34 +20,54 @@ point-at-requires-2 : tie.Need-point-at-requires-2
 point-at-requires-2 c κs = search needs
 
 put-point-number-requires-2 : tie.Need-put-point-number-requires-2
-put-point-number-requires-2 c κs = (omega (arith, c .before .before .before .before .before .before .before .before .pre .1, c .before .before .before .work .given), omega (arith, c .point-at2 .ensures, c .before .before .before .before .before .before .before .before .pre .2))
+put-point-number-requires-2 c κs =
+    let c3 = c .before .before .before in
+    let c8 = c3 .before .before .before .before .before in
+    (omega (arith, c8 .pre .1, c3 .work .given), omega (arith, c .point-at2 .ensures, c8 .pre .2))
 
 add-put-point-number-2 : tie.Need-add-put-point-number-2
 add-put-point-number-2 c = search needs
 
 add-point-at-2 : tie.Need-add-point-at-2
-add-point-at-2 c = omega (arith, row-least (c .before .before .before .before .before .before .before .before .before .before .before .before .args .i) (c .before .before .before .before .before .before .before .before .before .before .before .before .args .m) (c .before .before .before .before .before .before .before .before .before .before .before .before .pre .0), c .before .before .before .before .before .before .before .before .before .before .before .before .pre .2)
+add-point-at-2 c =
+    let c12 = c .before .before .before .before .before .before .before .before .before .before .before .before in
+    omega (arith, row-least (c12 .args .i) (c12 .args .m) (c12 .pre .0), c12 .pre .2)
 
 add-point-at-3 : tie.Need-add-point-at-3
 add-point-at-3 c = search needs
 
 point-at-requires-3 : tie.Need-point-at-requires-3
-point-at-requires-3 c κs = omega (arith, next-row (c .before .before .before .before .before .before .before .before .before .before .before .before .args .i) (c .before .before .before .before .before .before .before .before .before .before .before .before .args .m), c .before .before .before .before .before .before .before .before .before .before .before .before .pre .2)
+point-at-requires-3 c κs =
+    let c12 = c .before .before .before .before .before .before .before .before .before .before .before .before in
+    omega (arith, next-row (c12 .args .i) (c12 .args .m), c12 .pre .2)
 
 put-point-number-requires-3 : tie.Need-put-point-number-requires-3
-put-point-number-requires-3 c κs = (omega (arith, c .before .before .before .before .before .before .before .before .before .before .before .before .before .pre .1, c .before .before .before .before .before .before .before .before .work .given, c .before .before .before .work2 .given), omega (arith, c .point-at3 .ensures, next-row (c .before .before .before .before .before .before .before .before .before .before .before .before .before .args .i) (c .before .before .before .before .before .before .before .before .before .before .before .before .before .args .m), c .before .before .before .before .before .before .before .before .before .before .before .before .before .pre .2))
+put-point-number-requires-3 c κs =
+    let c3 = c .before .before .before in
+    let c8 = c3 .before .before .before .before .before in
+    let c13 = c8 .before .before .before .before .before in
+    (omega (arith, c13 .pre .1, c8 .work .given, c3 .work2 .given), omega (arith, c .point-at3 .ensures, next-row (c13 .args .i) (c13 .args .m), c13 .pre .2))
 
 add-put-point-number-3 : tie.Need-add-put-point-number-3
 add-put-point-number-3 c = search needs
 
 add-point-at-4 : tie.Need-add-point-at-4
-add-point-at-4 c = omega (arith, row-least (c .before .before .before .before .before .before .before .before .before .before .before .before .before .before .before .before .before .args .i) (c .before .before .before .before .before .before .before .before .before .before .before .before .before .before .before .before .before .args .m) (c .before .before .before .before .before .before .before .before .before .before .before .before .before .before .before .before .before .pre .0), c .before .before .before .before .before .before .before .before .before .before .before .before .before .before .before .before .before .pre .2)
+add-point-at-4 c =
+    let c17 = c .before .before .before .before .before .before .before .before .before .before .before .before .before .before .before .before .before in
+    omega (arith, row-least (c17 .args .i) (c17 .args .m) (c17 .pre .0), c17 .pre .2)
 
 point-at-requires-4 : tie.Need-point-at-requires-4
-point-at-requires-4 c κs = omega (arith, next-row (c .before .before .before .before .before .before .before .before .before .before .before .before .before .before .before .before .before .args .i) (c .before .before .before .before .before .before .before .before .before .before .before .before .before .before .before .before .before .args .m), c .before .before .before .before .before .before .before .before .before .before .before .before .before .before .before .before .before .pre .2)
+point-at-requires-4 c κs =
+    let c17 = c .before .before .before .before .before .before .before .before .before .before .before .before .before .before .before .before .before in
+    omega (arith, next-row (c17 .args .i) (c17 .args .m), c17 .pre .2)
 
 put-point-number-requires-4 : tie.Need-put-point-number-requires-4
-put-point-number-requires-4 c κs = (omega (arith, c .before .before .before .before .before .before .before .before .before .before .before .before .before .before .before .before .before .before .pre .1, c .before .before .before .before .before .before .before .before .before .before .before .before .before .work .given, c .before .before .before .before .before .before .before .before .work2 .given, c .before .before .before .work3 .given), omega (arith, c .point-at4 .ensures, next-row (c .before .before .before .before .before .before .before .before .before .before .before .before .before .before .before .before .before .before .args .i) (c .before .before .before .before .before .before .before .before .before .before .before .before .before .before .before .before .before .before .args .m), c .before .before .before .before .before .before .before .before .before .before .before .before .before .before .before .before .before .before .pre .2))
+put-point-number-requires-4 c κs =
+    let c3 = c .before .before .before in
+    let c8 = c3 .before .before .before .before .before in
+    let c13 = c8 .before .before .before .before .before in
+    let c18 = c13 .before .before .before .before .before in
+    (omega (arith, c18 .pre .1, c13 .work .given, c8 .work2 .given, c3 .work3 .given), omega (arith, c .point-at4 .ensures, next-row (c18 .args .i) (c18 .args .m), c18 .pre .2))
 
 same-length : tie.Need-same-length
 same-length c = search needs

@@ -28,7 +28,11 @@ add-put-quad : tie.Need-add-put-quad Inv-loop μ-loop
 add-put-quad c = search needs
 
 put-quad-requires : tie.Need-put-quad-requires Inv-loop μ-loop
-put-quad-requires c κs = (omega (arith, c .before .before .before .before .pre .0), omega (arith, quad-room (c .before .before .before .before .args .k) (c .before .before .before .before .args .m - 1) (c .before .before .loop .j) (c .before .loop-test .taken), c .before .before .loop .inv .1 .size, c .before .before .before .before .pre .1), omega (arith, c .before .loop-test .taken, c .before .before .before .before .pre .2))
+put-quad-requires c κs =
+    let c1 = c .before in
+    let c2 = c1 .before in
+    let c4 = c2 .before .before in
+    (omega (arith, c4 .pre .0), omega (arith, quad-room (c4 .args .k) (c4 .args .m - 1) (c2 .loop .j) (c1 .loop-test .taken), c2 .loop .inv .1 .size, c4 .pre .1), omega (arith, c1 .loop-test .taken, c4 .pre .2))
 
 add-j : tie.Need-add-j Inv-loop μ-loop
 add-j c = search needs
@@ -37,10 +41,14 @@ loop-less : tie.Need-loop-less Inv-loop μ-loop
 loop-less c = search needs
 
 loop-again : tie.Need-loop-again Inv-loop μ-loop
-loop-again c = (
-  omega arith,
-  pieces-more _ 4 (quad-length _ _) (c .before .before .before .before .before .before .before .args .work .now) _ _ _ (c .before .before .before .before .before .before .before .args .k) (c .before .before .before .before .before .loop .j) _ refl (omega (arith, c .before .before .before .before .loop-test .taken, c .before .before .before .before .before .before .before .pre .1)) (c .before .before .before .before .before .loop .inv .1) refl (c .before .before .put-quad .ensures),
-)
+loop-again c =
+    let c2 = c .before .before in
+    let c4 = c2 .before .before in
+    let c5 = c4 .before in
+    let c7 = c5 .before .before in (
+      omega arith,
+      pieces-more _ 4 (quad-length _ _) (c7 .args .work .now) _ _ _ (c7 .args .k) (c5 .loop .j) _ refl (omega (arith, c4 .loop-test .taken, c7 .pre .1)) (c5 .loop .inv .1) refl (c2 .put-quad .ensures),
+    )
 
 same-length : tie.Need-same-length Inv-loop μ-loop
 same-length c = c .before .loop .inv .1 .size

@@ -38,7 +38,10 @@ add-put-quad-row : tie.Need-add-put-quad-row Inv-loop μ-loop
 add-put-quad-row c = omega (arith, row-room _ _ ((c .before .before .before .before .args .m - 1) * 4) _ _ (c .before .before .before .before .pre .3) (c .before .loop-test .taken))
 
 put-quad-row-requires : tie.Need-put-quad-row-requires Inv-loop μ-loop
-put-quad-row-requires c κs = (c .before .before .before .before .pre .1, omega (arith, row-room _ _ ((c .before .before .before .before .args .m - 1) * 4) _ _ (c .before .before .before .before .pre .3) (c .before .loop-test .taken), c .before .before .loop .inv .1 .size), rows-most _ _ _ (c .before .before .before .before .pre .2) (c .before .loop-test .taken))
+put-quad-row-requires c κs =
+    let c1 = c .before in
+    let c4 = c1 .before .before .before in
+    (c4 .pre .1, omega (arith, row-room _ _ ((c4 .args .m - 1) * 4) _ _ (c4 .pre .3) (c1 .loop-test .taken), c1 .before .loop .inv .1 .size), rows-most _ _ _ (c4 .pre .2) (c1 .loop-test .taken))
 
 add-i : tie.Need-add-i Inv-loop μ-loop
 add-i c = search needs
@@ -47,10 +50,14 @@ loop-less : tie.Need-loop-less Inv-loop μ-loop
 loop-less c = search needs
 
 loop-again : tie.Need-loop-again Inv-loop μ-loop
-loop-again c = (
-  omega arith,
-  pieces-more _ ((c .before .before .before .before .before .before .before .args .m - 1) * 4) (row-width _) (c .before .before .before .before .before .before .before .args .work .now) _ _ _ (c .before .before .before .before .before .before .before .args .k) (c .before .before .before .before .before .loop .i) _ refl (row-room _ _ ((c .before .before .before .before .before .before .before .args .m - 1) * 4) _ _ (c .before .before .before .before .before .before .before .pre .3) (c .before .before .before .before .loop-test .taken)) (c .before .before .before .before .before .loop .inv .1) refl (c .before .before .put-quad-row .ensures),
-)
+loop-again c =
+    let c2 = c .before .before in
+    let c4 = c2 .before .before in
+    let c5 = c4 .before in
+    let c7 = c5 .before .before in (
+      omega arith,
+      pieces-more _ ((c7 .args .m - 1) * 4) (row-width _) (c7 .args .work .now) _ _ _ (c7 .args .k) (c5 .loop .i) _ refl (row-room _ _ ((c7 .args .m - 1) * 4) _ _ (c7 .pre .3) (c4 .loop-test .taken)) (c5 .loop .inv .1) refl (c2 .put-quad-row .ensures),
+    )
 
 same-length : tie.Need-same-length Inv-loop μ-loop
 same-length c = c .before .loop .inv .1 .size

@@ -31,7 +31,12 @@ loop-less : tie.Need-loop-less Inv-loop μ-loop
 loop-less c = search needs
 
 loop-again : tie.Need-loop-again Inv-loop μ-loop
-loop-again c = (omega arith, rw (c .before .before .put-point-number .ensures) (single-more _ (c .before .before .before .before .before .before .before .before .args .work .now) _ (c .before .before .before .before .before .before .before .before .args .k) (c .before .before .before .before .before .before .loop .j) _ (omega (arith, c .before .before .before .before .before .loop-test .taken, c .before .before .before .before .before .before .before .before .pre .1)) (c .before .before .before .before .before .before .loop .inv .1) refl))
+loop-again c =
+    let c2 = c .before .before in
+    let c5 = c2 .before .before .before in
+    let c6 = c5 .before in
+    let c8 = c6 .before .before in
+    (omega arith, rw (c2 .put-point-number .ensures) (single-more _ (c8 .args .work .now) _ (c8 .args .k) (c6 .loop .j) _ (omega (arith, c5 .loop-test .taken, c8 .pre .1)) (c6 .loop .inv .1) refl))
 
 same-length : tie.Need-same-length Inv-loop μ-loop
 same-length c = c .before .loop .inv .1 .size

@@ -16,7 +16,9 @@ sub-put-begin-2 : tie.Need-sub-put-begin-2
 sub-put-begin-2 c = search needs
 
 mul-put-begin : tie.Need-mul-put-begin
-mul-put-begin c = omega (arith, section-least (c .before .before .before .before .before .before .args .n) (c .before .before .before .before .before .before .args .m) (c .before .before .before .before .before .before .pre .0), c .before .before .before .before .before .before .pre .3)
+mul-put-begin c =
+    let c6 = c .before .before .before .before .before .before in
+    omega (arith, section-least (c6 .args .n) (c6 .args .m) (c6 .pre .0), c6 .pre .3)
 
 mul-put-begin-2 : tie.Need-mul-put-begin-2
 mul-put-begin-2 c = omega (arith, sides-room _ _ _ _ _ _ _ (c .before .before .before .before .before .before .pre .4))
@@ -25,26 +27,39 @@ add-put-begin : tie.Need-add-put-begin
 add-put-begin c = omega (arith, sides-room _ _ _ _ _ _ _ (c .before .before .before .before .before .before .pre .4))
 
 put-begin-requires : tie.Need-put-begin-requires
-put-begin-requires c κs = (omega (arith, section-least (c .before .before .before .before .before .before .args .n) (c .before .before .before .before .before .before .args .m) (c .before .before .before .before .before .before .pre .0), c .before .before .before .before .before .before .pre .2, c .before .before .before .before .before .before .pre .3), omega (arith, begin-room _ _ _ _ _ _ _ (c .before .before .before .before .before .before .pre .4), c .before .before .work .given))
+put-begin-requires c κs =
+    let c2 = c .before .before in
+    let c6 = c2 .before .before .before .before in
+    (omega (arith, section-least (c6 .args .n) (c6 .args .m) (c6 .pre .0), c6 .pre .2, c6 .pre .3), omega (arith, begin-room _ _ _ _ _ _ _ (c6 .pre .4), c2 .work .given))
 
 sub-point-at : tie.Need-sub-point-at
 sub-point-at c = search needs
 
 point-at-requires : tie.Need-point-at-requires
-point-at-requires c κs = omega (arith, last-row (c .before .before .before .before .before .before .before .before .before .before .args .n) (c .before .before .before .before .before .before .before .before .before .before .args .m) (c .before .before .before .before .before .before .before .before .before .before .pre .0), c .before .before .before .before .before .before .before .before .before .before .pre .3)
+point-at-requires c κs =
+    let c10 = c .before .before .before .before .before .before .before .before .before .before in
+    omega (arith, last-row (c10 .args .n) (c10 .args .m) (c10 .pre .0), c10 .pre .3)
 
 put-end-requires : tie.Need-put-end-requires
 put-end-requires c κs =
-    let q : c .point-at .result .0 ≡ (c .before .before .before .before .before .before .before .before .before .before .before .args .n - 1) * c .before .before .before .before .before .before .before .before .before .before .before .args .m = omega (arith, c .point-at .ensures) in
-    (omega (arith, last-row (c .before .before .before .before .before .before .before .before .before .before .before .args .n) (c .before .before .before .before .before .before .before .before .before .before .before .args .m) (c .before .before .before .before .before .before .before .before .before .before .before .pre .0), c .before .before .before .before .before .before .before .before .before .before .before .pre .2, c .before .before .before .before .before .before .before .before .before .before .before .pre .3), rw q (omega (arith, end-room _ _ _ _ _ _ _ (c .before .before .before .before .before .before .before .before .before .before .before .pre .4) _ (c .before .before .before .before .put-begin .ensures .1), c .before .before .before .before .before .before .before .work .given, c .before .before .before .work2 .given)))
+    let c3 = c .before .before .before in
+    let c7 = c3 .before .before .before .before in
+    let c11 = c7 .before .before .before .before in
+    let q : c .point-at .result .0 ≡ (c11 .args .n - 1) * c11 .args .m = omega (arith, c .point-at .ensures) in
+    (omega (arith, last-row (c11 .args .n) (c11 .args .m) (c11 .pre .0), c11 .pre .2, c11 .pre .3), rw q (omega (arith, end-room _ _ _ _ _ _ _ (c11 .pre .4) _ (c3 .before .put-begin .ensures .1), c7 .work .given, c3 .work2 .given)))
 
 same-length : tie.Need-same-length
 same-length c = search needs
 
 returns : tie.Need-returns
 returns c =
-    let q : c .before .before .before .point-at .result .0 ≡ (c .before .before .before .before .before .before .before .before .before .before .before .before .before .before .args .n - 1) * c .before .before .before .before .before .before .before .before .before .before .before .before .before .before .args .m = omega (arith, c .before .before .before .point-at .ensures) in
-    uses-put _ _ _ _ _ _ _ (c .before .before .before .before .before .before .before .before .before .before .before .before .before .before .pre .4) _ _ _ _ _ refl (c .before .before .before .before .before .before .before .before .before .before .before .put-sides .ensures) (c .before .before .before .before .before .before .before .put-begin .ensures .0) (c .before .before .before .before .before .before .before .put-begin .ensures .1) (rw q at (c .before .before .put-end .ensures))
+    let c2 = c .before .before in
+    let c3 = c2 .before in
+    let c7 = c3 .before .before .before .before in
+    let c11 = c7 .before .before .before .before in
+    let c14 = c11 .before .before .before in
+    let q : c3 .point-at .result .0 ≡ (c14 .args .n - 1) * c14 .args .m = omega (arith, c3 .point-at .ensures) in
+    uses-put _ _ _ _ _ _ _ (c14 .pre .4) _ _ _ _ _ refl (c11 .put-sides .ensures) (c7 .put-begin .ensures .0) (c7 .put-begin .ensures .1) (rw q at (c2 .put-end .ensures))
 
 pub put-uses-spec : {M : Type 1} → statement M
 put-uses-spec =

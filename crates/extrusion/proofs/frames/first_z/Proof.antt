@@ -37,7 +37,10 @@ loop-again c = (omega arith, first-step _ _ _ _ _ (c .before .before .before .lo
 
 returns : tie.Need-returns Inv-loop μ-loop
 unfolding firstZ
-returns c = let e : c .before .loop .i ≡ length (threes (c .before .before .before .args .s .now) (c .before .before .before .args .n)) = omega (arith, count3 (c .before .before .before .args .s .now) (c .before .before .before .args .n)) in rw e at (c .before .loop .inv .1)
+returns c =
+    let c1 = c .before in
+    let c3 = c1 .before .before in
+    let e : c1 .loop .i ≡ length (threes (c3 .args .s .now) (c3 .args .n)) = omega (arith, count3 (c3 .args .s .now) (c3 .args .n)) in rw e at (c1 .loop .inv .1)
 
 pub first-z-spec : {M : Type 1} → statement M
 first-z-spec =

@@ -24,7 +24,9 @@ add-step : tie.Need-add-step
 add-step c = search needs
 
 step-requires : tie.Need-step-requires
-step-requires c κs = let h = inner (c .before .before .before .args .n) (c .before .before .before .args .i) _ (c .before .is-end .ensures) (c .if1 .left) (c .before .before .before .pre .2) in (c .before .before .before .pre .0, omega arith, omega arith)
+step-requires c κs =
+    let c3 = c .before .before .before in
+    let h = inner (c3 .args .n) (c3 .args .i) _ (c .before .is-end .ensures) (c .if1 .left) (c3 .pre .2) in (c3 .pre .0, omega arith, omega arith)
 
 normalize-requires-2 : tie.Need-normalize-requires-2
 normalize-requires-2 c κs = search needs

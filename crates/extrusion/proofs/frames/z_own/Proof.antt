@@ -21,7 +21,9 @@ add-plane : tie.Need-add-plane
 add-plane c = search needs
 
 plane-requires : tie.Need-plane-requires
-plane-requires c κs = let h = inner (c .before .before .before .args .n) (c .before .before .before .args .i) _ (c .before .is-end .ensures) (c .if1 .left) (c .before .before .before .pre .2) in (c .before .before .before .pre .0, omega arith, c .before .before .before .pre .2, omega arith)
+plane-requires c κs =
+    let c3 = c .before .before .before in
+    let h = inner (c3 .args .n) (c3 .args .i) _ (c .before .is-end .ensures) (c .if1 .left) (c3 .pre .2) in (c3 .pre .0, omega arith, c3 .pre .2, omega arith)
 
 returns-2 : tie.Need-returns-2
 returns-2 c = z-inner _ _ _ _ (count3 _ _) (c .before .before .is-end .ensures) _ (c .before .if1 .left) (c .plane .ensures)

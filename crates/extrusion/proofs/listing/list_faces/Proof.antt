@@ -21,16 +21,32 @@ sub-put-starts-2 : tie.Need-sub-put-starts-2
 sub-put-starts-2 c = search needs
 
 mul-put-starts : tie.Need-mul-put-starts
-mul-put-starts c = omega (arith, sides-most (c .before .before .before .before .before .before .before .before .pre) _ _ (c .before .before .before .before .before .before .spine-count .ensures) (c .before .before .before .before .before .section-count .ensures))
+mul-put-starts c =
+    let c5 = c .before .before .before .before .before in
+    omega (arith, sides-most (c5 .before .before .before .pre) _ _ (c5 .before .spine-count .ensures) (c5 .section-count .ensures))
 
 put-starts-requires : tie.Need-put-starts-requires
-put-starts-requires c κs = starts-room (c .before .before .before .before .before .before .before .before .pre) _ _ (c .before .before .before .before .before .before .spine-count .ensures) (c .before .before .before .before .before .section-count .ensures) _ (omega (arith, room-starts (c .before .before .before .before .before .before .before .before .pre), c .before .before .work .given))
+put-starts-requires c κs =
+    let c2 = c .before .before in
+    let c5 = c2 .before .before .before in
+    let c8 = c5 .before .before .before in
+    starts-room (c8 .pre) _ _ (c5 .before .spine-count .ensures) (c5 .section-count .ensures) _ (omega (arith, room-starts (c8 .pre), c2 .work .given))
 
 put-uses-requires-2 : tie.Need-put-uses-requires-2
-put-uses-requires-2 c κs = uses-room (c .before .before .before .before .before .before .before .before .before .before .before .before .pre) _ _ (c .before .before .before .before .before .before .before .before .before .before .spine-count .ensures) (c .before .before .before .before .before .before .before .before .before .section-count .ensures) _ _ (omega (arith, room-places (c .before .before .before .before .before .before .before .before .before .before .before .before .pre), c .before .before .before .before .before .before .work .given, c .before .before .work2 .given))
+put-uses-requires-2 c κs =
+    let c2 = c .before .before in
+    let c6 = c2 .before .before .before .before in
+    let c9 = c6 .before .before .before in
+    let c12 = c9 .before .before .before in
+    uses-room (c12 .pre) _ _ (c9 .before .spine-count .ensures) (c9 .section-count .ensures) _ _ (omega (arith, room-places (c12 .pre), c6 .work .given, c2 .work2 .given))
 
 put-numbers-requires : tie.Need-put-numbers-requires
-put-numbers-requires c κs = (c .before .before .before .before .before .before .before .before .before .before .before .before .before .before .before .before .pre .room .many, omega (arith, room-numbers (c .before .before .before .before .before .before .before .before .before .before .before .before .before .before .before .before .pre), c .before .before .before .before .before .before .before .before .before .before .work .given, c .before .before .before .before .before .before .work2 .given, c .before .before .work3 .given))
+put-numbers-requires c κs =
+    let c2 = c .before .before in
+    let c6 = c2 .before .before .before .before in
+    let c10 = c6 .before .before .before .before in
+    let c16 = c10 .before .before .before .before .before .before in
+    (c16 .pre .room .many, omega (arith, room-numbers (c16 .pre), c10 .work .given, c6 .work2 .given, c2 .work3 .given))
 
 same-length : tie.Need-same-length
 same-length c = search needs

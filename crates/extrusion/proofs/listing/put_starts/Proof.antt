@@ -21,7 +21,10 @@ add-loop : tie.Need-add-loop Inv-loop μ-loop
 add-loop c = search needs
 
 narrow-requires : tie.Need-narrow-requires Inv-loop μ-loop
-narrow-requires c κs = omega (arith, c .before .loop .inv .0, start-rises (c .before .before .before .args .sides) (c .before .before .before .args .cap) (c .before .loop .j) (c .before .before .before .args .faces) (omega arith), c .before .before .before .pre .1)
+narrow-requires c κs =
+    let c1 = c .before in
+    let c3 = c1 .before .before in
+    omega (arith, c1 .loop .inv .0, start-rises (c3 .args .sides) (c3 .args .cap) (c1 .loop .j) (c3 .args .faces) (omega arith), c3 .pre .1)
 
 add-work : tie.Need-add-work Inv-loop μ-loop
 add-work c = search needs
@@ -36,7 +39,10 @@ size-at-requires : tie.Need-size-at-requires Inv-loop μ-loop
 size-at-requires c κs = search needs
 
 add-c : tie.Need-add-c Inv-loop μ-loop
-add-c c = omega (arith, c .before .before .before .loop .inv .0, start-rises (c .before .before .before .before .before .args .sides) (c .before .before .before .before .before .args .cap) (c .before .before .before .loop .j) (c .before .before .before .before .before .args .faces) (omega arith), c .before .before .before .before .before .pre .1, size-most (c .before .before .before .before .before .args .sides) (c .before .before .before .before .before .args .cap) (c .before .before .before .loop .j) (c .before .before .before .before .before .pre .2), c .size-at .ensures)
+add-c c =
+    let c3 = c .before .before .before in
+    let c5 = c3 .before .before in
+    omega (arith, c3 .loop .inv .0, start-rises (c5 .args .sides) (c5 .args .cap) (c3 .loop .j) (c5 .args .faces) (omega arith), c5 .pre .1, size-most (c5 .args .sides) (c5 .args .cap) (c3 .loop .j) (c5 .pre .2), c .size-at .ensures)
 
 add-j : tie.Need-add-j Inv-loop μ-loop
 add-j c = search needs

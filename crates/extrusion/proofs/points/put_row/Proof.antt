@@ -35,7 +35,9 @@ add-put-point : tie.Need-add-put-point Inv-loop μ-loop
 add-put-point c = search needs
 
 put-point-requires : tie.Need-put-point-requires Inv-loop μ-loop
-put-point-requires c κs = omega (arith, c .before .before .before .before .before .loop .inv .1 .size, c .before .before .before .before .loop-test .taken, c .before .before .before .before .before .before .before .before .pre .1)
+put-point-requires c κs =
+    let c4 = c .before .before .before .before in
+    omega (arith, c4 .before .loop .inv .1 .size, c4 .loop-test .taken, c4 .before .before .before .before .pre .1)
 
 add-j : tie.Need-add-j Inv-loop μ-loop
 add-j c = search needs
@@ -44,17 +46,25 @@ loop-less : tie.Need-loop-less Inv-loop μ-loop
 loop-less c = search needs
 
 loop-again : tie.Need-loop-again Inv-loop μ-loop
-loop-again c = (
-  omega arith,
-  pieces-more _ 3 (spot-length _ _ _ _ _) (c .before .before .before .before .before .before .before .before .before .before .before .args .work .now) _ _ _ (c .before .before .before .before .before .before .before .before .before .before .before .args .k) (c .before .before .before .before .before .before .before .before .loop .j) _ refl (omega (arith, c .before .before .before .before .before .before .before .loop-test .taken, c .before .before .before .before .before .before .before .before .before .before .before .pre .1)) (c .before .before .before .before .before .before .before .before .loop .inv .1) (spot-is _ _ _ _ _ _ _ _ _ (c .before .before .before .before .before .before .pair-at .ensures) (c .before .before .before .before .before .local .ensures) (c .before .before .before .before .placed .ensures)) (c .before .before .put-point .ensures),
-)
+loop-again c =
+    let c2 = c .before .before in
+    let c4 = c2 .before .before in
+    let c6 = c4 .before .before in
+    let c8 = c6 .before .before in
+    let c11 = c8 .before .before .before in (
+      omega arith,
+      pieces-more _ 3 (spot-length _ _ _ _ _) (c11 .args .work .now) _ _ _ (c11 .args .k) (c8 .loop .j) _ refl (omega (arith, c6 .before .loop-test .taken, c11 .pre .1)) (c8 .loop .inv .1) (spot-is _ _ _ _ _ _ _ _ _ (c6 .pair-at .ensures) (c4 .before .local .ensures) (c4 .placed .ensures)) (c2 .put-point .ensures),
+    )
 
 same-length : tie.Need-same-length Inv-loop μ-loop
 same-length c = c .before .loop .inv .1 .size
 
 returns : tie.Need-returns Inv-loop μ-loop
-returns c = let e : c .before .loop .j ≡ c .before .before .before .before .args .m = omega arith in
-    pieces-all _ _ _ _ _ _ (c .before .loop .inv .1) e ∙ ap (spliced (c .before .before .before .before .args .work .now) (c .before .before .before .before .args .k)) (row-is _ _ _ _ (c .before .before .before .before .args .section .now) (c .before .before .before .before .args .m))
+returns c =
+    let c1 = c .before in
+    let c4 = c1 .before .before .before in
+    let e : c1 .loop .j ≡ c4 .args .m = omega arith in
+    pieces-all _ _ _ _ _ _ (c1 .loop .inv .1) e ∙ ap (spliced (c4 .args .work .now) (c4 .args .k)) (row-is _ _ _ _ (c4 .args .section .now) (c4 .args .m))
 
 pub put-row-spec : {M : Type 1} → statement M
 put-row-spec =

@@ -59,27 +59,47 @@ scale-at-requires : tie.Need-scale-at-requires Inv-loop μ-loop
 scale-at-requires c κs = c .before .before .before .before .before .before .before .before .before .before .before .before .before .before .before .before .pre .2
 
 mul-put-row : tie.Need-mul-put-row Inv-loop μ-loop
-mul-put-row c = let r = row-room _ _ (3 * c .before .before .before .before .before .before .before .before .before .before .before .before .before .before .before .before .before .before .args .m) _ _ (c .before .before .before .before .before .before .before .before .before .before .before .before .before .before .before .before .before .before .pre .5) (c .before .before .before .before .before .before .before .before .before .loop-test .taken) in omega (arith, r, c .before .before .before .before .before .before .before .before .before .before .loop .inv .1)
+mul-put-row c =
+    let c9 = c .before .before .before .before .before .before .before .before .before in
+    let c18 = c9 .before .before .before .before .before .before .before .before .before in
+    let r = row-room _ _ (3 * c18 .args .m) _ _ (c18 .pre .5) (c9 .loop-test .taken) in omega (arith, r, c9 .before .loop .inv .1)
 
 add-put-row : tie.Need-add-put-row Inv-loop μ-loop
-add-put-row c = let r = row-room _ _ (3 * c .before .before .before .before .before .before .before .before .before .before .before .before .before .before .before .before .before .before .args .m) _ _ (c .before .before .before .before .before .before .before .before .before .before .before .before .before .before .before .before .before .before .pre .5) (c .before .before .before .before .before .before .before .before .before .loop-test .taken) in omega (arith, r, c .before .before .before .before .before .before .before .before .before .before .loop .inv .1)
+add-put-row c =
+    let c9 = c .before .before .before .before .before .before .before .before .before in
+    let c18 = c9 .before .before .before .before .before .before .before .before .before in
+    let r = row-room _ _ (3 * c18 .args .m) _ _ (c18 .pre .5) (c9 .loop-test .taken) in omega (arith, r, c9 .before .loop .inv .1)
 
 put-row-requires : tie.Need-put-row-requires Inv-loop μ-loop
-put-row-requires c κs = let r = row-room _ _ (3 * c .before .before .before .before .before .before .before .before .before .before .before .before .before .before .before .before .before .before .args .m) _ _ (c .before .before .before .before .before .before .before .before .before .before .before .before .before .before .before .before .before .before .pre .5) (c .before .before .before .before .before .before .before .before .before .loop-test .taken) in (c .before .before .before .before .before .before .before .before .before .before .before .before .before .before .before .before .before .before .pre .1, omega (arith, r, c .before .before .before .before .before .before .before .before .before .before .loop .inv .3 .rows .size))
+put-row-requires c κs =
+    let c9 = c .before .before .before .before .before .before .before .before .before in
+    let c18 = c9 .before .before .before .before .before .before .before .before .before in
+    let r = row-room _ _ (3 * c18 .args .m) _ _ (c18 .pre .5) (c9 .loop-test .taken) in (c18 .pre .1, omega (arith, r, c9 .before .loop .inv .3 .rows .size))
 
 add-i : tie.Need-add-i Inv-loop μ-loop
-add-i c = omega (arith, c .before .before .before .before .before .before .before .before .before .before .before .before .loop-test .taken, c .before .before .before .before .before .before .before .before .before .before .before .before .before .loop .inv .2)
+add-i c =
+    let c12 = c .before .before .before .before .before .before .before .before .before .before .before .before in
+    omega (arith, c12 .loop-test .taken, c12 .before .loop .inv .2)
 
 loop-less : tie.Need-loop-less Inv-loop μ-loop
 loop-less c = omega (arith, c .before .before .before .before .before .before .before .before .before .before .before .before .loop-test .taken)
 
 loop-again : tie.Need-loop-again Inv-loop μ-loop
-loop-again c = (
-  omega (arith, c .before .before .before .before .before .before .before .before .before .before .before .before .loop-test .taken),
-  c .before .before .before .before .before .before .before .before .before .before .before .before .before .loop .inv .1,
-  c .before .before .before .before .before .before .before .before .before .before .before .before .before .loop .inv .2,
-  walk-step _ _ _ _ _ _ _ _ _ _ _ _ _ _ _ _ _ _ _ _ _ _ (c .before .before .before .before .before .before .before .before .before .before .before .before .before .loop .inv .3) (count2 _ _) (row-room _ _ (3 * c .before .before .before .before .before .before .before .before .before .before .before .before .before .before .before .before .before .before .before .before .before .args .m) _ _ (c .before .before .before .before .before .before .before .before .before .before .before .before .before .before .before .before .before .before .before .before .before .pre .5) (c .before .before .before .before .before .before .before .before .before .before .before .before .loop-test .taken)) (c .before .before .before .before .before .before .before .before .before .before .before .before .before .before .before .first-z .ensures) (c .before .before .before .before .before .before .before .before .before .before .before .before .before .before .first-y .ensures) (c .before .before .before .before .before .before .before .before .before .before .before .y-own .ensures) (c .before .before .before .before .before .before .before .before .before .before .or .ensures) (c .before .before .before .before .before .before .before .before .before .z-own .ensures) (c .before .before .before .before .before .before .before .before .pick-z .ensures) (c .before .before .before .before .before .before .before .axes-by .ensures) (c .before .before .before .before .before .before .spine-at .ensures) (c .before .before .before .before .before .turn-at .ensures) (c .before .before .before .before .scale-at .ensures) (c .before .before .put-row .ensures),
-)
+loop-again c =
+    let c2 = c .before .before in
+    let c4 = c2 .before .before in
+    let c6 = c4 .before .before in
+    let c8 = c6 .before .before in
+    let c10 = c8 .before .before in
+    let c12 = c10 .before .before in
+    let c13 = c12 .before in
+    let c14 = c13 .before in
+    let c21 = c14 .before .before .before .before .before .before .before in (
+      omega (arith, c12 .loop-test .taken),
+      c13 .loop .inv .1,
+      c13 .loop .inv .2,
+      walk-step _ _ _ _ _ _ _ _ _ _ _ _ _ _ _ _ _ _ _ _ _ _ (c13 .loop .inv .3) (count2 _ _) (row-room _ _ (3 * c21 .args .m) _ _ (c21 .pre .5) (c12 .loop-test .taken)) (c14 .before .first-z .ensures) (c14 .first-y .ensures) (c10 .before .y-own .ensures) (c10 .or .ensures) (c8 .before .z-own .ensures) (c8 .pick-z .ensures) (c6 .before .axes-by .ensures) (c6 .spine-at .ensures) (c4 .before .turn-at .ensures) (c4 .scale-at .ensures) (c2 .put-row .ensures),
+    )
 
 same-length : tie.Need-same-length Inv-loop μ-loop
 same-length c = c .before .loop .inv .3 .rows .size

@@ -24,16 +24,25 @@ mul-if1 : tie.Need-mul-if1
 mul-if1 c = omega (arith, sides-fit (c .before .before .before .before .before .pre .0 .given) _ _ (c .before .before .spine-count .ensures) (c .before .section-count .ensures))
 
 add-side-texture : tie.Need-add-side-texture
-add-side-texture c = omega (arith, column-reach (c .before .before .before .before .before .before .pre .0) (c .before .before .before .before .before .before .args .number) (c .before .before .before .before .before .before .args .point .0) _ _ (c .before .before .before .spine-count .ensures) (c .before .before .section-count .ensures) (c .before .before .before .before .before .before .pre .1))
+add-side-texture c =
+    let c2 = c .before .before in
+    let c6 = c2 .before .before .before .before in
+    omega (arith, column-reach (c6 .pre .0) (c6 .args .number) (c6 .args .point .0) _ _ (c2 .before .spine-count .ensures) (c2 .section-count .ensures) (c6 .pre .1))
 
 div-side-texture : tie.Need-div-side-texture
 div-side-texture c = omega (arith, c .before .before .before .section-count .ensures, c .before .before .before .before .before .before .before .pre .0 .given .section)
 
 add-side-texture-2 : tie.Need-add-side-texture-2
-add-side-texture-2 c = omega (arith, row-reach (c .before .before .before .before .before .before .before .pre .0) (c .before .before .before .before .before .before .before .args .number) (c .before .before .before .before .before .before .before .args .point .0) _ _ (c .before .before .before .before .spine-count .ensures) (c .before .before .before .section-count .ensures) (c .before .before .before .before .before .before .before .pre .1))
+add-side-texture-2 c =
+    let c3 = c .before .before .before in
+    let c7 = c3 .before .before .before .before in
+    omega (arith, row-reach (c7 .pre .0) (c7 .args .number) (c7 .args .point .0) _ _ (c3 .before .spine-count .ensures) (c3 .section-count .ensures) (c7 .pre .1))
 
 add-side-texture-3 : tie.Need-add-side-texture-3
-add-side-texture-3 c = omega (arith, row-reach (c .before .before .before .before .before .before .before .pre .0) (c .before .before .before .before .before .before .before .args .number) (c .before .before .before .before .before .before .before .args .point .0) _ _ (c .before .before .before .before .spine-count .ensures) (c .before .before .before .section-count .ensures) (c .before .before .before .before .before .before .before .pre .1))
+add-side-texture-3 c =
+    let c3 = c .before .before .before in
+    let c7 = c3 .before .before .before .before in
+    omega (arith, row-reach (c7 .pre .0) (c7 .args .number) (c7 .args .point .0) _ _ (c3 .before .spine-count .ensures) (c3 .section-count .ensures) (c7 .pre .1))
 
 side-texture-requires : tie.Need-side-texture-requires
 side-texture-requires c κs =

@@ -33,13 +33,19 @@ wide-requires : tie.Need-wide-requires Inv-loop μ-loop
 wide-requires c κs = search needs
 
 add-wide-2 : tie.Need-add-wide-2 Inv-loop μ-loop
-add-wide-2 c = omega (arith, c .before .before .loop-test .taken, c .before .before .before .before .before .before .before .pre .2 .faces, c .before .before .before .before .before .before .before .pre .2 .room)
+add-wide-2 c =
+    let c2 = c .before .before in
+    let c7 = c2 .before .before .before .before .before in
+    omega (arith, c2 .loop-test .taken, c7 .pre .2 .faces, c7 .pre .2 .room)
 
 mul-wide-2 : tie.Need-mul-wide-2 Inv-loop μ-loop
 mul-wide-2 c = search needs
 
 slice-read-wide-2 : tie.Need-slice-read-wide-2 Inv-loop μ-loop
-slice-read-wide-2 c = omega (arith, c .before .before .before .loop-test .taken, c .before .before .before .before .before .before .before .before .pre .2 .faces, c .before .before .before .before .before .before .before .before .pre .2 .room, c .before .before .before .before .loop .inv .1 .kept .len)
+slice-read-wide-2 c =
+    let c3 = c .before .before .before in
+    let c8 = c3 .before .before .before .before .before in
+    omega (arith, c3 .loop-test .taken, c8 .pre .2 .faces, c8 .pre .2 .room, c3 .before .loop .inv .1 .kept .len)
 
 wide-requires-2 : tie.Need-wide-requires-2 Inv-loop μ-loop
 wide-requires-2 c κs = search needs
@@ -58,20 +64,29 @@ add-put2 : tie.Need-add-put2 Inv-loop μ-loop
 add-put2 c = omega (arith, c .before .before .before .before .before .before .loop-test .taken, c .before .before .before .before .before .before .before .before .before .before .before .pre .2 .room)
 
 put2-requires : tie.Need-put2-requires Inv-loop μ-loop
-put2-requires c κs = omega (arith, c .before .before .before .before .before .before .loop-test .taken, c .before .before .before .before .before .before .before .before .before .before .before .pre .2 .room, c .before .before .before .before .before .before .before .loop .inv .1 .kept .len)
+put2-requires c κs =
+    let c6 = c .before .before .before .before .before .before in
+    omega (arith, c6 .loop-test .taken, c6 .before .before .before .before .before .pre .2 .room, c6 .before .loop .inv .1 .kept .len)
 
 add-c : tie.Need-add-c Inv-loop μ-loop
-add-c c = omega (arith, c .before .before .before .before .before .before .before .before .before .loop-test .taken, c .before .before .before .before .before .before .before .before .before .before .before .before .before .before .pre .2 .room)
+add-c c =
+    let c9 = c .before .before .before .before .before .before .before .before .before in
+    omega (arith, c9 .loop-test .taken, c9 .before .before .before .before .before .pre .2 .room)
 
 loop-less : tie.Need-loop-less Inv-loop μ-loop
 loop-less c = omega (arith, c .before .before .before .before .before .before .before .before .before .loop-test .taken)
 
 loop-again : tie.Need-loop-again Inv-loop μ-loop
 loop-again c =
-    let T = c .before .before .before .before .before .before .before .before .before .before .loop .inv .1 in
-    let r = texture-read (c .before .before .before .before .before .before .before .before .before .before .before .before .before .before .pre .2) (T .kept) _ _ _ _ _ (c .before .before .before .before .before .before .before .before .before .loop-test .taken) (c .before .before .before .before .before .before .before .wide .ensures) (c .before .before .before .before .before .wide2 .ensures) (c .before .before .before .before .corner-texture .ensures) in
-    let room : c .before .before .before .before .before .before .before .before .before .before .before .before .before .before .args .textures + 2 * c .before .before .before .before .before .before .before .before .before .before .loop .c + 2 ≤ length (c .before .before .before .before .before .before .before .before .before .before .before .before .before .before .args .work .now) = omega (arith, c .before .before .before .before .before .before .before .before .before .before .before .before .before .before .pre .2 .room, c .before .before .before .before .before .before .before .before .before .loop-test .taken) in
-    (omega (arith, c .before .before .before .before .before .before .before .before .before .loop-test .taken), textured-more _ _ _ _ _ _ _ T r room (c .before .before .put2 .ensures))
+    let c2 = c .before .before in
+    let c4 = c2 .before .before in
+    let c7 = c4 .before .before .before in
+    let c9 = c7 .before .before in
+    let c14 = c9 .before .before .before .before .before in
+    let T = c9 .before .loop .inv .1 in
+    let r = texture-read (c14 .pre .2) (T .kept) _ _ _ _ _ (c9 .loop-test .taken) (c7 .wide .ensures) (c4 .before .wide2 .ensures) (c4 .corner-texture .ensures) in
+    let room : c14 .args .textures + 2 * c9 .before .loop .c + 2 ≤ length (c14 .args .work .now) = omega (arith, c14 .pre .2 .room, c9 .loop-test .taken) in
+    (omega (arith, c9 .loop-test .taken), textured-more _ _ _ _ _ _ _ T r room (c2 .put2 .ensures))
 
 same-length : tie.Need-same-length Inv-loop μ-loop
 same-length c = c .before .loop .inv .1 .kept .len

@@ -9,7 +9,9 @@ arcs-where-requires : tie.Need-arcs-where-requires
 arcs-where-requires c κs = (c .before .before .before .before .pre .0, c .before .before .before .before .pre .2)
 
 put-points-requires : tie.Need-put-points-requires
-put-points-requires c κs = let P = c .before .before .before .before .before .before .before .before .pre .1 in let R = P .room in (c .before .before .before .before .before .before .before .before .pre .0, omega (arith, P .spots))
+put-points-requires c κs =
+    let c8 = c .before .before .before .before .before .before .before .before in
+    let P = c8 .pre .1 in let R = P .room in (c8 .pre .0, omega (arith, P .spots))
 
 list-faces-requires : tie.Need-list-faces-requires
 list-faces-requires c κs =
@@ -18,7 +20,10 @@ list-faces-requires c κs =
     rw (points-put (c12 .pre .0) (c12 .pre .1) (c3 .put-points .ensures) .0 .len) (c12 .pre .1)
 
 prepare-requires : tie.Need-prepare-requires
-prepare-requires c κs = (listed-sound (c .before .before .before .before .list-faces .ensures .1), omega (arith, c .before .before .before .before .before .before .before .before .before .before .before .before .before .before .before .before .before .pre .2, c .before .before .before .before .before .before .before .before .before .before .before .before .arcs-where .kept .1 .1 .1 .0))
+prepare-requires c κs =
+    let c4 = c .before .before .before .before in
+    let c12 = c4 .before .before .before .before .before .before .before .before in
+    (listed-sound (c4 .list-faces .ensures .1), omega (arith, c12 .before .before .before .before .before .pre .2, c12 .arcs-where .kept .1 .1 .1 .0))
 
 same-length : tie.Need-same-length
 same-length c = search needs

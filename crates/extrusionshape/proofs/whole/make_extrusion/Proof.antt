@@ -21,7 +21,12 @@ put-tables-requires c κs =
     (given (c13 .pre), planned-at (c13 .pre) (c3 .cap-length .ensures) (c2 .plan-extrusion .ensures), arcs-room (c13 .pre) (c3 .cap-length .ensures) (c2 .plan-extrusion .ensures))
 
 texture-where-requires : tie.Need-texture-where-requires
-texture-where-requires c κs = (given (c .before .before .before .before .before .before .before .before .before .before .before .before .before .before .before .before .before .before .before .before .pre), c .before .before .before .before .before .before .before .before .before .before .before .before .before .before .before .before .before .before .before .before .pre .accepted .settings, c .before .before .before .before .before .before .put-tables .ensures .arcs, omega (arith, arcs-room (c .before .before .before .before .before .before .before .before .before .before .before .before .before .before .before .before .before .before .before .before .pre) (c .before .before .before .before .before .before .before .before .before .before .cap-length .ensures) (c .before .before .before .before .before .before .before .before .before .plan-extrusion .ensures), c .before .before .before .before .before .before .put-tables .ensures .size), textures-asked (planned-at (c .before .before .before .before .before .before .before .before .before .before .before .before .before .before .before .before .before .before .before .before .pre) (c .before .before .before .before .before .before .before .before .before .before .cap-length .ensures) (c .before .before .before .before .before .before .before .before .before .plan-extrusion .ensures)) (textures-room (c .before .before .before .before .before .before .before .before .before .before .before .before .before .before .before .before .before .before .before .before .pre) (c .before .before .before .before .before .before .before .before .before .before .cap-length .ensures) (c .before .before .before .before .before .before .before .before .before .plan-extrusion .ensures)) (c .before .before .before .before .before .before .put-tables .ensures))
+texture-where-requires c κs =
+    let c6 = c .before .before .before .before .before .before in
+    let c9 = c6 .before .before .before in
+    let c10 = c9 .before in
+    let c20 = c10 .before .before .before .before .before .before .before .before .before .before in
+    (given (c20 .pre), c20 .pre .accepted .settings, c6 .put-tables .ensures .arcs, omega (arith, arcs-room (c20 .pre) (c10 .cap-length .ensures) (c9 .plan-extrusion .ensures), c6 .put-tables .ensures .size), textures-asked (planned-at (c20 .pre) (c10 .cap-length .ensures) (c9 .plan-extrusion .ensures)) (textures-room (c20 .pre) (c10 .cap-length .ensures) (c9 .plan-extrusion .ensures)) (c6 .put-tables .ensures))
 
 shared-of-requires : tie.Need-shared-of-requires
 shared-of-requires c κs = search needs

@@ -28,7 +28,10 @@ part-triangulate-end : tie.Need-part-triangulate-end
 part-triangulate-end c = search needs
 
 triangulate-requires : tie.Need-triangulate-requires
-triangulate-requires c κs = let R = c .before .before .before .before .before .before .before .before .before .before .before .pre .0 .sound .room in let e = part-length (c .before .before .before .before .before .before .before .before .before .before .before .args .work .now) (c .before .before .before .before .before .before .before .before .before .before .before .args .t .places) (c .before .before .before .before .before .before .before .before .before .before .before .args .t .places + c .before .before .before .before .before .before .before .before .before .before .before .args .n * 5) (c .before .before .before .before .before .before .before .before .before .before .before .args .n * 5) refl (omega (arith, c .before .before .before .before .before .before .before .before .before .before .before .pre .1, c .before .before .before .before .before .before .before .before .before .before .before .pre .0 .scratch)) in (omega (arith, c .before .before .before .before .before .before .before .before .before .before .before .pre .1), omega (arith, c .before .before .before .before .before .put-plane .kept .1 .1 .1 .1 .1 .0, c .before .before .before .before .before .before .before .before .before .before .before .pre .0 .plane, c .before .before .before .before .before .before .before .before .before .before .before .pre .1), omega (arith, e), c .before .before .before .before .before .before .before .before .before .before .before .pre .2)
+triangulate-requires c κs =
+    let c5 = c .before .before .before .before .before in
+    let c11 = c5 .before .before .before .before .before .before in
+    let R = c11 .pre .0 .sound .room in let e = part-length (c11 .args .work .now) (c11 .args .t .places) (c11 .args .t .places + c11 .args .n * 5) (c11 .args .n * 5) refl (omega (arith, c11 .pre .1, c11 .pre .0 .scratch)) in (omega (arith, c11 .pre .1), omega (arith, c5 .put-plane .kept .1 .1 .1 .1 .1 .0, c11 .pre .0 .plane, c11 .pre .1), omega (arith, e), c11 .pre .2)
 
 same-length : tie.Need-same-length
 same-length c = search needs
@@ -40,7 +43,11 @@ same-length-3 : tie.Need-same-length-3
 same-length-3 c = search needs
 
 returns : tie.Need-returns
-returns c = (kept-mid (c .before .before .before .before .before .before .before .before .before .before .before .before .before .before .before .before .args .work .now) (c .before .before .before .before .triangulate .last .1 .1 .1 .0) (c .before .before .before .before .before .before .before .before .before .before .before .before .before .before .before .before .args .t .places) (c .before .before .before .before .before .before .before .before .before .before .before .before .before .before .before .before .args .t .places + c .before .before .before .before .before .before .before .before .before .before .before .before .before .before .before .before .args .n * 5 - c .before .before .before .before .before .before .before .before .before .before .before .before .before .before .before .before .args .t .places) (omega (arith, c .before .before .before .before .before .before .before .before .before .before .before .before .before .before .before .before .pre .1, c .before .before .before .before .before .before .before .before .before .before .before .before .before .before .before .before .pre .0 .scratch)) (c .before .before .before .before .triangulate .kept .1 .1 .1 .0), corners-put (c .before .before .before .before .before .before .before .before .before .before .before .before .before .before .before .before .args .work .now) (c .before .before .before .before .before .before .before .before .before .before .before .before .before .before .before .before .args .t) (c .before .before .before .before .before .before .before .before .before .before .before .before .before .before .before .before .args .ccw) (c .before .before .before .before .before .before .before .before .before .before .before .before .before .before .before .before .args .a .0) (c .before .before .before .before .before .before .before .before .before .before .before .before .before .before .before .before .args .n) (c .before .before .before .before .before .before .before .before .before .before .before .before .before .before .before .before .args .convex) (corners-in (c .before .before .before .before .before .before .before .before .before .before .before .before .before .before .before .before .pre .0 .sound) (c .before .before .before .before .before .before .before .before .before .before .before .before .before .before .before .before .args .ccw) (c .before .before .before .before .before .before .before .before .before .before .before .before .before .before .before .before .args .convex) (c .before .before .before .before .before .before .before .before .before .before .before .before .before .before .before .before .args .a .0) (c .before .before .before .before .before .before .before .before .before .before .before .before .before .before .before .before .args .n) (c .before .before .before .before .before .before .before .before .before .before .before .before .before .before .before .before .pre .1)) (c .before .before .before .before .before .before .before .before .before .before .before .before .before .before .before .before .args .floats .now) _ _ _ (c .before .before .before .before .before .before .before .before .before .before .before .before .before .before .before .before .args .at) (omega (arith, c .before .before .before .before .before .before .before .before .before .before .before .before .before .before .before .before .pre .0 .plane, c .before .before .before .before .before .before .before .before .before .before .before .before .before .before .before .before .pre .1)) (c .before .before .before .before .before .before .before .before .before .before .put-plane .ensures) (c .before .before .before .before .triangulate .ensures), c .before .before .before .before .before .before .before .before .before .before .put-plane .ensures)
+returns c =
+    let c4 = c .before .before .before .before in
+    let c10 = c4 .before .before .before .before .before .before in
+    let c16 = c10 .before .before .before .before .before .before in
+    (kept-mid (c16 .args .work .now) (c4 .triangulate .last .1 .1 .1 .0) (c16 .args .t .places) (c16 .args .t .places + c16 .args .n * 5 - c16 .args .t .places) (omega (arith, c16 .pre .1, c16 .pre .0 .scratch)) (c4 .triangulate .kept .1 .1 .1 .0), corners-put (c16 .args .work .now) (c16 .args .t) (c16 .args .ccw) (c16 .args .a .0) (c16 .args .n) (c16 .args .convex) (corners-in (c16 .pre .0 .sound) (c16 .args .ccw) (c16 .args .convex) (c16 .args .a .0) (c16 .args .n) (c16 .pre .1)) (c16 .args .floats .now) _ _ _ (c16 .args .at) (omega (arith, c16 .pre .0 .plane, c16 .pre .1)) (c10 .put-plane .ensures) (c4 .triangulate .ensures), c10 .put-plane .ensures)
 
 pub put-corners-spec : {M : Type 1} → statement M
 put-corners-spec =

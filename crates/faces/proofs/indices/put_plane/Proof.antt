@@ -73,7 +73,9 @@ part-project-end-2 : tie.Need-part-project-end-2
 part-project-end-2 c = search needs
 
 project-requires : tie.Need-project-requires
-project-requires c κs = let R = c .before .before .before .before .before .before .before .before .before .before .before .before .pre .0 .room in let e = part-length (c .before .before .before .before .before .before .before .before .before .before .before .before .args .work .now) (c .before .before .before .before .before .before .before .before .before .before .before .before .args .t .corners + c .before .before .before .before .before .before .before .before .before .before .before .before .args .a .0) (c .before .before .before .before .before .before .before .before .before .before .before .before .args .t .corners + c .before .before .before .before .before .before .before .before .before .before .before .before .args .a .0 + c .before .before .before .before .before .before .before .before .before .before .before .before .args .n) (c .before .before .before .before .before .before .before .before .before .before .before .before .args .n) refl (omega (arith, c .before .before .before .before .before .before .before .before .before .before .before .before .pre .1)) in omega (arith, e, c .before .before .before .before .before .before .before .before .before .before .before .before .pre .1)
+project-requires c κs =
+    let c12 = c .before .before .before .before .before .before .before .before .before .before .before .before in
+    let R = c12 .pre .0 .room in let e = part-length (c12 .args .work .now) (c12 .args .t .corners + c12 .args .a .0) (c12 .args .t .corners + c12 .args .a .0 + c12 .args .n) (c12 .args .n) refl (omega (arith, c12 .pre .1)) in omega (arith, e, c12 .pre .1)
 
 same-length : tie.Need-same-length
 same-length c = search needs

@@ -27,9 +27,11 @@ point-at-requires c κs = search needs
 
 narrow-requires : tie.Need-narrow-requires Inv-loop μ-loop
 narrow-requires c κs =
-    let P = c .before .before .before .before .before .before .before .pre in
-    let r = c .before .before .before .before .before .before .before .args .run .now in
-    omega (arith, c .point-at .ensures, kept-below _ (entries r) (P .2) (c .before .before .loop .i) (omega (arith, entries-length r, c .before .loop-test .taken)), P .0 .some)
+    let c2 = c .before .before in
+    let c7 = c2 .before .before .before .before .before in
+    let P = c7 .pre in
+    let r = c7 .args .run .now in
+    omega (arith, c .point-at .ensures, kept-below _ (entries r) (P .2) (c2 .loop .i) (omega (arith, entries-length r, c .before .loop-test .taken)), P .0 .some)
 
 add-work : tie.Need-add-work Inv-loop μ-loop
 add-work c = search needs
@@ -38,7 +40,10 @@ mul-work : tie.Need-mul-work Inv-loop μ-loop
 mul-work c = search needs
 
 slice-write-work : tie.Need-slice-write-work Inv-loop μ-loop
-slice-write-work c = omega (arith, c .before .before .before .before .before .before .before .before .pre .0, c .before .before .before .before .before .before .before .before .pre .1, c .before .before .before .loop .inv .kept .len)
+slice-write-work c =
+    let c3 = c .before .before .before in
+    let c8 = c3 .before .before .before .before .before in
+    omega (arith, c8 .pre .0, c8 .pre .1, c3 .loop .inv .kept .len)
 
 add-i : tie.Need-add-i Inv-loop μ-loop
 add-i c = search needs
@@ -47,7 +52,10 @@ loop-less : tie.Need-loop-less Inv-loop μ-loop
 loop-less c = search needs
 
 loop-again : tie.Need-loop-again Inv-loop μ-loop
-loop-again c = writing-more _ (omega (arith, c .before .before .before .before .before .before .before .before .pre .0, c .before .before .before .before .before .before .before .before .pre .1)) (c .before .before .before .loop .inv) (c .before .before .loop-test .taken) (c .narrow .ensures ∙ c .before .point-at .ensures)
+loop-again c =
+    let c2 = c .before .before in
+    let c8 = c2 .before .before .before .before .before .before in
+    writing-more _ (omega (arith, c8 .pre .0, c8 .pre .1)) (c2 .before .loop .inv) (c2 .loop-test .taken) (c .narrow .ensures ∙ c .before .point-at .ensures)
 
 same-length : tie.Need-same-length Inv-loop μ-loop
 same-length c = c .before .loop .inv .kept .len

@@ -30,7 +30,9 @@ fit-of-requires c κs = search needs
 
 returns : tie.Need-returns
 unfolding pointsIn seg
-returns c = let e : c .before .before .before .before .args .t .points + 3 * c .before .before .before .before .args .t .spots - c .before .before .before .before .args .t .points ≡ 3 * c .before .before .before .before .args .t .spots = omega arith in rw (c .fit-of .ensures, e)
+returns c =
+    let c4 = c .before .before .before .before in
+    let e : c4 .args .t .points + 3 * c4 .args .t .spots - c4 .args .t .points ≡ 3 * c4 .args .t .spots = omega arith in rw (c .fit-of .ensures, e)
 
 pub fit-in-spec : {M : Type 1} → statement M
 fit-in-spec =

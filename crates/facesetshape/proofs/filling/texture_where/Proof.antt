@@ -16,7 +16,9 @@ list-part-requires : tie.Need-list-part-requires
 list-part-requires c κs = search needs
 
 fit-in-requires : tie.Need-fit-in-requires
-fit-in-requires c κs = omega (arith, c .before .before .before .before .before .before .before .pre .fitted .pointsBelow, c .before .before .before .before .before .before .before .pre .fitted .room)
+fit-in-requires c κs =
+    let c7 = c .before .before .before .before .before .before .before in
+    omega (arith, c7 .pre .fitted .pointsBelow, c7 .pre .fitted .room)
 
 add-put-textures : tie.Need-add-put-textures
 add-put-textures c = let S = c .before .before .before .before .before .before .before .before .before .before in omega (arith, S .pre .fitted .room, S .good)

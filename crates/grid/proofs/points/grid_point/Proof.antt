@@ -25,7 +25,10 @@ div-step-word : tie.Need-div-step-word
 div-step-word c = omega (arith, c .before .before .wide .ensures, c .before .before .before .before .before .pre .0 .wide)
 
 step-word-requires-2 : tie.Need-step-word-requires-2
-step-word-requires-2 c κs = omega (arith, row-few _ (c .before .before .before .before .before .args .k) (c .before .before .wide .result) (c .before .before .before .before .before .pre .0) (c .before .before .wide .ensures) (c .before .before .before .before .before .pre .1))
+step-word-requires-2 c κs =
+    let c2 = c .before .before in
+    let c5 = c2 .before .before .before in
+    omega (arith, row-few _ (c5 .args .k) (c2 .wide .result) (c5 .pre .0) (c2 .wide .ensures) (c5 .pre .1))
 
 returns : tie.Need-returns
 unfolding gridPoint

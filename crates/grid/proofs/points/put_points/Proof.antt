@@ -31,7 +31,10 @@ wide-requires-2 : tie.Need-wide-requires-2 Inv-loop μ-loop
 wide-requires-2 c κs = search needs
 
 mul-n : tie.Need-mul-n Inv-loop μ-loop
-mul-n c = let e : c .before .wide .result * c .wide2 .result ≡ xDimension (c .before .before .before .before .before .args .h) * zDimension (c .before .before .before .before .before .args .h) = λ i. c .before .wide .ensures i * c .wide2 .ensures i in omega (arith, c .before .before .before .before .before .pre .0 .few)
+mul-n c =
+    let c1 = c .before in
+    let c5 = c1 .before .before .before .before in
+    let e : c1 .wide .result * c .wide2 .result ≡ xDimension (c5 .args .h) * zDimension (c5 .args .h) = λ i. c1 .wide .ensures i * c .wide2 .ensures i in omega (arith, c5 .pre .0 .few)
 
 list-part-requires : tie.Need-list-part-requires Inv-loop μ-loop
 list-part-requires c κs = search needs
@@ -43,10 +46,17 @@ mul-put3 : tie.Need-mul-put3 Inv-loop μ-loop
 mul-put3 c = omega (arith, c .before .before .loop .inv .1, c .before .before .before .before .before .before .before .before .before .pre .0 .few)
 
 add-put3 : tie.Need-add-put3 Inv-loop μ-loop
-add-put3 c = omega (arith, c .before .before .loop .inv .1, c .before .before .before .before .before .before .before .before .before .pre .0 .few, c .before .before .before .before .before .before .before .before .before .pre .2)
+add-put3 c =
+    let c2 = c .before .before in
+    let c9 = c2 .before .before .before .before .before .before .before in
+    omega (arith, c2 .loop .inv .1, c9 .pre .0 .few, c9 .pre .2)
 
 grid-point-requires : tie.Need-grid-point-requires Inv-loop μ-loop
-grid-point-requires c κs = let q : c .before .before .loop .k < length (entries (listBytes (c .before .before .before .before .before .before .before .before .before .args .block .now) (c .before .before .before .before .before .before .before .before .before .args .h) 3)) = omega (arith, c .before .loop-test .taken, c .before .before .loop .inv .1, c .before .before .before .before .before .before .before .before .before .pre .1) in (c .before .before .before .before .before .before .before .before .before .pre .0, omega (arith, c .before .loop-test .taken, c .before .before .loop .inv .1), rw (c .before .before .before .list-part .ensures) q)
+grid-point-requires c κs =
+    let c1 = c .before in
+    let c2 = c1 .before in
+    let c9 = c2 .before .before .before .before .before .before .before in
+    let q : c2 .loop .k < length (entries (listBytes (c9 .args .block .now) (c9 .args .h) 3)) = omega (arith, c1 .loop-test .taken, c2 .loop .inv .1, c9 .pre .1) in (c9 .pre .0, omega (arith, c1 .loop-test .taken, c2 .loop .inv .1), rw (c2 .before .list-part .ensures) q)
 
 put3-requires : tie.Need-put3-requires Inv-loop μ-loop
 put3-requires c κs = omega (arith, c .before .before .before .loop .inv .1, c .before .before .before .loop .inv .3 .size, c .before .before .before .before .before .before .before .before .before .before .pre .2)
@@ -59,18 +69,25 @@ loop-less c = search needs
 
 loop-again : tie.Need-loop-again Inv-loop μ-loop
 loop-again c =
-    let I = c .before .before .before .before .before .before .loop .inv in
-    let v = c .before .before .before .grid-point .ensures ∙ ap (λ (x : List ℕ). gridPoint (c .before .before .before .before .before .before .before .before .before .before .before .before .before .args .h) (c .before .before .before .before .before .before .before .before .before .before .before .before .before .args .s) (entries x) (c .before .before .before .before .before .before .loop .k)) (c .before .before .before .before .before .before .before .list-part .ensures) in
-    let a : c .before .before .before .before .before .before .before .before .before .before .before .before .before .args .at + 3 * c .before .before .before .before .before .before .loop .k ≡ c .before .before .before .before .before .before .before .before .before .before .before .before .before .args .at + c .before .before .before .before .before .before .loop .k * 3 = omega arith in
-    let room : c .before .before .before .before .before .before .before .before .before .before .before .before .before .args .at + 3 * c .before .before .before .before .before .before .loop .k + 3 ≤ length (c .before .before .before .before .before .before .before .before .before .before .before .before .before .args .work .now) = omega (arith, c .before .before .before .before .before .loop-test .taken, I .1, c .before .before .before .before .before .before .before .before .before .before .before .before .before .pre .2) in
-    (omega (arith, c .before .before .before .before .before .loop-test .taken), I .1, I .2, pieces-more _ 3 (λ t. refl) _ _ _ _ _ _ _ a room (I .3) (ap words3 v) (c .before .before .put3 .ensures))
+    let c2 = c .before .before in
+    let c5 = c2 .before .before .before in
+    let c6 = c5 .before in
+    let c13 = c6 .before .before .before .before .before .before .before in
+    let I = c6 .loop .inv in
+    let v = c2 .before .grid-point .ensures ∙ ap (λ (x : List ℕ). gridPoint (c13 .args .h) (c13 .args .s) (entries x) (c6 .loop .k)) (c6 .before .list-part .ensures) in
+    let a : c13 .args .at + 3 * c6 .loop .k ≡ c13 .args .at + c6 .loop .k * 3 = omega arith in
+    let room : c13 .args .at + 3 * c6 .loop .k + 3 ≤ length (c13 .args .work .now) = omega (arith, c5 .loop-test .taken, I .1, c13 .pre .2) in
+    (omega (arith, c5 .loop-test .taken), I .1, I .2, pieces-more _ 3 (λ t. refl) _ _ _ _ _ _ _ a room (I .3) (ap words3 v) (c2 .put3 .ensures))
 
 same-length : tie.Need-same-length Inv-loop μ-loop
 same-length c = c .before .loop .inv .3 .size
 
 returns : tie.Need-returns Inv-loop μ-loop
 unfolding gridPoints
-returns c = let e : c .before .loop .k ≡ xDimension (c .before .before .before .before .before .before .before .before .args .h) * zDimension (c .before .before .before .before .before .before .before .before .args .h) = omega (arith, c .before .loop .inv .1) in pieces-all _ _ _ _ _ _ (c .before .loop .inv .3) e
+returns c =
+    let c1 = c .before in
+    let c8 = c1 .before .before .before .before .before .before .before in
+    let e : c1 .loop .k ≡ xDimension (c8 .args .h) * zDimension (c8 .args .h) = omega (arith, c1 .loop .inv .1) in pieces-all _ _ _ _ _ _ (c1 .loop .inv .3) e
 
 pub put-points-spec : {M : Type 1} → statement M
 put-points-spec =

@@ -29,7 +29,9 @@ add-point-at : tie.Need-add-point-at
 add-point-at c = omega (arith, quad-fits (c .before .before .before .before .args .xd) _ (c .before .before .before .before .pre .2) .1)
 
 point-at-requires-2 : tie.Need-point-at-requires-2
-point-at-requires-2 c κs = let f = quad-fits (c .before .before .before .before .args .xd) _ (c .before .before .before .before .pre .2) in (c .before .before .before .before .pre .1, omega (arith, f .0), f .1)
+point-at-requires-2 c κs =
+    let c4 = c .before .before .before .before in
+    let f = quad-fits (c4 .args .xd) _ (c4 .pre .2) in (c4 .pre .1, omega (arith, f .0), f .1)
 
 returns-2 : tie.Need-returns-2
 unfolding quad
@@ -54,7 +56,9 @@ add-point-at-4 : tie.Need-add-point-at-4
 add-point-at-4 c = omega (arith, quad-fits (c .before .before .before .before .before .args .xd) _ (c .before .before .before .before .before .pre .2) .0)
 
 point-at-requires-4 : tie.Need-point-at-requires-4
-point-at-requires-4 c κs = let f = quad-fits (c .before .before .before .before .before .args .xd) _ (c .before .before .before .before .before .pre .2) in (c .before .before .before .before .before .pre .1, f .0, omega (arith, f .1))
+point-at-requires-4 c κs =
+    let c5 = c .before .before .before .before .before in
+    let f = quad-fits (c5 .args .xd) _ (c5 .pre .2) in (c5 .pre .1, f .0, omega (arith, f .1))
 
 returns-4 : tie.Need-returns-4
 unfolding quad

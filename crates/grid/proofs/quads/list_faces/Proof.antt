@@ -21,10 +21,18 @@ put-multiples-requires : tie.Need-put-multiples-requires
 put-multiples-requires c κs = let P = c .before .before .before .before .before .before .before .before .before .pre in let R = P .room in (omega (arith, P .count, P .faces, R .few), omega (arith, c .before .before .before .before .put-corners .ensures .kept .len))
 
 put-corners-requires-2 : tie.Need-put-corners-requires-2
-put-corners-requires-2 c κs = let R = c .before .before .before .before .before .before .before .before .before .before .before .before .before .pre .room in let e = c .before .before .before .put-multiples .ensures .kept .len ∙ c .before .before .before .before .before .before .before .before .put-corners .ensures .kept .len in corners-asked _ _ _ _ _ _ (c .before .before .before .before .before .before .before .before .before .before .before .before .before .pre) (c .before .before .before .before .before .before .before .before .before .before .wide .ensures) (omega arith)
+put-corners-requires-2 c κs =
+    let c3 = c .before .before .before in
+    let c8 = c3 .before .before .before .before .before in
+    let c13 = c8 .before .before .before .before .before in
+    let R = c13 .pre .room in let e = c3 .put-multiples .ensures .kept .len ∙ c8 .put-corners .ensures .kept .len in corners-asked _ _ _ _ _ _ (c13 .pre) (c8 .before .before .wide .ensures) (omega arith)
 
 put-multiples-requires-2 : tie.Need-put-multiples-requires-2
-put-multiples-requires-2 c κs = let R = c .before .before .before .before .before .before .before .before .before .before .before .before .before .before .before .before .before .pre .room in let e = c .before .before .before .put-corners2 .ensures .kept .len ∙ c .before .before .before .before .before .before .before .put-multiples .ensures .kept .len ∙ c .before .before .before .before .before .before .before .before .before .before .before .before .put-corners .ensures .kept .len in (omega arith, omega arith)
+put-multiples-requires-2 c κs =
+    let c3 = c .before .before .before in
+    let c7 = c3 .before .before .before .before in
+    let c12 = c7 .before .before .before .before .before in
+    let R = c12 .before .before .before .before .before .pre .room in let e = c3 .put-corners2 .ensures .kept .len ∙ c7 .put-multiples .ensures .kept .len ∙ c12 .put-corners .ensures .kept .len in (omega arith, omega arith)
 
 same-length : tie.Need-same-length
 same-length c = search needs

@@ -27,7 +27,10 @@ div-part-word : tie.Need-div-part-word
 div-part-word c = omega (arith, c .before .before .before .before .wide .ensures, c .before .before .before .before .before .before .pre .0 .wide)
 
 part-word-requires-2 : tie.Need-part-word-requires-2
-part-word-requires-2 c κs = let S = c .before .before .before .before .before .before .pre .0 in (row-few _ _ _ S (c .before .before .before .before .wide .ensures) (c .before .before .before .before .before .before .pre .1), omega (arith, c .before .before .before .wide2 .ensures, S .deep), omega (arith, c .before .before .before .wide2 .ensures, S .depth))
+part-word-requires-2 c κs =
+    let c3 = c .before .before .before in
+    let c6 = c3 .before .before .before in
+    let S = c6 .pre .0 in (row-few _ _ _ S (c3 .before .wide .ensures) (c6 .pre .1), omega (arith, c3 .wide2 .ensures, S .deep), omega (arith, c3 .wide2 .ensures, S .depth))
 
 returns : tie.Need-returns
 unfolding gridDefault

@@ -38,24 +38,37 @@ add-put2 : tie.Need-add-put2 Inv-loop μ-loop
 add-put2 c = omega (arith, c .before .before .before .before .before .before .before .pre .1 .room, c .before .before .before .loop-test .taken)
 
 texture-of-requires : tie.Need-texture-of-requires Inv-loop μ-loop
-texture-of-requires c κs = let q = c .before .wide .ensures ∙ kept-at (c .before .before .before .before .loop .inv .1 .kept) (c .before .before .before .before .before .before .before .args .corners + c .before .before .before .before .loop .c) (omega (arith, c .before .before .before .before .before .before .before .pre .1 .below, c .before .before .before .loop-test .taken)) in (c .before .before .before .before .before .before .before .pre .0, rw q (c .before .before .before .before .before .before .before .pre .1 .within (c .before .before .before .before .loop .c) (c .before .before .before .loop-test .taken)))
+texture-of-requires c κs =
+    let c3 = c .before .before .before in
+    let c4 = c3 .before in
+    let c7 = c4 .before .before .before in
+    let q = c .before .wide .ensures ∙ kept-at (c4 .loop .inv .1 .kept) (c7 .args .corners + c4 .loop .c) (omega (arith, c7 .pre .1 .below, c3 .loop-test .taken)) in (c7 .pre .0, rw q (c7 .pre .1 .within (c4 .loop .c) (c3 .loop-test .taken)))
 
 put2-requires : tie.Need-put2-requires Inv-loop μ-loop
-put2-requires c κs = omega (arith, c .before .before .before .before .before .before .before .before .pre .1 .room, c .before .before .before .before .loop-test .taken, c .before .before .before .before .before .loop .inv .1 .kept .len)
+put2-requires c κs =
+    let c4 = c .before .before .before .before in
+    omega (arith, c4 .before .before .before .before .pre .1 .room, c4 .loop-test .taken, c4 .before .loop .inv .1 .kept .len)
 
 add-c : tie.Need-add-c Inv-loop μ-loop
-add-c c = omega (arith, c .before .before .before .before .before .before .before .before .before .before .before .pre .1 .few, c .before .before .before .before .before .before .before .loop-test .taken)
+add-c c =
+    let c7 = c .before .before .before .before .before .before .before in
+    omega (arith, c7 .before .before .before .before .pre .1 .few, c7 .loop-test .taken)
 
 loop-less : tie.Need-loop-less Inv-loop μ-loop
 loop-less c = omega (arith, c .before .before .before .before .before .before .before .loop-test .taken)
 
 loop-again : tie.Need-loop-again Inv-loop μ-loop
 loop-again c =
-    let T = c .before .before .before .before .before .before .before .before .loop .inv .1 in
-    let q = c .before .before .before .before .before .wide .ensures ∙ kept-at (T .kept) (c .before .before .before .before .before .before .before .before .before .before .before .args .corners + c .before .before .before .before .before .before .before .before .loop .c) (omega (arith, c .before .before .before .before .before .before .before .before .before .before .before .pre .1 .below, c .before .before .before .before .before .before .before .loop-test .taken)) in
-    let v = c .before .before .before .texture-of .ensures ∙ ap (gridTexture (c .before .before .before .before .before .before .before .before .before .before .before .args .block .now) (c .before .before .before .before .before .before .before .before .before .before .before .args .h) (c .before .before .before .before .before .before .before .before .before .before .before .args .s)) q in
-    let room : c .before .before .before .before .before .before .before .before .before .before .before .args .textures + 2 * c .before .before .before .before .before .before .before .before .loop .c + 2 ≤ length (c .before .before .before .before .before .before .before .before .before .before .before .args .work .now) = omega (arith, c .before .before .before .before .before .before .before .before .before .before .before .pre .1 .room, c .before .before .before .before .before .before .before .loop-test .taken) in
-    (omega (arith, c .before .before .before .before .before .before .before .loop-test .taken), textured-more _ _ _ _ _ _ _ T v room (c .before .before .put2 .ensures))
+    let c2 = c .before .before in
+    let c5 = c2 .before .before .before in
+    let c7 = c5 .before .before in
+    let c8 = c7 .before in
+    let c11 = c8 .before .before .before in
+    let T = c8 .loop .inv .1 in
+    let q = c5 .wide .ensures ∙ kept-at (T .kept) (c11 .args .corners + c8 .loop .c) (omega (arith, c11 .pre .1 .below, c7 .loop-test .taken)) in
+    let v = c2 .before .texture-of .ensures ∙ ap (gridTexture (c11 .args .block .now) (c11 .args .h) (c11 .args .s)) q in
+    let room : c11 .args .textures + 2 * c8 .loop .c + 2 ≤ length (c11 .args .work .now) = omega (arith, c11 .pre .1 .room, c7 .loop-test .taken) in
+    (omega (arith, c7 .loop-test .taken), textured-more _ _ _ _ _ _ _ T v room (c2 .put2 .ensures))
 
 same-length : tie.Need-same-length Inv-loop μ-loop
 same-length c = c .before .loop .inv .1 .kept .len

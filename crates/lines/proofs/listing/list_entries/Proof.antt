@@ -20,7 +20,11 @@ run-at-requires : tie.Need-run-at-requires Inv-loop μ-loop
 run-at-requires c κs = search needs
 
 list-run-requires : tie.Need-list-run-requires Inv-loop μ-loop
-list-run-requires c κs = let L = c .before .before .before .loop .inv .3 in (rw (L .left .len) (c .before .before .before .before .before .before .pre .0), listing-here L (c .before .run-at .ensures) refl (c .before .before .loop-test .taken) (c .before .before .before .before .before .before .pre .2), omega (arith, c .before .run-at .ensures .within, c .before .before .before .before .before .before .pre .4), omega (arith, c .before .before .before .before .before .before .pre .4))
+list-run-requires c κs =
+    let c1 = c .before in
+    let c2 = c1 .before in
+    let c6 = c2 .before .before .before .before in
+    let L = c2 .before .loop .inv .3 in (rw (L .left .len) (c6 .pre .0), listing-here L (c1 .run-at .ensures) refl (c2 .loop-test .taken) (c6 .pre .2), omega (arith, c1 .run-at .ensures .within, c6 .pre .4), omega (arith, c6 .pre .4))
 
 add-line : tie.Need-add-line Inv-loop μ-loop
 add-line c = omega arith
@@ -32,7 +36,11 @@ loop-less : tie.Need-loop-less Inv-loop μ-loop
 loop-less c = omega arith
 
 loop-again : tie.Need-loop-again Inv-loop μ-loop
-loop-again c = let L = c .before .before .before .before .before .before .before .loop .inv .3 in (c .before .before .before .before .before .before .before .loop .inv .0, omega arith, omega arith, listing-next L (c .before .before .before .before .before .run-at .ensures) (c .next-start .ensures) (c .before .before .before .before .before .before .loop-test .taken) (c .before .before .before .list-run .ensures))
+loop-again c =
+    let c3 = c .before .before .before in
+    let c5 = c3 .before .before in
+    let c6 = c5 .before in
+    let L = c6 .before .loop .inv .3 in (c6 .before .loop .inv .0, omega arith, omega arith, listing-next L (c5 .run-at .ensures) (c .next-start .ensures) (c6 .loop-test .taken) (c3 .list-run .ensures))
 
 same-length : tie.Need-same-length Inv-loop μ-loop
 same-length c = c .before .loop .inv .3 .left .len

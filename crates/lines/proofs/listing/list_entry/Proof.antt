@@ -8,10 +8,16 @@ use Rattle.lines.proofs.listing.list_entry.Statement.{statement}
 use Rattle.lines.proofs.listing.list_entry.Tie as tie
 
 list-corner-requires : tie.Need-list-corner-requires
-list-corner-requires c κs = (c .before .before .before .before .pre .0, c .before .before .before .before .pre .1 (c .before .if1 .taken), omega (arith, c .before .if1 .taken, c .before .before .before .before .pre .2), c .before .before .before .before .pre .3, c .before .before .before .before .pre .4)
+list-corner-requires c κs =
+    let c1 = c .before in
+    let c4 = c1 .before .before .before in
+    (c4 .pre .0, c4 .pre .1 (c1 .if1 .taken), omega (arith, c1 .if1 .taken, c4 .pre .2), c4 .pre .3, c4 .pre .4)
 
 add-t12 : tie.Need-add-t12
-add-t12 c = omega (arith, c .before .before .before .before .before .before .before .before .pre .1 (c .before .before .before .before .before .if1 .taken), c .before .before .before .before .before .before .before .before .pre .0)
+add-t12 c =
+    let c5 = c .before .before .before .before .before in
+    let c8 = c5 .before .before .before in
+    omega (arith, c8 .pre .1 (c5 .if1 .taken), c8 .pre .0)
 
 same-length : tie.Need-same-length
 same-length c = search needs

@@ -28,7 +28,10 @@ add-list-entry : tie.Need-add-list-entry Inv-loop μ-loop
 add-list-entry c = search needs
 
 list-entry-requires : tie.Need-list-entry-requires Inv-loop μ-loop
-list-entry-requires c κs = let bs = c .before .before .before .before .before .before .before .args .run .now in let l = entries-length bs in let L = c .before .before .before .before .loop .inv .1 in let h : c .before .before .before .before .loop .j < length (entries bs) = omega arith in rw (c .point-at .ensures, c .before .wide .ensures, L .left .len) (c .before .before .before .before .before .before .before .pre .0, entry-here L h (c .before .before .before .before .before .before .before .pre .1), omega arith, omega (arith, c .before .before .before .before .before .before .before .pre .2), c .before .before .before .before .before .before .before .pre .3)
+list-entry-requires c κs =
+    let c4 = c .before .before .before .before in
+    let c7 = c4 .before .before .before in
+    let bs = c7 .args .run .now in let l = entries-length bs in let L = c4 .loop .inv .1 in let h : c4 .loop .j < length (entries bs) = omega arith in rw (c .point-at .ensures, c .before .wide .ensures, L .left .len) (c7 .pre .0, entry-here L h (c7 .pre .1), omega arith, omega (arith, c7 .pre .2), c7 .pre .3)
 
 add-j : tie.Need-add-j Inv-loop μ-loop
 add-j c = search needs
@@ -37,7 +40,11 @@ loop-less : tie.Need-loop-less Inv-loop μ-loop
 loop-less c = search needs
 
 loop-again : tie.Need-loop-again Inv-loop μ-loop
-loop-again c = let bs = c .before .before .before .before .before .before .before .before .before .before .args .run .now in let l = entries-length bs in let L = c .before .before .before .before .before .before .before .loop .inv .1 in let h : c .before .before .before .before .before .before .before .loop .j < length (entries bs) = omega arith in (c .before .before .before .before .before .before .before .loop .inv .0, entry-next L h (rw (c .before .before .before .point-at .ensures, c .before .before .before .before .wide .ensures) at (c .before .before .list-entry .ensures)))
+loop-again c =
+    let c2 = c .before .before in
+    let c3 = c2 .before in
+    let c7 = c3 .before .before .before .before in
+    let bs = c7 .before .before .before .args .run .now in let l = entries-length bs in let L = c7 .loop .inv .1 in let h : c7 .loop .j < length (entries bs) = omega arith in (c7 .loop .inv .0, entry-next L h (rw (c3 .point-at .ensures, c3 .before .wide .ensures) at (c2 .list-entry .ensures)))
 
 same-length : tie.Need-same-length Inv-loop μ-loop
 same-length c = c .before .loop .inv .1 .left .len

@@ -17,7 +17,11 @@ wide-requires : tie.Need-wide-requires
 wide-requires c κs = search needs
 
 put-line-requires : tie.Need-put-line-requires
-put-line-requires c κs = (rw (vertex-here _ _ _ (c .before .before .before .if1 .taken), ← c .before .wide .ensures) at (c .before .before .before .before .before .before .before .before .pre .2), c .before .before .before .before .before .before .before .before .pre .1, omega (arith, c .before .wide .ensures, c .before .before .shared-slice-known2 .given (c .before .before .before .before .before .before .before .before .args .w .corner .0)))
+put-line-requires c κs =
+    let c1 = c .before in
+    let c2 = c1 .before in
+    let c8 = c2 .before .before .before .before .before .before in
+    (rw (vertex-here _ _ _ (c2 .before .if1 .taken), ← c1 .wide .ensures) at (c8 .pre .2), c8 .pre .1, omega (arith, c1 .wide .ensures, c2 .shared-slice-known2 .given (c8 .args .w .corner .0)))
 
 add-t11 : tie.Need-add-t11
 add-t11 c = omega (arith, c .before .before .before .before .before .before .before .before .before .before .before .pre .0 (c .before .before .before .before .before .before .if1 .taken))
@@ -27,11 +31,18 @@ same-length c = search needs
 
 returns : tie.Need-returns
 unfolding lastOf
-returns c = let v = vertex-here (c .before .before .before .before .before .before .before .before .before .before .before .args .points) (c .before .before .before .before .before .before .before .before .before .before .before .args .numbers .now) (c .before .before .before .before .before .before .before .before .before .before .before .args .w .corner .0) (c .before .before .before .before .before .before .if1 .taken) in record { added = rw (v, ← c .before .before .before .before .wide .ensures) (c .before .before .put-line .ensures); corner = sym (corner-here _ _ (c .before .before .before .before .before .before .if1 .taken)); last = ap some (c .before .before .before .before .wide .ensures) ∙ sym v; fits = omega (arith, c .before .before .before .before .wide .ensures, c .before .before .before .before .before .shared-slice-known2 .given (c .before .before .before .before .before .before .before .before .before .before .before .args .w .corner .0)) }
+returns c =
+    let c2 = c .before .before in
+    let c4 = c2 .before .before in
+    let c6 = c4 .before .before in
+    let c11 = c6 .before .before .before .before .before in
+    let v = vertex-here (c11 .args .points) (c11 .args .numbers .now) (c11 .args .w .corner .0) (c6 .if1 .taken) in record { added = rw (v, ← c4 .wide .ensures) (c2 .put-line .ensures); corner = sym (corner-here _ _ (c6 .if1 .taken)); last = ap some (c4 .wide .ensures) ∙ sym v; fits = omega (arith, c4 .wide .ensures, c4 .before .shared-slice-known2 .given (c11 .args .w .corner .0)) }
 
 returns-2 : tie.Need-returns-2
 unfolding lastOf
-returns-2 c = let v = vertex-past (c .before .before .before .before .before .args .points) (c .before .before .before .before .before .args .numbers .now) (c .before .before .before .before .before .args .w .corner .0) (c .if1 .left) in record { added = rw v (line-none (lastOf (c .before .before .before .before .before .args .w .after) (c .before .before .before .before .before .args .w .last .0)) _ _); corner = sym (corner-past _ _ (c .if1 .left)); last = sym v; fits = omega arith }
+returns-2 c =
+    let c5 = c .before .before .before .before .before in
+    let v = vertex-past (c5 .args .points) (c5 .args .numbers .now) (c5 .args .w .corner .0) (c .if1 .left) in record { added = rw v (line-none (lastOf (c5 .args .w .after) (c5 .args .w .last .0)) _ _); corner = sym (corner-past _ _ (c .if1 .left)); last = sym v; fits = omega arith }
 
 pub put-entry-spec : {M : Type 1} → statement M
 put-entry-spec =

@@ -53,7 +53,12 @@ loop-less : tie.Need-loop-less Inv-loop μ-loop
 loop-less c = omega arith
 
 loop-again : tie.Need-loop-again Inv-loop μ-loop
-loop-again c = let s = part-is (c .before .before .before .before .before .before .before .before .before .before .before .before .args .work .now) (c .before .before .before .before .before .before .before .before .before .before .before .before .args .named) (c .before .before .before .before .before .before .before .before .before .before .before .before .args .count) in let N = c .before .before .before .before .before .before .before .before .loop .inv .3 in (c .before .before .before .before .before .before .before .before .loop .inv .0, c .before .before .before .before .before .before .before .before .loop .inv .1, omega arith, lining-next N (c .before .before .before .before .before .before .run-at .ensures) (c .next-start .ensures) (c .before .before .before .before .before .before .before .loop-test .taken) (rw s at (c .before .before .before .put-run .ensures)))
+loop-again c =
+    let c3 = c .before .before .before in
+    let c6 = c3 .before .before .before in
+    let c8 = c6 .before .before in
+    let c12 = c8 .before .before .before .before in
+    let s = part-is (c12 .args .work .now) (c12 .args .named) (c12 .args .count) in let N = c8 .loop .inv .3 in (c8 .loop .inv .0, c8 .loop .inv .1, omega arith, lining-next N (c6 .run-at .ensures) (c .next-start .ensures) (c6 .before .loop-test .taken) (rw s at (c3 .put-run .ensures)))
 
 same-length : tie.Need-same-length Inv-loop μ-loop
 same-length c = c .before .loop .inv .3 .left .len

@@ -29,7 +29,11 @@ wide-requires : tie.Need-wide-requires Inv-loop μ-loop
 wide-requires c κs = search needs
 
 put-entry-requires : tie.Need-put-entry-requires Inv-loop μ-loop
-put-entry-requires c κs = let bs = c .before .before .before .before .before .before .before .before .before .args .run .now in let l = entries-length bs in let P = c .before .before .before .before .loop .inv .1 in let h : c .before .before .before .before .loop .j < length (entries bs) = omega arith in rw (c .before .before .point-at .ensures, c .before .wide .ensures) (pairing-here P h (c .before .before .before .before .before .before .before .before .before .pre .0), P .fits, pairing-room P h (c .before .before .before .before .before .before .before .before .before .pre .1))
+put-entry-requires c κs =
+    let c2 = c .before .before in
+    let c4 = c2 .before .before in
+    let c9 = c4 .before .before .before .before .before in
+    let bs = c9 .args .run .now in let l = entries-length bs in let P = c4 .loop .inv .1 in let h : c4 .loop .j < length (entries bs) = omega arith in rw (c2 .point-at .ensures, c .before .wide .ensures) (pairing-here P h (c9 .pre .0), P .fits, pairing-room P h (c9 .pre .1))
 
 add-j : tie.Need-add-j Inv-loop μ-loop
 add-j c = search needs
@@ -38,7 +42,11 @@ loop-less : tie.Need-loop-less Inv-loop μ-loop
 loop-less c = search needs
 
 loop-again : tie.Need-loop-again Inv-loop μ-loop
-loop-again c = let bs = c .before .before .before .before .before .before .before .before .before .before .before .before .args .run .now in let l = entries-length bs in let P = c .before .before .before .before .before .before .before .loop .inv .1 in let h : c .before .before .before .before .before .before .before .loop .j < length (entries bs) = omega arith in (c .before .before .before .before .before .before .before .loop .inv .0, pairing-next P h (rw (c .before .before .before .before .before .point-at .ensures, c .before .before .before .before .wide .ensures) at (c .before .before .put-entry .ensures)))
+loop-again c =
+    let c2 = c .before .before in
+    let c4 = c2 .before .before in
+    let c7 = c4 .before .before .before in
+    let bs = c7 .before .before .before .before .before .args .run .now in let l = entries-length bs in let P = c7 .loop .inv .1 in let h : c7 .loop .j < length (entries bs) = omega arith in (c7 .loop .inv .0, pairing-next P h (rw (c4 .before .point-at .ensures, c4 .wide .ensures) at (c2 .put-entry .ensures)))
 
 same-length : tie.Need-same-length Inv-loop μ-loop
 same-length c = c .before .loop .inv .1 .left .len

@@ -45,11 +45,14 @@ loop-less c = omega arith
 
 loop-again : tie.Need-loop-again Inv-loop μ-loop
 loop-again c =
-    let run = c .before .before .before .before .run-at .result .now in
+    let c4 = c .before .before .before .before in
+    let c6 = c4 .before .before in
+    let c8 = c6 .before .before in
+    let run = c4 .run-at .result .now in
     let l = entries-length run in
-    let turn = sum-turn (c .before .before .before .before .before .before .before .before .args .list .now) (c .before .before .before .before .before .before .loop .start) run (c .before .before .before .before .run-at .ensures .items) _ (c .next-start .ensures) (omega arith) in
-    let cs = turn (named (c .before .before .before .before .before .before .before .before .args .points)) in
-    let ls = turn (linesAfter (c .before .before .before .before .before .before .before .before .args .points) false) in
+    let turn = sum-turn (c8 .args .list .now) (c6 .loop .start) run (c4 .run-at .ensures .items) _ (c .next-start .ensures) (omega arith) in
+    let cs = turn (named (c8 .args .points)) in
+    let ls = turn (linesAfter (c8 .args .points) false) in
     omega arith
 
 returns : tie.Need-returns Inv-loop μ-loop

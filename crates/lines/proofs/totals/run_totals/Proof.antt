@@ -34,7 +34,10 @@ loop-less : tie.Need-loop-less Inv-loop μ-loop
 loop-less c = search needs
 
 loop-again : tie.Need-loop-again Inv-loop μ-loop
-loop-again c = let bs = c .before .before .before .before .before .before .args .run .now in let l = entries-length bs in let I = c .before .before .before .before .loop .inv in (I .0, rw (c .before .before .entry .ensures) (counting-next (I .1) _ _ (omega arith) (rw (c .before .before .entry .ensures) at (c .before .counted .ensures)) (rw (c .before .before .entry .ensures) at (c .counted2 .ensures))))
+loop-again c =
+    let c2 = c .before .before in
+    let c4 = c2 .before .before in
+    let bs = c4 .before .before .args .run .now in let l = entries-length bs in let I = c4 .loop .inv in (I .0, rw (c2 .entry .ensures) (counting-next (I .1) _ _ (omega arith) (rw (c2 .entry .ensures) at (c .before .counted .ensures)) (rw (c2 .entry .ensures) at (c .counted2 .ensures))))
 
 returns : tie.Need-returns Inv-loop μ-loop
 returns c = let l = entries-length (c .before .before .before .args .run .now) in counting-end (c .before .loop .inv .1) (omega arith)

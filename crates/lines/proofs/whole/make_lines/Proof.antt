@@ -11,7 +11,9 @@ all-vertices-requires : tie.Need-all-vertices-requires
 all-vertices-requires c κs = c .before .before .before .before .before .before .before .before .before .before .before .before .before .before .before .before .before .pre .corners
 
 put-lines-requires : tie.Need-put-lines-requires
-put-lines-requires c κs = let R = c .before .before .before .before .before .before .before .before .before .before .before .before .before .before .before .before .before .before .before .before .before .before .before .before .before .before .before .before .before .before .before .before .pre in let Q = R .corners .laid in let l = c .before .before .before .before .before .before .before .before .before .before .before .before .before .before .all-vertices .ensures .kept .len in (omega (arith, Q .named, Q .places, Q .numbers, Q .textures, Q .heads, Q .nexts, l), told-count (R .told), R .room)
+put-lines-requires c κs =
+    let c14 = c .before .before .before .before .before .before .before .before .before .before .before .before .before .before in
+    let R = c14 .before .before .before .before .before .before .before .before .before .before .before .before .before .before .before .before .before .before .pre in let Q = R .corners .laid in let l = c14 .all-vertices .ensures .kept .len in (omega (arith, Q .named, Q .places, Q .numbers, Q .textures, Q .heads, Q .nexts, l), told-count (R .told), R .room)
 
 clear-words-requires : tie.Need-clear-words-requires
 clear-words-requires c κs = search needs

@@ -9,7 +9,9 @@ mul-put-points : tie.Need-mul-put-points
 mul-put-points c = search needs
 
 put-points-requires : tie.Need-put-points-requires
-put-points-requires c κs = let Q = c .before .before .before .before .before .pre .1 in (omega (arith, c .before .before .before .before .before .pre .3, stand _ _ (c .before .before .before .before .before .pre .0) .1), omega (arith, Q .points, Q .named, Q .places, Q .numbers, Q .textures, Q .heads, Q .nexts))
+put-points-requires c κs =
+    let c5 = c .before .before .before .before .before in
+    let Q = c5 .pre .1 in (omega (arith, c5 .pre .3, stand _ _ (c5 .pre .0) .1), omega (arith, Q .points, Q .named, Q .places, Q .numbers, Q .textures, Q .heads, Q .nexts))
 
 list-entries-requires : tie.Need-list-entries-requires
 list-entries-requires c κs =

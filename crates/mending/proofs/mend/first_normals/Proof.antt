@@ -36,7 +36,10 @@ loop-less : tie.Need-loop-less Inv-loop μ-loop
 loop-less c = search needs
 
 loop-again : tie.Need-loop-again Inv-loop μ-loop
-loop-again c = (search needs, c .before .before .note .kept .1 .1 .1 .1 .0 ∙ c .before .before .before .before .before .loop .inv .1, left-go _ _ _ _ _ _ (c .before .before .before .before .loop-test .taken) (c .before .before .note .kept .1 .1 .1 .1 .0) (c .before .before .note .ensures) (c .before .before .before .before .before .loop .inv .2))
+loop-again c =
+    let c2 = c .before .before in
+    let c4 = c2 .before .before in
+    (search needs, c2 .note .kept .1 .1 .1 .1 .0 ∙ c4 .before .loop .inv .1, left-go _ _ _ _ _ _ (c4 .loop-test .taken) (c2 .note .kept .1 .1 .1 .1 .0) (c2 .note .ensures) (c4 .before .loop .inv .2))
 
 same-length : tie.Need-same-length Inv-loop μ-loop
 same-length c = c .before .loop .inv .1 ∙ c .before .before .before .before .clear .kept .0

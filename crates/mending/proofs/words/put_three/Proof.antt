@@ -22,7 +22,9 @@ same-length : tie.Need-same-length
 same-length c = search needs
 
 returns : tie.Need-returns
-returns c = cc (add-one (c .before .before .before .before .before .before .before .before .before .before .before .before .before .args .k), add-two (c .before .before .before .before .before .before .before .before .before .before .before .before .before .args .k))
+returns c =
+    let c13 = c .before .before .before .before .before .before .before .before .before .before .before .before .before in
+    cc (add-one (c13 .args .k), add-two (c13 .args .k))
 
 pub put-three-spec : {M : Type 1} → statement M
 put-three-spec =

@@ -77,9 +77,13 @@ loop-less c = search needs
 
 loop-again : tie.Need-loop-again Inv-loop μ-loop
 loop-again c =
-    let I = c .before .before .before .before .before .loop .inv in
-    let k = chain-next (c .before .before .before .before .before .before .before .before .fill .last .0) (c .before .before .before .before .before .loop .work) (c .before .before .before .before .before .before .before .before .before .before .before .before .args .a) (c .before .before .before .before .before .before .before .before .before .before .before .before .args .n) (c .before .before .before .before .before .before .before .before .before .before .before .before .args .h) (c .before .before .before .before .before .before .before .before .before .before .before .before .args .p) (c .before .before .before .before .before .before .before .before .before .before .before .before .args .x) (c .before .before .before .before .before .loop .i) (c .before .before .before .before .before .loop .i - 1) (c .before .before .wide .result) (c .narrow2 .result)
-    (omega arith) (omega arith) (I .1) (I .2) (I .3) (c .before .before .wide .ensures) (c .narrow2 .ensures) in
+    let c2 = c .before .before in
+    let c5 = c2 .before .before .before in
+    let c8 = c5 .before .before .before in
+    let c12 = c8 .before .before .before .before in
+    let I = c5 .loop .inv in
+    let k = chain-next (c8 .fill .last .0) (c5 .loop .work) (c12 .args .a) (c12 .args .n) (c12 .args .h) (c12 .args .p) (c12 .args .x) (c5 .loop .i) (c5 .loop .i - 1) (c2 .wide .result) (c .narrow2 .result)
+    (omega arith) (omega arith) (I .1) (I .2) (I .3) (c2 .wide .ensures) (c .narrow2 .ensures) in
     (omega arith, k .0, k .1, k .2)
 
 same-length : tie.Need-same-length Inv-loop μ-loop
@@ -87,11 +91,14 @@ same-length c = c .before .loop .inv .1 .len ∙ c .before .before .before .befo
 
 returns : tie.Need-returns Inv-loop μ-loop
 returns c =
-    let I = c .before .loop .inv in
-    let z : c .before .loop .i ≡ 0 = omega arith in
-    let P = c .before .before .before .before .before .before .before .before .pre in
-    let K = c .before .before .before .before .fill .ensures .kept in
-    let s : seg (c .before .before .before .before .fill .last .0) (c .before .before .before .before .before .before .before .before .args .a) (c .before .before .before .before .before .before .before .before .args .n) ≡ seg (c .before .before .before .before .before .before .before .before .args .work .now) (c .before .before .before .before .before .before .before .before .args .a) (c .before .before .before .before .before .before .before .before .args .n) = kept-seg K (c .before .before .before .before .before .before .before .before .args .a) (c .before .before .before .before .before .before .before .before .args .n) (omega arith) (omega arith) in
+    let c1 = c .before in
+    let c4 = c1 .before .before .before in
+    let c8 = c4 .before .before .before .before in
+    let I = c1 .loop .inv in
+    let z : c1 .loop .i ≡ 0 = omega arith in
+    let P = c8 .pre in
+    let K = c4 .fill .ensures .kept in
+    let s : seg (c4 .fill .last .0) (c8 .args .a) (c8 .args .n) ≡ seg (c8 .args .work .now) (c8 .args .a) (c8 .args .n) = kept-seg K (c8 .args .a) (c8 .args .n) (omega arith) (omega arith) in
     (kept-then K (I .1) (omega arith), rw z at (rw s at (I .3)))
 
 pub chain-spec : {M : Type 1} → statement M

@@ -42,10 +42,13 @@ loop-less c = search needs
 
 loop-again : tie.Need-loop-again Inv-loop μ-loop
 loop-again c =
-    let I = c .before .before .before .before .before .before .before .before .before .before .before .before .loop .inv in
-    let E = c .before .before .before .before .before .before .before .before .stretch-of .ensures in
-    let k = spread-next _ _ _ _ (c .before .before .before .before .before .before .before .before .before .before .before .before .before .before .pre) (I .1) (I .3) (c .before .before .before .before .before .before .before .before .before .before .if1 .taken) (E .from) (E .to) (c .before .before .fill .ensures .kept) (c .before .before .fill .ensures .words) (c .before .before .before .narrow .ensures) in
-    (omega (arith, c .before .before .before .before .before .before .before .before .before .before .if1 .taken), k .0, k .1, k .2)
+    let c2 = c .before .before in
+    let c8 = c2 .before .before .before .before .before .before in
+    let c10 = c8 .before .before in
+    let I = c10 .before .before .loop .inv in
+    let E = c8 .stretch-of .ensures in
+    let k = spread-next _ _ _ _ (c10 .before .before .before .before .pre) (I .1) (I .3) (c10 .if1 .taken) (E .from) (E .to) (c2 .fill .ensures .kept) (c2 .fill .ensures .words) (c2 .before .narrow .ensures) in
+    (omega (arith, c10 .if1 .taken), k .0, k .1, k .2)
 
 same-length : tie.Need-same-length Inv-loop μ-loop
 same-length c = c .before .before .loop .inv .1 .len

@@ -39,10 +39,14 @@ loop-less c = search needs
 
 loop-again : tie.Need-loop-again Inv-loop μ-loop
 loop-again c =
-    let I = c .before .before .before .before .before .before .before .before .before .loop .inv in
-    let E = c .before .before .put-row .ensures in
-    let k = rows-next _ _ (c .before .before .before .before .before .before .before .before .before .before .before .pre) (I .1) (I .3) (c .before .before .before .before .before .before .before .if1 .taken) (c .before .before .before .before .before .face-normal .ensures) (E .0) (E .1) (E .2) in
-    (omega (arith, c .before .before .before .before .before .before .before .if1 .taken), k .0, k .1, k .2)
+    let c2 = c .before .before in
+    let c5 = c2 .before .before .before in
+    let c7 = c5 .before .before in
+    let c9 = c7 .before .before in
+    let I = c9 .loop .inv in
+    let E = c2 .put-row .ensures in
+    let k = rows-next _ _ (c9 .before .before .pre) (I .1) (I .3) (c7 .if1 .taken) (c5 .face-normal .ensures) (E .0) (E .1) (E .2) in
+    (omega (arith, c7 .if1 .taken), k .0, k .1, k .2)
 
 same-length : tie.Need-same-length Inv-loop μ-loop
 same-length c = c .before .before .loop .inv .1 .len

@@ -43,16 +43,22 @@ part-face-normals-start : tie.Need-part-face-normals-start Inv-loop μ-loop
 part-face-normals-start c = search needs
 
 part-face-normals-end : tie.Need-part-face-normals-end Inv-loop μ-loop
-part-face-normals-end c = omega (arith, c .before .before .before .before .stretch-of .ensures .order, c .before .before .before .before .stretch-of .ensures .within, c .before .before .before .before .before .before .before .before .before .before .pre .3, c .before .before .before .before .before .before .before .loop .inv .2)
+part-face-normals-end c =
+    let c4 = c .before .before .before .before in
+    let c7 = c4 .before .before .before in
+    omega (arith, c4 .stretch-of .ensures .order, c4 .stretch-of .ensures .within, c7 .before .before .before .pre .3, c7 .loop .inv .2)
 
 face-normals-requires : tie.Need-face-normals-requires Inv-loop μ-loop
 face-normals-requires c κs =
-    let E = c .before .before .before .before .before .stretch-of .ensures in (
-      c .before .before .before .before .before .before .before .before .before .before .before .pre .0,
-      c .before .before .before .before .before .before .before .before .before .before .before .pre .1,
-      c .before .before .before .before .before .before .if1 .taken,
+    let c5 = c .before .before .before .before .before in
+    let c8 = c5 .before .before .before in
+    let c11 = c8 .before .before .before in
+    let E = c5 .stretch-of .ensures in (
+      c11 .pre .0,
+      c11 .pre .1,
+      c5 .before .if1 .taken,
       omega (arith, E .order, E .within),
-      mid-len (3 * c .before .before .before .before .before .stretch-of .result .from .0) (3 * c .before .before .before .before .before .stretch-of .result .to .0) (c .before .before .before .before .before .before .before .before .loop .floats) (omega (arith, c .before .before .before .before .before .stretch-of .ensures .order, c .before .before .before .before .before .stretch-of .ensures .within, c .before .before .before .before .before .before .before .before .before .before .before .pre .3, c .before .before .before .before .before .before .before .before .loop .inv .2)) ∙ omega (arith, E .order),
+      mid-len (3 * c5 .stretch-of .result .from .0) (3 * c5 .stretch-of .result .to .0) (c8 .loop .floats) (omega (arith, c5 .stretch-of .ensures .order, c5 .stretch-of .ensures .within, c11 .pre .3, c8 .loop .inv .2)) ∙ omega (arith, E .order),
     )
 
 add-g : tie.Need-add-g Inv-loop μ-loop
@@ -63,16 +69,23 @@ loop-less c = search needs
 
 loop-again : tie.Need-loop-again Inv-loop μ-loop
 loop-again c =
-    let E = c .before .before .before .before .before .before .before .before .stretch-of .ensures in
-    (omega (arith, c .before .before .before .before .before .before .before .before .before .if1 .taken), faces-next _ _ _ _ _ _ _ _ _ (c .before .before .before .before .before .before .before .before .before .before .before .before .before .before .pre .1) (c .before .before .before .before .before .before .before .before .before .before .before .before .before .before .pre .2) (c .before .before .before .before .before .before .before .before .before .if1 .taken) (E .from) (E .to) (c .before .before .before .before .before .before .before .before .before .before .before .loop .inv .1) (c .before .before .face-normals .ensures), c .before .floats .given .1 ∙ c .before .before .before .before .before .before .before .before .before .before .before .loop .inv .2)
+    let c2 = c .before .before in
+    let c8 = c2 .before .before .before .before .before .before in
+    let c9 = c8 .before in
+    let c11 = c9 .before .before in
+    let c14 = c11 .before .before .before in
+    let E = c8 .stretch-of .ensures in
+    (omega (arith, c9 .if1 .taken), faces-next _ _ _ _ _ _ _ _ _ (c14 .pre .1) (c14 .pre .2) (c9 .if1 .taken) (E .from) (E .to) (c11 .loop .inv .1) (c2 .face-normals .ensures), c .before .floats .given .1 ∙ c11 .loop .inv .2)
 
 same-length : tie.Need-same-length Inv-loop μ-loop
 same-length c = c .before .before .loop .inv .2
 
 returns : tie.Need-returns Inv-loop μ-loop
 returns c =
-    let e : c .before .before .loop .g ≡ c .before .before .before .before .before .args .t .faces = omega arith in
-    rw (ap (startIn (c .before .before .before .before .before .args .work .now) (c .before .before .before .before .before .args .t)) e ∙ c .before .before .before .before .before .pre .1 .last) at (c .before .before .loop .inv .1)
+    let c2 = c .before .before in
+    let c5 = c2 .before .before .before in
+    let e : c2 .loop .g ≡ c5 .args .t .faces = omega arith in
+    rw (ap (startIn (c5 .args .work .now) (c5 .args .t)) e ∙ c5 .pre .1 .last) at (c2 .loop .inv .1)
 
 pub corner-normals-spec : {M : Type 1} → statement M
 corner-normals-spec =

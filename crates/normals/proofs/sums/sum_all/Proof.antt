@@ -24,13 +24,21 @@ owner-of-requires : tie.Need-owner-of-requires Inv-loop μ-loop
 owner-of-requires c κs = (c .before .before .before .before .before .before .pre .0 .room, c .if1 .taken)
 
 mul-load : tie.Need-mul-load Inv-loop μ-loop
-mul-load c = let R = c .before .before .before .before .before .before .before .pre .0 .room in omega (arith, owner-lt (c .before .before .before .before .before .before .before .pre .0) _ _ (c .before .if1 .taken) (c .owner-of .ensures))
+mul-load c =
+    let c7 = c .before .before .before .before .before .before .before in
+    let R = c7 .pre .0 .room in omega (arith, owner-lt (c7 .pre .0) _ _ (c .before .if1 .taken) (c .owner-of .ensures))
 
 add-load : tie.Need-add-load Inv-loop μ-loop
-add-load c = let R = c .before .before .before .before .before .before .before .before .pre .0 .room in omega (arith, owner-lt (c .before .before .before .before .before .before .before .before .pre .0) _ _ (c .before .before .if1 .taken) (c .before .owner-of .ensures))
+add-load c =
+    let c2 = c .before .before in
+    let c8 = c2 .before .before .before .before .before .before in
+    let R = c8 .pre .0 .room in omega (arith, owner-lt (c8 .pre .0) _ _ (c2 .if1 .taken) (c .before .owner-of .ensures))
 
 load-requires : tie.Need-load-requires Inv-loop μ-loop
-load-requires c κs = let R = c .before .before .before .before .before .before .before .before .pre .0 .room in omega (arith, owner-lt (c .before .before .before .before .before .before .before .before .pre .0) _ _ (c .before .before .if1 .taken) (c .before .owner-of .ensures))
+load-requires c κs =
+    let c2 = c .before .before in
+    let c8 = c2 .before .before .before .before .before .before in
+    let R = c8 .pre .0 .room in omega (arith, owner-lt (c8 .pre .0) _ _ (c2 .if1 .taken) (c .before .owner-of .ensures))
 
 add-requires : tie.Need-add-requires Inv-loop μ-loop
 add-requires c κs = search needs
@@ -50,7 +58,10 @@ loop-again c =
     left-step sumAll (c8 .before .before .before .pre .0) _ _ _ _ _ _ (c8 .loop .inv) (c4 .before .if1 .taken) (c .next-at .ensures) (all-one _ _ _ _ _ _ (c4 .owner-of .ensures) _ (c2 .load .ensures) (c .before .add .ensures))
 
 returns : tie.Need-returns Inv-loop μ-loop
-returns c = left-end sumAll (c .before .before .before .before .before .before .pre .0) _ _ _ _ _ _ (c .before .before .before .before .before .before .pre .1) (c .before .before .before .before .first-at .ensures) refl (c .before .before .before .loop .inv) (omega arith) (all-none _)
+returns c =
+    let c3 = c .before .before .before in
+    let c6 = c3 .before .before .before in
+    left-end sumAll (c6 .pre .0) _ _ _ _ _ _ (c6 .pre .1) (c3 .before .first-at .ensures) refl (c3 .loop .inv) (omega arith) (all-none _)
 
 pub sum-all-spec : {M : Type 1} → statement M
 sum-all-spec =

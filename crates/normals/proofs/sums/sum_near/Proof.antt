@@ -32,13 +32,21 @@ owner-of-requires : tie.Need-owner-of-requires Inv-loop μ-loop
 owner-of-requires c κs = (c .before .before .before .before .before .before .before .before .pre .0 .room, c .if1 .taken)
 
 mul-near-step : tie.Need-mul-near-step Inv-loop μ-loop
-mul-near-step c = let R = c .before .before .before .before .before .before .before .before .before .pre .0 .room in omega (arith, owner-lt (c .before .before .before .before .before .before .before .before .before .pre .0) _ _ (c .before .if1 .taken) (c .owner-of .ensures))
+mul-near-step c =
+    let c9 = c .before .before .before .before .before .before .before .before .before in
+    let R = c9 .pre .0 .room in omega (arith, owner-lt (c9 .pre .0) _ _ (c .before .if1 .taken) (c .owner-of .ensures))
 
 add-near-step : tie.Need-add-near-step Inv-loop μ-loop
-add-near-step c = let R = c .before .before .before .before .before .before .before .before .before .before .pre .0 .room in omega (arith, owner-lt (c .before .before .before .before .before .before .before .before .before .before .pre .0) _ _ (c .before .before .if1 .taken) (c .before .owner-of .ensures))
+add-near-step c =
+    let c2 = c .before .before in
+    let c10 = c2 .before .before .before .before .before .before .before .before in
+    let R = c10 .pre .0 .room in omega (arith, owner-lt (c10 .pre .0) _ _ (c2 .if1 .taken) (c .before .owner-of .ensures))
 
 near-step-requires : tie.Need-near-step-requires Inv-loop μ-loop
-near-step-requires c κs = let R = c .before .before .before .before .before .before .before .before .before .before .pre .0 .room in omega (arith, owner-lt (c .before .before .before .before .before .before .before .before .before .before .pre .0) _ _ (c .before .before .if1 .taken) (c .before .owner-of .ensures))
+near-step-requires c κs =
+    let c2 = c .before .before in
+    let c10 = c2 .before .before .before .before .before .before .before .before in
+    let R = c10 .pre .0 .room in omega (arith, owner-lt (c10 .pre .0) _ _ (c2 .if1 .taken) (c .before .owner-of .ensures))
 
 next-at-requires : tie.Need-next-at-requires Inv-loop μ-loop
 next-at-requires c κs = (c .before .before .before .before .before .before .before .before .before .before .before .pre .0 .room, c .before .before .before .if1 .taken)
@@ -57,7 +65,11 @@ loop-again c =
 
 returns : tie.Need-returns Inv-loop μ-loop
 unfolding normalIn
-returns c = left-end (sumNear _ _ _) (c .before .before .before .before .before .before .before .before .pre .0) _ _ _ _ _ _ (c .before .before .before .before .before .before .before .before .pre .1) (c .before .before .before .before .first-at .ensures) (c .before .before .before .before .before .load .ensures) (c .before .before .before .loop .inv) (omega arith) (near-nothing _ _ _ _)
+returns c =
+    let c3 = c .before .before .before in
+    let c4 = c3 .before in
+    let c8 = c4 .before .before .before .before in
+    left-end (sumNear _ _ _) (c8 .pre .0) _ _ _ _ _ _ (c8 .pre .1) (c4 .first-at .ensures) (c4 .before .load .ensures) (c3 .loop .inv) (omega arith) (near-nothing _ _ _ _)
 
 pub sum-near-spec : {M : Type 1} → statement M
 sum-near-spec =

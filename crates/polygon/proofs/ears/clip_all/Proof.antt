@@ -73,21 +73,27 @@ loop-less : tie.Need-loop-less Inv-loop μ-loop
 loop-less c = omega arith
 
 loop-again : tie.Need-loop-again Inv-loop μ-loop
-loop-again c = let P = xy (c .before .before .before .before .before .before .before .before .before .before .before .before .before .before .before .before .before .before .args .p .now) in
-    let w = c .before .before .before .before .before .before .before .before .before .before .before .before .before .before .loop .w in
-    let m = c .before .before .before .before .before .before .before .before .before .before .before .before .before .before .loop .m in
-    let hm : m ≤ c .before .before .before .before .before .before .before .before .before .before .before .before .before .before .before .before .before .before .args .n = omega arith in
+loop-again c =
+    let c4 = c .before .before .before .before in
+    let c10 = c4 .before .before .before .before .before .before in
+    let c13 = c10 .before .before .before in
+    let c14 = c13 .before in
+    let c18 = c14 .before .before .before .before in
+    let P = xy (c18 .args .p .now) in
+    let w = c14 .loop .w in
+    let m = c14 .loop .m in
+    let hm : m ≤ c18 .args .n = omega arith in
     let hw : m ≤ length w = omega arith in
     let e : length (take m w) ≡ m = length-take-le m w hw in
-    let o = searched-order P (c .before .before .before .before .before .before .before .before .before .before .before .before .before .before .before .before .before .before .args .n) w _ (c .before .before .before .before .before .before .before .before .before .before .first-ear .ensures .1) m hm in
-    let hi : c .before .before .before .before .before .before .before .before .before .before .first-ear .result < m = omega arith in (
+    let o = searched-order P (c18 .args .n) w _ (c10 .first-ear .ensures .1) m hm in
+    let hi : c10 .first-ear .result < m = omega arith in (
       omega arith,
-      c .before .before .before .before .cut .kept .0 ∙ (c .before .before .before .before .before .before .before .before .before .before .first-ear .kept .1 .0 ∙ c .before .before .before .before .before .before .before .before .before .before .before .before .before .before .loop .inv .1),
-      c .before .before .before .before .cut .kept .1 .1 .1 .1 .0 ∙ c .before .before .before .before .before .before .before .before .before .before .before .before .before .before .loop .inv .2,
-      clip-write P (c .before .before .before .before .before .before .before .before .before .before .before .before .before .before .before .before .before .before .args .rev) (c .before .before .before .before .before .before .before .before .before .before .before .before .before .before .loop .out) (c .before .before .before .before .before .before .before .before .before .before .before .before .before .before .loop .t) (c .before .before .before .before .before .before .before .before .before .before .before .before .before .before .loop .turns) (take m w) (c .before .before .before .before .before .before .before .before .before .before .first-ear .result) (take (m - 1) (c .before .before .before .before .cut .last .0)) (c .before .before .before .before .cut .last .1 .1 .1 .1 .0)
-          (omega arith) (omega arith) (c .before .before .before .before .before .before .before .before .before .before .before .before .before .loop-test .taken) (c .before .before .before .before .before .before .before .before .before .before .first-ear .ensures .0) (c .before .before .before .before .cut .ensures .0 .order ∙ ap (remove (c .before .before .before .before .before .before .before .before .before .before .first-ear .result)) o)
-          (c .before .before .before .before .cut .ensures .1 ∙ ap (λ (l : List ℕ). sets (c .before .before .before .before .before .before .before .before .before .before .before .before .before .before .loop .out) (c .before .before .before .before .before .before .before .before .before .before .before .before .before .before .loop .t * 3) (flat (turn (c .before .before .before .before .before .before .before .before .before .before .before .before .before .before .before .before .before .before .args .rev) (corner l (c .before .before .before .before .before .before .before .before .before .before .first-ear .result)) ∷ []))) o) ∙ c .before .before .before .before .before .before .before .before .before .before .before .before .before .before .loop .inv .3,
-      held-turn _ _ _ _ _ _ _ hi hm hw (c .before .before .before .before .before .before .before .before .before .before .before .before .before .before .loop .inv .4) (c .before .before .before .before .before .before .before .before .before .before .first-ear .ensures .1) (c .before .before .before .before .cut .ensures .0),
+      c4 .cut .kept .0 ∙ (c10 .first-ear .kept .1 .0 ∙ c14 .loop .inv .1),
+      c4 .cut .kept .1 .1 .1 .1 .0 ∙ c14 .loop .inv .2,
+      clip-write P (c18 .args .rev) (c14 .loop .out) (c14 .loop .t) (c14 .loop .turns) (take m w) (c10 .first-ear .result) (take (m - 1) (c4 .cut .last .0)) (c4 .cut .last .1 .1 .1 .1 .0)
+          (omega arith) (omega arith) (c13 .loop-test .taken) (c10 .first-ear .ensures .0) (c4 .cut .ensures .0 .order ∙ ap (remove (c10 .first-ear .result)) o)
+          (c4 .cut .ensures .1 ∙ ap (λ (l : List ℕ). sets (c14 .loop .out) (c14 .loop .t * 3) (flat (turn (c18 .args .rev) (corner l (c10 .first-ear .result)) ∷ []))) o) ∙ c14 .loop .inv .3,
+      held-turn _ _ _ _ _ _ _ hi hm hw (c14 .loop .inv .4) (c10 .first-ear .ensures .1) (c4 .cut .ensures .0),
     )
 
 slice-reshare-prefix-put-fan : tie.Need-slice-reshare-prefix-put-fan Inv-loop μ-loop
@@ -97,7 +103,10 @@ slice-aggregate-put-fan : tie.Need-slice-aggregate-put-fan Inv-loop μ-loop
 slice-aggregate-put-fan c = let h : c .before .before .loop .m ≤ length (c .before .loop-test .w) = omega (arith, w-length (c .before)) in sym (length-take-le (c .before .before .loop .m) (c .before .loop-test .w) h)
 
 put-fan-requires : tie.Need-put-fan-requires Inv-loop μ-loop
-put-fan-requires c κs = let h : c .before .before .before .loop .m ≤ length (c .before .before .loop-test .w) = omega (arith, w-length (c .before .before)) in let q : length (take (c .before .before .before .loop .m) (c .before .before .loop-test .w)) ≡ c .before .before .before .loop .m = length-take-le (c .before .before .before .loop .m) (c .before .before .loop-test .w) h in omega arith
+put-fan-requires c κs =
+    let c2 = c .before .before in
+    let c3 = c2 .before in
+    let h : c3 .loop .m ≤ length (c2 .loop-test .w) = omega (arith, w-length c2) in let q : length (take (c3 .loop .m) (c2 .loop-test .w)) ≡ c3 .loop .m = length-take-le (c3 .loop .m) (c2 .loop-test .w) h in omega arith
 
 same-length : tie.Need-same-length Inv-loop μ-loop
 same-length c = w-length (c .before .before .before .before .before)

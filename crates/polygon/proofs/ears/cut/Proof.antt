@@ -35,10 +35,16 @@ slice-relend-prefix-take-out : tie.Need-slice-relend-prefix-take-out
 slice-relend-prefix-take-out c = omega (arith, c .before .before .clear-flag .kept .0)
 
 slice-aggregate-take-out : tie.Need-slice-aggregate-take-out
-slice-aggregate-take-out c = let h : c .before .before .before .before .before .before .before .before .before .before .before .before .before .before .before .before .before .before .before .args .m ≤ length (c .before .before .before .clear-flag .last .0) = omega (arith, c .before .before .before .clear-flag .kept .0) in sym (length-take-le (c .before .before .before .before .before .before .before .before .before .before .before .before .before .before .before .before .before .before .before .args .m) (c .before .before .before .clear-flag .last .0) h)
+slice-aggregate-take-out c =
+    let c3 = c .before .before .before in
+    let c19 = c3 .before .before .before .before .before .before .before .before .before .before .before .before .before .before .before .before in
+    let h : c19 .args .m ≤ length (c3 .clear-flag .last .0) = omega (arith, c3 .clear-flag .kept .0) in sym (length-take-le (c19 .args .m) (c3 .clear-flag .last .0) h)
 
 take-out-requires : tie.Need-take-out-requires
-take-out-requires c κs = let h : c .before .before .before .before .before .before .before .before .before .before .before .before .before .before .before .before .before .before .before .args .m ≤ length (c .before .before .before .clear-flag .last .0) = omega (arith, c .before .before .before .clear-flag .kept .0) in let e : length (take (c .before .before .before .before .before .before .before .before .before .before .before .before .before .before .before .before .before .before .before .args .m) (c .before .before .before .clear-flag .last .0)) ≡ c .before .before .before .before .before .before .before .before .before .before .before .before .before .before .before .before .before .before .before .args .m = length-take-le (c .before .before .before .before .before .before .before .before .before .before .before .before .before .before .before .before .before .before .before .args .m) (c .before .before .before .clear-flag .last .0) h in omega arith
+take-out-requires c κs =
+    let c3 = c .before .before .before in
+    let c19 = c3 .before .before .before .before .before .before .before .before .before .before .before .before .before .before .before .before in
+    let h : c19 .args .m ≤ length (c3 .clear-flag .last .0) = omega (arith, c3 .clear-flag .kept .0) in let e : length (take (c19 .args .m) (c3 .clear-flag .last .0)) ≡ c19 .args .m = length-take-le (c19 .args .m) (c3 .clear-flag .last .0) h in omega arith
 
 same-length : tie.Need-same-length
 same-length c = search needs
@@ -47,10 +53,18 @@ same-length-2 : tie.Need-same-length-2
 same-length-2 c = search needs
 
 returns : tie.Need-returns
-returns c = let h : c .before .before .before .before .before .before .before .before .before .before .before .before .before .before .before .before .before .before .before .before .before .before .args .m ≤ length (c .before .before .before .before .before .before .clear-flag .last .0) = omega (arith, c .before .before .before .before .before .before .clear-flag .kept .0) in
-    let f : c .before .before .before .before .before .before .before .before .before .before .before .before .before .before .before .before .before .before .before .before .before .before .args .m ≤ length (c .before .before .before .before .before .before .before .before .before .before .before .before .before .before .before .before .before .before .before .before .before .before .args .w .now) = omega arith in (
-      gone-by _ _ _ _ _ _ _ (c .before .before .before .before .before .before .before .before .before .before .before .before .before .before .before .before .before .before .before .before .before .before .pre .0) (c .before .before .before .before .before .before .before .before .before .before .before .before .before .before .before .before .before .before .before .before .before .before .pre .1) h (c .before .before .before .before .before .before .before .before .before .before .before .before .before .before .before .get2 .ensures) (c .before .before .before .before .before .before .clear-flag .ensures) (c .before .before .take-out .ensures) (c .before .before .take-out .kept .0),
-      c .before .before .before .before .before .before .before .before .before .before .put-tri .ensures ∙ ap (λ (q : Tri). sets (c .before .before .before .before .before .before .before .before .before .before .before .before .before .before .before .before .before .before .before .before .before .before .args .out .now) (c .before .before .before .before .before .before .before .before .before .before .before .before .before .before .before .before .before .before .before .before .before .before .args .t * 3) (flat (turn (c .before .before .before .before .before .before .before .before .before .before .before .before .before .before .before .before .before .before .before .before .before .before .args .rev) q ∷ []))) (corner-in _ _ _ f (c .before .before .before .before .before .before .before .before .before .before .before .before .before .before .before .before .before .before .before .before .before .before .pre .0) _ _ _ _ _ (c .before .before .before .before .before .before .before .before .before .before .before .before .before .before .before .before .before .before .place-before .ensures) (c .before .before .before .before .before .before .before .before .before .before .before .before .before .before .before .before .before .get .ensures) (c .before .before .before .before .before .before .before .before .before .before .before .before .before .before .before .get2 .ensures) (c .before .before .before .before .before .before .before .before .before .before .before .before .before .place-after .ensures) (c .before .before .before .before .before .before .before .before .before .before .before .before .get3 .ensures)),
+returns c =
+    let c2 = c .before .before in
+    let c6 = c2 .before .before .before .before in
+    let c10 = c6 .before .before .before .before in
+    let c12 = c10 .before .before in
+    let c15 = c12 .before .before .before in
+    let c17 = c15 .before .before in
+    let c22 = c17 .before .before .before .before .before in
+    let h : c22 .args .m ≤ length (c6 .clear-flag .last .0) = omega (arith, c6 .clear-flag .kept .0) in
+    let f : c22 .args .m ≤ length (c22 .args .w .now) = omega arith in (
+      gone-by _ _ _ _ _ _ _ (c22 .pre .0) (c22 .pre .1) h (c15 .get2 .ensures) (c6 .clear-flag .ensures) (c2 .take-out .ensures) (c2 .take-out .kept .0),
+      c10 .put-tri .ensures ∙ ap (λ (q : Tri). sets (c22 .args .out .now) (c22 .args .t * 3) (flat (turn (c22 .args .rev) q ∷ []))) (corner-in _ _ _ f (c22 .pre .0) _ _ _ _ _ (c17 .before .place-before .ensures) (c17 .get .ensures) (c15 .get2 .ensures) (c12 .before .place-after .ensures) (c12 .get3 .ensures)),
     )
 
 pub cut-spec : {M : Type 1} → statement M

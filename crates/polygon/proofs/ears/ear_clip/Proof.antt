@@ -17,7 +17,10 @@ start-requires : tie.Need-start-requires
 start-requires c κs = search needs
 
 clip-all-requires : tie.Need-clip-all-requires
-clip-all-requires c κs = let h : c .before .before .before .before .before .before .before .before .before .before .args .n * 2 ≤ length (c .before .before .before .before .start .last .0) = omega (arith, c .before .before .before .before .start .kept .0) in (c .before .before .before .before .before .before .before .before .before .before .pre .0, h, held-start _ _ _ _ h (c .before .before .before .before .start .ensures))
+clip-all-requires c κs =
+    let c4 = c .before .before .before .before in
+    let c10 = c4 .before .before .before .before .before .before in
+    let h : c10 .args .n * 2 ≤ length (c4 .start .last .0) = omega (arith, c4 .start .kept .0) in (c10 .pre .0, h, held-start _ _ _ _ h (c4 .start .ensures))
 
 same-length : tie.Need-same-length
 same-length c = search needs

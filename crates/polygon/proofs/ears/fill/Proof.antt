@@ -27,7 +27,10 @@ loop-less : tie.Need-loop-less Inv-loop μ-loop
 loop-less c = search needs
 
 loop-again : tie.Need-loop-again Inv-loop μ-loop
-loop-again c = (omega arith, c .before .before .put .kept .0 ∙ c .before .before .before .before .before .loop .inv .1, full-go (c .before .before .before .before .before .before .before .args .v) (c .before .before .before .before .before .loop .i) (c .before .before .before .before .before .loop .s) (c .before .before .put .last .0) (c .before .before .before .before .before .loop .inv .2) (omega arith) (c .before .before .put .ensures))
+loop-again c =
+    let c2 = c .before .before in
+    let c5 = c2 .before .before .before in
+    (omega arith, c2 .put .kept .0 ∙ c5 .loop .inv .1, full-go (c5 .before .before .args .v) (c5 .loop .i) (c5 .loop .s) (c2 .put .last .0) (c5 .loop .inv .2) (omega arith) (c2 .put .ensures))
 
 same-length : tie.Need-same-length Inv-loop μ-loop
 same-length c = c .before .loop .inv .1

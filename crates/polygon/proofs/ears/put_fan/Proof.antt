@@ -48,7 +48,13 @@ loop-less : tie.Need-loop-less Inv-loop μ-loop
 loop-less c = omega arith
 
 loop-again : tie.Need-loop-again Inv-loop μ-loop
-loop-again c = (omega arith, omega arith, omega arith, c .before .before .put-tri .kept .0 ∙ c .before .before .before .before .before .before .before .loop .inv .3, rw (c .before .before .put-tri .ensures, c .before .before .before .before .before .before .before .before .get .ensures, c .before .before .before .before .get2 .ensures, c .before .before .before .get3 .ensures) (fan-write (c .before .before .before .before .before .before .before .before .before .before .before .args .rev) (c .before .before .before .before .before .before .before .loop .out) (c .before .before .before .before .before .before .before .loop .at) (c .before .before .before .before .before .before .before .before .before .before .before .args .idx .now) (c .before .before .before .before .before .before .before .loop .k) (c .before .before .before .before .before .before .loop-test .taken) ∙ c .before .before .before .before .before .before .before .loop .inv .4))
+loop-again c =
+    let c2 = c .before .before in
+    let c3 = c2 .before in
+    let c6 = c3 .before .before .before in
+    let c7 = c6 .before in
+    let c11 = c7 .before .before .before .before in
+    (omega arith, omega arith, omega arith, c2 .put-tri .kept .0 ∙ c7 .loop .inv .3, rw (c2 .put-tri .ensures, c7 .before .get .ensures, c3 .before .get2 .ensures, c3 .get3 .ensures) (fan-write (c11 .args .rev) (c7 .loop .out) (c7 .loop .at) (c11 .args .idx .now) (c7 .loop .k) (c6 .loop-test .taken) ∙ c7 .loop .inv .4))
 
 same-length : tie.Need-same-length Inv-loop μ-loop
 same-length c = c .before .loop .inv .3

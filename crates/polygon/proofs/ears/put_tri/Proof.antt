@@ -53,14 +53,20 @@ same-length c = search needs
 
 returns : tie.Need-returns
 unfolding flat turn
-returns c = rw (c .before .before .before .before .before .before .before .before .if1 .taken) (cc (add-one (c .before .before .before .before .before .before .before .before .before .before .before .before .before .before .args .t * 3), add-two (c .before .before .before .before .before .before .before .before .before .before .before .before .before .before .args .t * 3)))
+returns c =
+    let c8 = c .before .before .before .before .before .before .before .before in
+    let c14 = c8 .before .before .before .before .before .before in
+    rw (c8 .if1 .taken) (cc (add-one (c14 .args .t * 3), add-two (c14 .args .t * 3)))
 
 same-length-2 : tie.Need-same-length-2
 same-length-2 c = search needs
 
 returns-2 : tie.Need-returns-2
 unfolding flat turn
-returns-2 c = rw (c .before .before .before .before .before .before .before .before .if1 .left) (cc (add-one (c .before .before .before .before .before .before .before .before .before .before .before .before .before .before .args .t * 3), add-two (c .before .before .before .before .before .before .before .before .before .before .before .before .before .before .args .t * 3)))
+returns-2 c =
+    let c8 = c .before .before .before .before .before .before .before .before in
+    let c14 = c8 .before .before .before .before .before .before in
+    rw (c8 .if1 .left) (cc (add-one (c14 .args .t * 3), add-two (c14 .args .t * 3)))
 
 pub put-tri-spec : {M : Type 1} → statement M
 put-tri-spec =

@@ -37,7 +37,10 @@ loop-less : tie.Need-loop-less Inv-loop μ-loop
 loop-less c = omega arith
 
 loop-again : tie.Need-loop-again Inv-loop μ-loop
-loop-again c = (omega arith, c .before .before .put .kept .0 ∙ c .before .before .before .before .before .before .loop .inv .1, rw (c .before .before .put .ensures, c .before .before .before .place-of .ensures) (sym (tab-go _ _ _ _ (c .before .before .before .before .before .loop-test .taken)) ∙ c .before .before .before .before .before .before .loop .inv .2))
+loop-again c =
+    let c2 = c .before .before in
+    let c5 = c2 .before .before .before in
+    (omega arith, c2 .put .kept .0 ∙ c5 .before .loop .inv .1, rw (c2 .put .ensures, c2 .before .place-of .ensures) (sym (tab-go _ _ _ _ (c5 .loop-test .taken)) ∙ c5 .before .loop .inv .2))
 
 same-length : tie.Need-same-length Inv-loop μ-loop
 same-length c = c .before .loop .inv .1

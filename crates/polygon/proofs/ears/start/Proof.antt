@@ -48,11 +48,16 @@ same-length : tie.Need-same-length
 same-length c = search needs
 
 returns : tie.Need-returns
-returns c = let n = c .before .before .before .before .before .before .before .before .before .before .before .before .before .args .n in
-    let w = c .before .before .before .before .before .before .before .before .before .before .set-order .last .0 in
-    let ones = c .before .before .before .before .before .before .fill .last .0 in
-    let h : n * 2 ≤ length w = omega (arith, c .before .before .before .before .before .before .before .before .before .before .set-order .kept .0) in
-    fresh-start n (c .before .before .before .before .before .before .before .before .before .before .before .before .before .args .rev) w ones (c .before .before .fill2 .last .0) h (c .before .before .before .before .before .before .before .before .before .before .set-order .ensures) (n * 2) refl (c .before .before .before .before .before .before .fill .kept .0) (c .before .before .before .before .before .before .fill .ensures) (putMid n (n * 2 - n) w ones) refl (same-len-mid n (n * 2 - n) w ones (c .before .before .before .before .before .before .fill .kept .0)) (c .before .before .fill2 .kept .0) (c .before .before .fill2 .ensures)
+returns c =
+    let c2 = c .before .before in
+    let c6 = c2 .before .before .before .before in
+    let c10 = c6 .before .before .before .before in
+    let c13 = c10 .before .before .before in
+    let n = c13 .args .n in
+    let w = c10 .set-order .last .0 in
+    let ones = c6 .fill .last .0 in
+    let h : n * 2 ≤ length w = omega (arith, c10 .set-order .kept .0) in
+    fresh-start n (c13 .args .rev) w ones (c2 .fill2 .last .0) h (c10 .set-order .ensures) (n * 2) refl (c6 .fill .kept .0) (c6 .fill .ensures) (putMid n (n * 2 - n) w ones) refl (same-len-mid n (n * 2 - n) w ones (c6 .fill .kept .0)) (c2 .fill2 .kept .0) (c2 .fill2 .ensures)
 
 pub start-spec : {M : Type 1} → statement M
 start-spec =

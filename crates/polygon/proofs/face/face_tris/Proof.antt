@@ -60,7 +60,9 @@ slice-aggregate-ear-clip c =
     sym (length-take-le (c7 .args .n * 5) (c7 .args .scratch .now) (c7 .pre .2))
 
 ear-clip-requires : tie.Need-ear-clip-requires
-ear-clip-requires c κs = let e : length (take (c .before .before .before .before .before .before .before .before .args .n * 5) (c .before .before .before .before .before .before .before .before .args .scratch .now)) ≡ c .before .before .before .before .before .before .before .before .args .n * 5 = length-take-le (c .before .before .before .before .before .before .before .before .args .n * 5) (c .before .before .before .before .before .before .before .before .args .scratch .now) (c .before .before .before .before .before .before .before .before .pre .2) in (c .before .before .before .before .before .before .before .before .pre .0, omega arith)
+ear-clip-requires c κs =
+    let c8 = c .before .before .before .before .before .before .before .before in
+    let e : length (take (c8 .args .n * 5) (c8 .args .scratch .now)) ≡ c8 .args .n * 5 = length-take-le (c8 .args .n * 5) (c8 .args .scratch .now) (c8 .pre .2) in (c8 .pre .0, omega arith)
 
 same-length-4 : tie.Need-same-length-4
 same-length-4 c = search needs

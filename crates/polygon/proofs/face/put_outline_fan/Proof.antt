@@ -43,7 +43,10 @@ loop-less : tie.Need-loop-less Inv-loop μ-loop
 loop-less c = search needs
 
 loop-again : tie.Need-loop-again Inv-loop μ-loop
-loop-again c = (omega arith, c .before .before .put-tri .kept .0 ∙ c .before .before .before .before .before .loop .inv .1, outline-go _ _ _ _ (c .before .before .before .before .loop-test .taken) (c .before .before .put-tri .ensures) ∙ c .before .before .before .before .before .loop .inv .2)
+loop-again c =
+    let c2 = c .before .before in
+    let c4 = c2 .before .before in
+    (omega arith, c2 .put-tri .kept .0 ∙ c4 .before .loop .inv .1, outline-go _ _ _ _ (c4 .loop-test .taken) (c2 .put-tri .ensures) ∙ c4 .before .loop .inv .2)
 
 same-length : tie.Need-same-length Inv-loop μ-loop
 same-length c = c .before .loop .inv .1

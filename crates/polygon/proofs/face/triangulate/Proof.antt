@@ -43,7 +43,10 @@ same-length-2 : tie.Need-same-length-2
 same-length-2 c = search needs
 
 returns : tie.Need-returns
-returns c = tail-sets (flat (faceTris (c .before .before .before .before .before .before .before .before .before .before .before .args .convex) (pairs (take (c .before .before .before .before .before .before .before .before .before .before .before .args .n * 2) (c .before .before .before .before .before .before .before .before .before .before .before .args .plane .now))))) (c .before .before .before .before .before .before .before .before .before .before .before .args .out .now) (c .before .before .before .before .face-tris .last .1 .1 .1 .1 .0) (c .before .before .before .before .before .before .before .before .before .before .before .args .at) (omega arith) (c .before .before .before .before .face-tris .ensures)
+returns c =
+    let c4 = c .before .before .before .before in
+    let c11 = c4 .before .before .before .before .before .before .before in
+    tail-sets (flat (faceTris (c11 .args .convex) (pairs (take (c11 .args .n * 2) (c11 .args .plane .now))))) (c11 .args .out .now) (c4 .face-tris .last .1 .1 .1 .1 .0) (c11 .args .at) (omega arith) (c4 .face-tris .ensures)
 
 pub triangulate-spec : {M : Type 1} → statement M
 triangulate-spec =

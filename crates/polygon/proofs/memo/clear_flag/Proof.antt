@@ -25,7 +25,9 @@ returns c =
     (flag-order _ _ _ _ _ (c4 .if1 .taken) (c2 .put .ensures), flag-set _ _ _ _ _ (c4 .if1 .taken) (c2 .put .ensures), flag-kept _ _ _ _ _ (c4 .if1 .taken) (c2 .put .ensures))
 
 returns-2 : tie.Need-returns-2
-returns-2 c = let h : length (flags (c .before .before .args .n) (c .before .before .args .w .now)) ≤ c .before .before .args .b = omega (arith, length-flags-le (c .before .before .args .n) (c .before .before .args .w .now)) in (refl, sym (set-out _ _ _ h), refl)
+returns-2 c =
+    let c2 = c .before .before in
+    let h : length (flags (c2 .args .n) (c2 .args .w .now)) ≤ c2 .args .b = omega (arith, length-flags-le (c2 .args .n) (c2 .args .w .now)) in (refl, sym (set-out _ _ _ h), refl)
 
 pub clear-flag-spec : {M : Type 1} → statement M
 clear-flag-spec = tie.close (tie.spec add-put put-requires same-length returns returns-2)

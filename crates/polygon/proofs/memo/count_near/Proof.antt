@@ -43,11 +43,14 @@ loop-less : tie.Need-loop-less Inv-loop μ-loop
 loop-less c = omega arith
 
 loop-again : tie.Need-loop-again Inv-loop μ-loop
-loop-again c = (
-  omega (arith, one-small (c .one-if .result) (c .before .is-near .result) (c .one-if .ensures)),
-  count-step (hits (c .before .before .before .before .before .before .before .before .args .left .now) (λ i. inWay (dotOf (xy (c .before .before .before .before .before .before .before .before .args .p .now)) i) (c .before .before .before .before .before .before .before .before .args .a) (c .before .before .before .before .before .before .before .before .args .b) (c .before .before .before .before .before .before .before .before .args .c))) _ _ _ _ (c .before .is-near .result) (c .before .before .before .before .before .loop .inv .1) (c .one-if .ensures)
-      (λ e. not-in-way _ _ _ _ _ _ _ _ refl (c .before .before .dot-in .ensures) (sym (c .before .is-near .ensures) ∙ e)),
-)
+loop-again c =
+    let c1 = c .before in
+    let c5 = c1 .before .before .before .before in
+    let c8 = c5 .before .before .before in (
+      omega (arith, one-small (c .one-if .result) (c1 .is-near .result) (c .one-if .ensures)),
+      count-step (hits (c8 .args .left .now) (λ i. inWay (dotOf (xy (c8 .args .p .now)) i) (c8 .args .a) (c8 .args .b) (c8 .args .c))) _ _ _ _ (c1 .is-near .result) (c5 .loop .inv .1) (c .one-if .ensures)
+          (λ e. not-in-way _ _ _ _ _ _ _ _ refl (c1 .before .dot-in .ensures) (sym (c1 .is-near .ensures) ∙ e)),
+    )
 
 returns : tie.Need-returns Inv-loop μ-loop
 returns c = λ z j l b. c .before .loop .inv .1 z j l (omega arith)

@@ -26,7 +26,10 @@ returns-2 c =
     decide-new _ _ _ (c10 .pre .1) (c10 .pre .3) _ _ _ _ (sym (c4 .before .is-bent .ensures) ∙ c4 .if3 .taken) (c2 .store .ensures)
 
 search-requires : tie.Need-search-requires
-search-requires c κs = (c .before .before .before .before .before .before .before .pre .0, c .before .before .before .before .before .before .before .pre .1, omega arith, sym (c .before .before .is-bent .ensures) ∙ c .before .if3 .left, (λ (j : ℕ) (h : j < 0). let z : ⊥ = omega arith in absurd z), c .before .before .before .before .before .before .before .pre .3)
+search-requires c κs =
+    let c2 = c .before .before in
+    let c7 = c2 .before .before .before .before .before in
+    (c7 .pre .0, c7 .pre .1, omega arith, sym (c2 .is-bent .ensures) ∙ c .before .if3 .left, (λ (j : ℕ) (h : j < 0). let z : ⊥ = omega arith in absurd z), c7 .pre .3)
 
 same-length-2 : tie.Need-same-length-2
 same-length-2 c = search needs
@@ -47,13 +50,18 @@ same-length-3 : tie.Need-same-length-3
 same-length-3 c = search needs
 
 returns-4 : tie.Need-returns-4
-returns-4 c = let h : 1 < c .before .before .before .before .before .before .before .args .s = omega arith in decide-blocked _ _ _ (c .before .before .before .before .before .before .before .pre .1) (c .before .before .before .before .before .before .before .pre .3) _ _ _ _ _ (c .before .before .before .before .before .before .before .pre .2) h (c .before .get .ensures) (c .if4 .taken)
+returns-4 c =
+    let c7 = c .before .before .before .before .before .before .before in
+    let h : 1 < c7 .args .s = omega arith in decide-blocked _ _ _ (c7 .pre .1) (c7 .pre .3) _ _ _ _ _ (c7 .pre .2) h (c .before .get .ensures) (c .if4 .taken)
 
 sub-search : tie.Need-sub-search
 sub-search c = search needs
 
 search-requires-2 : tie.Need-search-requires-2
-search-requires-2 c κs = let h : 1 < c .before .before .before .before .before .before .before .before .args .s = omega arith in (c .before .before .before .before .before .before .before .before .pre .0, c .before .before .before .before .before .before .before .before .pre .1, decide-from _ _ _ (c .before .before .before .before .before .before .before .before .pre .1) (c .before .before .before .before .before .before .before .before .pre .3) _ _ _ _ _ (c .before .before .before .before .before .before .before .before .pre .2) h (c .before .before .get .ensures), c .before .before .before .before .before .before .before .before .pre .2 .round h, decide-on _ _ _ (c .before .before .before .before .before .before .before .before .pre .1) (c .before .before .before .before .before .before .before .before .pre .3) _ _ _ _ _ (c .before .before .before .before .before .before .before .before .pre .2) h (c .before .before .get .ensures) (c .before .if4 .left), c .before .before .before .before .before .before .before .before .pre .3)
+search-requires-2 c κs =
+    let c2 = c .before .before in
+    let c8 = c2 .before .before .before .before .before .before in
+    let h : 1 < c8 .args .s = omega arith in (c8 .pre .0, c8 .pre .1, decide-from _ _ _ (c8 .pre .1) (c8 .pre .3) _ _ _ _ _ (c8 .pre .2) h (c2 .get .ensures), c8 .pre .2 .round h, decide-on _ _ _ (c8 .pre .1) (c8 .pre .3) _ _ _ _ _ (c8 .pre .2) h (c2 .get .ensures) (c .before .if4 .left), c8 .pre .3)
 
 same-length-4 : tie.Need-same-length-4
 same-length-4 c = search needs

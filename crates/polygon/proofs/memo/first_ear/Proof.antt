@@ -22,10 +22,15 @@ abbrev μ-loop : tie.MeasureT-loop
 
 loop-holds : tie.Need-loop-holds Inv-loop μ-loop
 unfolding firstEar
-loop-holds c = let h : c .before .before .args .m ≤ length (c .before .before .args .w .now) = omega arith in (omega arith, rw (sub-zero, length-take-le (c .before .before .args .m) (c .before .before .args .w .now) h), refl, as-was _ _ _ (c .before .before .pre .4))
+loop-holds c =
+    let c2 = c .before .before in
+    let h : c2 .args .m ≤ length (c2 .args .w .now) = omega arith in (omega arith, rw (sub-zero, length-take-le (c2 .args .m) (c2 .args .w .now) h), refl, as-was _ _ _ (c2 .pre .4))
 
 is-ear-requires : tie.Need-is-ear-requires Inv-loop μ-loop
-is-ear-requires c κs = let S = c .before .before .loop .inv .3 in (c .before .loop-test .taken, c .before .before .before .before .before .pre .0, c .before .before .before .before .before .pre .1, omega arith, searched-tells _ _ _ _ S _ (c .before .before .before .before .before .pre .0) (c .before .before .before .before .before .pre .3), searched-sound _ _ _ _ S)
+is-ear-requires c κs =
+    let c2 = c .before .before in
+    let c5 = c2 .before .before .before in
+    let S = c2 .loop .inv .3 in (c .before .loop-test .taken, c5 .pre .0, c5 .pre .1, omega arith, searched-tells _ _ _ _ S _ (c5 .pre .0) (c5 .pre .3), searched-sound _ _ _ _ S)
 
 same-length : tie.Need-same-length Inv-loop μ-loop
 same-length c = c .before .before .before .is-ear .kept .1 .0 ∙ c .before .before .before .before .before .before .loop .inv .2
@@ -44,7 +49,11 @@ loop-less : tie.Need-loop-less Inv-loop μ-loop
 loop-less c = search needs
 
 loop-again : tie.Need-loop-again Inv-loop μ-loop
-loop-again c = let S = c .before .before .before .before .before .before .loop .inv .3 in (omega arith, sym (first-go _ _ _ (c .before .before .before .before .before .loop-test .taken) (searched-ear _ _ _ _ S _ (c .before .before .before .before .before .before .before .before .before .pre .0) _ _ (c .before .before .before .is-ear .ensures .0) ∙ c .if1 .left)) ∙ c .before .before .before .before .before .before .loop .inv .1, c .before .before .before .is-ear .kept .1 .0 ∙ c .before .before .before .before .before .before .loop .inv .2, searched-then _ _ _ _ S _ (c .before .before .before .is-ear .ensures .1))
+loop-again c =
+    let c3 = c .before .before .before in
+    let c5 = c3 .before .before in
+    let c6 = c5 .before in
+    let S = c6 .loop .inv .3 in (omega arith, sym (first-go _ _ _ (c5 .loop-test .taken) (searched-ear _ _ _ _ S _ (c6 .before .before .before .pre .0) _ _ (c3 .is-ear .ensures .0) ∙ c .if1 .left)) ∙ c6 .loop .inv .1, c3 .is-ear .kept .1 .0 ∙ c6 .loop .inv .2, searched-then _ _ _ _ S _ (c3 .is-ear .ensures .1))
 
 same-length-2 : tie.Need-same-length-2 Inv-loop μ-loop
 same-length-2 c = c .before .loop .inv .2

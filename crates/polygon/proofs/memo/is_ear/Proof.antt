@@ -33,7 +33,13 @@ same-length : tie.Need-same-length
 same-length c = search needs
 
 returns : tie.Need-returns
-returns c = (c .before .before .decide .ensures .0 ∙ ear-in (c .before .before .before .before .before .before .before .before .before .before .before .before .before .before .before .before .args .w .now) (c .before .before .before .before .before .before .before .before .before .before .before .before .before .before .before .before .args .m) _ (omega arith) (c .before .before .before .before .before .before .before .before .before .before .before .before .before .before .before .before .pre .0) _ _ _ _ _ _ _ (c .before .before .before .before .before .before .before .before .before .before .before .before .place-before .ensures) (c .before .before .before .before .before .before .before .before .before .before .before .get .ensures) (c .before .before .before .before .before .before .before .before .before .get2 .ensures) (c .before .before .before .before .before .before .before .place-after .ensures) (c .before .before .before .before .before .before .get3 .ensures) (c .before .before .before .before .before .before .before .before .before .before .before .before .before .before .before .before .pre .4), c .before .before .decide .ensures .1)
+returns c =
+    let c2 = c .before .before in
+    let c6 = c2 .before .before .before .before in
+    let c9 = c6 .before .before .before in
+    let c11 = c9 .before .before in
+    let c16 = c11 .before .before .before .before .before in
+    (c2 .decide .ensures .0 ∙ ear-in (c16 .args .w .now) (c16 .args .m) _ (omega arith) (c16 .pre .0) _ _ _ _ _ _ _ (c11 .before .place-before .ensures) (c11 .get .ensures) (c9 .get2 .ensures) (c6 .before .place-after .ensures) (c6 .get3 .ensures) (c16 .pre .4), c2 .decide .ensures .1)
 
 pub is-ear-spec : {M : Type 1} → statement M
 is-ear-spec =

@@ -12,7 +12,8 @@ count-near-requires c κs = omega arith
 
 returns : tie.Need-returns
 returns c =
-    none-to (hits (c .before .before .before .before .before .args .left .now) (λ i. inWay (dotOf (xy (c .before .before .before .before .before .args .p .now)) i) (c .before .before .before .before .before .args .a) (c .before .before .before .before .before .args .b) (c .before .before .before .before .before .args .c))) (c .before .before .before .before .before .args .from) (c .before .before .before .before .before .args .to) (omega arith)
+    let c5 = c .before .before .before .before .before in
+    none-to (hits (c5 .args .left .now) (λ i. inWay (dotOf (xy (c5 .args .p .now)) i) (c5 .args .a) (c5 .args .b) (c5 .args .c))) (c5 .args .from) (c5 .args .to) (omega arith)
     (c .before .count-near .ensures (c .if2 .taken))
 
 scan-requires : tie.Need-scan-requires

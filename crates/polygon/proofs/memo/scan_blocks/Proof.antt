@@ -29,18 +29,22 @@ scan-block-requires c κs = omega arith
 
 returns : tie.Need-returns Inv-loop μ-loop
 returns c =
-    let up : c .before .before .before .before .loop .k ≤ c .before .before .block-end .result = omega arith in
-    let within : c .before .before .block-end .result ≤ length (c .before .before .before .before .before .before .before .args .left .now) = omega arith in
-    block-hit _ _ _ _ _ up within (c .before .scan-block .ensures) (c .if1 .taken) ∙ c .before .before .before .before .loop .inv
+    let c2 = c .before .before in
+    let c4 = c2 .before .before in
+    let up : c4 .loop .k ≤ c2 .block-end .result = omega arith in
+    let within : c2 .block-end .result ≤ length (c4 .before .before .before .args .left .now) = omega arith in
+    block-hit _ _ _ _ _ up within (c .before .scan-block .ensures) (c .if1 .taken) ∙ c4 .loop .inv
 
 loop-less : tie.Need-loop-less Inv-loop μ-loop
 loop-less c = omega arith
 
 loop-again : tie.Need-loop-again Inv-loop μ-loop
 loop-again c =
-    let up : c .before .before .before .before .loop .k ≤ c .before .before .block-end .result = omega arith in
-    let within : c .before .before .block-end .result ≤ length (c .before .before .before .before .before .before .before .args .left .now) = omega arith in
-    sym (block-past _ _ _ _ _ up within (c .before .scan-block .ensures) (c .if1 .left)) ∙ c .before .before .before .before .loop .inv
+    let c2 = c .before .before in
+    let c4 = c2 .before .before in
+    let up : c4 .loop .k ≤ c2 .block-end .result = omega arith in
+    let within : c2 .block-end .result ≤ length (c4 .before .before .before .args .left .now) = omega arith in
+    sym (block-past _ _ _ _ _ up within (c .before .scan-block .ensures) (c .if1 .left)) ∙ c4 .loop .inv
 
 returns-2 : tie.Need-returns-2 Inv-loop μ-loop
 returns-2 c = sym (first-end _ _ _ (c .loop-test .left)) ∙ c .before .loop .inv

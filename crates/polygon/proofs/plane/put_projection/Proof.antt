@@ -44,7 +44,11 @@ loop-less : tie.Need-loop-less Inv-loop μ-loop
 loop-less c = search needs
 
 loop-again : tie.Need-loop-again Inv-loop μ-loop
-loop-again c = (search needs, c .before .before .put-projected .kept .0 ∙ c .before .before .before .before .before .before .before .before .loop .inv .1, rw (c .before .before .put-projected .ensures, c .before .before .before .before .spot .ensures, c .before .before .before .before .before .point-number .ensures .0) (projected-go _ _ _ _ _ (c .before .before .before .before .before .before .before .loop-test .taken) ∙ c .before .before .before .before .before .before .before .before .loop .inv .2))
+loop-again c =
+    let c2 = c .before .before in
+    let c4 = c2 .before .before in
+    let c7 = c4 .before .before .before in
+    (search needs, c2 .put-projected .kept .0 ∙ c7 .before .loop .inv .1, rw (c2 .put-projected .ensures, c4 .spot .ensures, c4 .before .point-number .ensures .0) (projected-go _ _ _ _ _ (c7 .loop-test .taken) ∙ c7 .before .loop .inv .2))
 
 same-length : tie.Need-same-length Inv-loop μ-loop
 same-length c = c .before .loop .inv .1

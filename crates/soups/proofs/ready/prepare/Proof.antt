@@ -14,7 +14,10 @@ generate-where-requires : tie.Need-generate-where-requires
 generate-where-requires c κs = search needs
 
 spread-numbers-requires : tie.Need-spread-numbers-requires
-spread-numbers-requires c κs = let R = c .before .before .before .before .before .before .before .before .before .before .pre .0 .room in sound-kept (c .before .before .before .before .before .generate-where .ensures .0) (c .before .before .before .before .before .before .before .before .before .before .args .t) (omega (arith, R)) (c .before .before .before .before .before .before .before .before .before .before .pre .0)
+spread-numbers-requires c κs =
+    let c5 = c .before .before .before .before .before in
+    let c10 = c5 .before .before .before .before .before in
+    let R = c10 .pre .0 .room in sound-kept (c5 .generate-where .ensures .0) (c10 .args .t) (omega (arith, R)) (c10 .pre .0)
 
 same-length : tie.Need-same-length
 same-length c = search needs
@@ -23,7 +26,10 @@ same-length-2 : tie.Need-same-length-2
 same-length-2 c = search needs
 
 returns : tie.Need-returns
-returns c = let R = c .before .before .before .before .before .before .before .before .before .before .before .before .before .pre .0 .room in let K = c .before .before .before .before .before .before .before .before .generate-where .ensures .0 in let S = c .before .before .spread-numbers .ensures in record { kept = kept-then K (S .0) (omega arith); numbers = spread-from K R (S .1); normals = c .before .before .before .before .before .before .before .before .generate-where .ensures .1 }
+returns c =
+    let c2 = c .before .before in
+    let c8 = c2 .before .before .before .before .before .before in
+    let R = c8 .before .before .before .before .before .pre .0 .room in let K = c8 .generate-where .ensures .0 in let S = c2 .spread-numbers .ensures in record { kept = kept-then K (S .0) (omega arith); numbers = spread-from K R (S .1); normals = c8 .generate-where .ensures .1 }
 
 pub prepare-spec : {M : Type 1} → statement M
 prepare-spec =

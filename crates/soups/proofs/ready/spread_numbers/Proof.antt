@@ -53,13 +53,17 @@ loop-less c = search needs
 loop-again : tie.Need-loop-again Inv-loop μ-loop
 unfolding numberIn
 loop-again c =
-    let I = c .before .before .before .before .before .before .before .before .before .before .before .before .before .loop .inv in
-    let t = c .before .before .before .before .before .before .before .before .before .before .before .before .before .before .before .args .t in
-    let S = c .before .before .before .before .before .before .before .before .before .before .before .before .before .before .before .pre in
+    let c2 = c .before .before in
+    let c9 = c2 .before .before .before .before .before .before .before in
+    let c11 = c9 .before .before in
+    let c13 = c11 .before .before in
+    let I = c13 .loop .inv in
+    let t = c13 .before .before .args .t in
+    let S = c13 .before .before .pre in
     let R = S .room in
-    let E = c .before .before .before .before .before .before .before .before .before .stretch-of .ensures in
-    let k = spread-next _ _ _ _ S (I .1) (I .3) (c .before .before .before .before .before .before .before .before .before .before .before .if1 .taken) (E .from) (E .to) (c .before .before .fill .ensures .kept) (c .before .before .fill .ensures .words) (number-kept (I .1) t (c .before .before .before .before .before .before .before .before .before .before .before .before .before .loop .g) (omega (arith, R .numbers, c .before .before .before .before .before .before .before .before .before .before .before .if1 .taken))) in
-    (omega (arith, c .before .before .before .before .before .before .before .before .before .before .before .if1 .taken), k .0, k .1, k .2)
+    let E = c9 .stretch-of .ensures in
+    let k = spread-next _ _ _ _ S (I .1) (I .3) (c11 .if1 .taken) (E .from) (E .to) (c2 .fill .ensures .kept) (c2 .fill .ensures .words) (number-kept (I .1) t (c13 .loop .g) (omega (arith, R .numbers, c11 .if1 .taken))) in
+    (omega (arith, c11 .if1 .taken), k .0, k .1, k .2)
 
 same-length : tie.Need-same-length Inv-loop μ-loop
 same-length c = search needs

@@ -19,7 +19,11 @@ same-length c = search needs
 
 returns : tie.Need-returns
 unfolding attribute
-returns c = rw (c .before .before .before .before .before .before .before .before .before .before .before .before .if1 .taken) (looser _ (omega arith) (then (c .before .before .before .before .before .before .before .before .before .before .put-byte .ensures) (then (c .before .before .before .before .before .before .put-byte2 .ensures) (c .before .before .put-fields .ensures))))
+returns c =
+    let c2 = c .before .before in
+    let c6 = c2 .before .before .before .before in
+    let c10 = c6 .before .before .before .before in
+    rw (c10 .before .before .if1 .taken) (looser _ (omega arith) (then (c10 .put-byte .ensures) (then (c6 .put-byte2 .ensures) (c2 .put-fields .ensures))))
 
 returns-2 : tie.Need-returns-2
 unfolding attribute

@@ -10,10 +10,14 @@ put-byte-requires : tie.Need-put-byte-requires
 put-byte-requires c κs = search needs
 
 mul-put-fields : tie.Need-mul-put-fields
-mul-put-fields c = let h = mul-le-mul-right (c .before .before .before .before .before .before .before .args .i) (c .before .before .before .before .before .before .before .pre .1) in omega (arith, h)
+mul-put-fields c =
+    let c7 = c .before .before .before .before .before .before .before in
+    let h = mul-le-mul-right (c7 .args .i) (c7 .pre .1) in omega (arith, h)
 
 put-fields-requires : tie.Need-put-fields-requires
-put-fields-requires c κs = let h = mul-le-mul-right (c .before .before .before .before .before .before .before .args .i) (c .before .before .before .before .before .before .before .pre .1) in (omega arith, omega (arith, h))
+put-fields-requires c κs =
+    let c7 = c .before .before .before .before .before .before .before in
+    let h = mul-le-mul-right (c7 .args .i) (c7 .pre .1) in (omega arith, omega (arith, h))
 
 put-byte-requires-2 : tie.Need-put-byte-requires-2
 put-byte-requires-2 c κs = search needs

@@ -30,41 +30,67 @@ wide-requires : tie.Need-wide-requires Inv-loop μ-loop
 wide-requires c κs = search needs
 
 add-wide-2 : tie.Need-add-wide-2 Inv-loop μ-loop
-add-wide-2 c = omega (arith, c .before .before .before .before .before .before .before .pre .placesBelow, c .before .before .before .before .before .before .before .pre .room, c .before .before .loop-test .taken)
+add-wide-2 c =
+    let c2 = c .before .before in
+    let c7 = c2 .before .before .before .before .before in
+    omega (arith, c7 .pre .placesBelow, c7 .pre .room, c2 .loop-test .taken)
 
 mul-wide-2 : tie.Need-mul-wide-2 Inv-loop μ-loop
 mul-wide-2 c = search needs
 
 slice-read-wide-2 : tie.Need-slice-read-wide-2 Inv-loop μ-loop
-slice-read-wide-2 c = omega (arith, c .before .before .before .before .before .before .before .before .pre .placesBelow, c .before .before .before .before .before .before .before .before .pre .room, c .before .before .before .loop-test .taken, c .before .before .before .before .loop .inv .1 .kept .len)
+slice-read-wide-2 c =
+    let c3 = c .before .before .before in
+    let c8 = c3 .before .before .before .before .before in
+    omega (arith, c8 .pre .placesBelow, c8 .pre .room, c3 .loop-test .taken, c3 .before .loop .inv .1 .kept .len)
 
 wide-requires-2 : tie.Need-wide-requires-2 Inv-loop μ-loop
 wide-requires-2 c κs = search needs
 
 texture-at-requires : tie.Need-texture-at-requires Inv-loop μ-loop
-texture-at-requires c κs = (c .before .before .before .before .before .before .before .before .before .before .pre .first, c .before .before .before .before .before .before .before .before .before .before .pre .second, rw (c .before .before .before .wide .ensures) (point-within _ _ _ _ _ _ _ _ _ _ (c .before .before .before .before .before .before .before .before .before .before .pre) (c .before .before .before .before .before .before .loop .inv .1 .kept) (c .before .before .before .before .before .loop-test .taken)), omega (arith, c .before .before .before .before .before .before .before .before .before .before .pre .pointsBelow, c .before .before .before .before .before .before .before .before .before .before .pre .room, c .before .before .before .before .before .before .loop .inv .1 .kept .len))
+texture-at-requires c κs =
+    let c3 = c .before .before .before in
+    let c5 = c3 .before .before in
+    let c6 = c5 .before in
+    let c10 = c6 .before .before .before .before in
+    (c10 .pre .first, c10 .pre .second, rw (c3 .wide .ensures) (point-within _ _ _ _ _ _ _ _ _ _ (c10 .pre) (c6 .loop .inv .1 .kept) (c5 .loop-test .taken)), omega (arith, c10 .pre .pointsBelow, c10 .pre .room, c6 .loop .inv .1 .kept .len))
 
 mul-put2 : tie.Need-mul-put2 Inv-loop μ-loop
-mul-put2 c = omega (arith, c .before .before .before .before .before .before .before .before .before .before .before .before .pre .room, c .before .before .before .before .before .before .before .loop-test .taken)
+mul-put2 c =
+    let c7 = c .before .before .before .before .before .before .before in
+    omega (arith, c7 .before .before .before .before .before .pre .room, c7 .loop-test .taken)
 
 add-put2 : tie.Need-add-put2 Inv-loop μ-loop
-add-put2 c = omega (arith, c .before .before .before .before .before .before .before .before .before .before .before .before .pre .room, c .before .before .before .before .before .before .before .loop-test .taken)
+add-put2 c =
+    let c7 = c .before .before .before .before .before .before .before in
+    omega (arith, c7 .before .before .before .before .before .pre .room, c7 .loop-test .taken)
 
 put2-requires : tie.Need-put2-requires Inv-loop μ-loop
-put2-requires c κs = omega (arith, c .before .before .before .before .before .before .before .before .before .before .before .before .pre .room, c .before .before .before .before .before .before .before .loop-test .taken, c .before .before .before .before .before .before .before .before .loop .inv .1 .kept .len)
+put2-requires c κs =
+    let c7 = c .before .before .before .before .before .before .before in
+    omega (arith, c7 .before .before .before .before .before .pre .room, c7 .loop-test .taken, c7 .before .loop .inv .1 .kept .len)
 
 add-c : tie.Need-add-c Inv-loop μ-loop
-add-c c = omega (arith, c .before .before .before .before .before .before .before .before .before .before .before .before .before .before .before .pre .few, c .before .before .before .before .before .before .before .before .before .before .loop-test .taken)
+add-c c =
+    let c10 = c .before .before .before .before .before .before .before .before .before .before in
+    omega (arith, c10 .before .before .before .before .before .pre .few, c10 .loop-test .taken)
 
 loop-less : tie.Need-loop-less Inv-loop μ-loop
 loop-less c = omega (arith, c .before .before .before .before .before .before .before .before .before .before .loop-test .taken)
 
 loop-again : tie.Need-loop-again Inv-loop μ-loop
 loop-again c =
-    let T = c .before .before .before .before .before .before .before .before .before .before .before .loop .inv .1 in
-    let r = texture-read _ _ _ _ _ _ _ _ _ _ (c .before .before .before .before .before .before .before .before .before .before .before .before .before .before .before .pre) (T .kept) (c .before .before .before .before .before .before .before .before .before .before .loop-test .taken) _ _ _ _ _ _ _ (c .before .before .before .before .before .before .before .before .wide .ensures) (c .before .before .before .before .before .before .wide2 .ensures) (c .before .before .before .before .texture-at .ensures) in
-    let room : c .before .before .before .before .before .before .before .before .before .before .before .before .before .before .before .args .textures + 2 * c .before .before .before .before .before .before .before .before .before .before .before .loop .c + 2 ≤ length (c .before .before .before .before .before .before .before .before .before .before .before .before .before .before .before .args .work .now) = omega (arith, c .before .before .before .before .before .before .before .before .before .before .before .before .before .before .before .pre .room, c .before .before .before .before .before .before .before .before .before .before .loop-test .taken) in
-    (omega (arith, c .before .before .before .before .before .before .before .before .before .before .loop-test .taken), textured-more _ _ _ _ _ _ _ T r room (c .before .before .put2 .ensures))
+    let c2 = c .before .before in
+    let c4 = c2 .before .before in
+    let c6 = c4 .before .before in
+    let c8 = c6 .before .before in
+    let c10 = c8 .before .before in
+    let c11 = c10 .before in
+    let c15 = c11 .before .before .before .before in
+    let T = c11 .loop .inv .1 in
+    let r = texture-read _ _ _ _ _ _ _ _ _ _ (c15 .pre) (T .kept) (c10 .loop-test .taken) _ _ _ _ _ _ _ (c8 .wide .ensures) (c6 .wide2 .ensures) (c4 .texture-at .ensures) in
+    let room : c15 .args .textures + 2 * c11 .loop .c + 2 ≤ length (c15 .args .work .now) = omega (arith, c15 .pre .room, c10 .loop-test .taken) in
+    (omega (arith, c10 .loop-test .taken), textured-more _ _ _ _ _ _ _ T r room (c2 .put2 .ensures))
 
 same-length : tie.Need-same-length Inv-loop μ-loop
 same-length c = c .before .loop .inv .1 .kept .len

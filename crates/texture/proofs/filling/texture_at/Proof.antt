@@ -32,7 +32,9 @@ corner-texture-requires c κs = search needs
 
 returns : tie.Need-returns
 unfolding seg
-returns c = let e : c .before .before .before .before .before .before .args .points + 3 * c .before .before .before .before .before .before .args .spots - c .before .before .before .before .before .before .args .points ≡ 3 * c .before .before .before .before .before .before .args .spots = omega arith in rw (c .corner-texture .ensures, c .before .default-at .ensures, e)
+returns c =
+    let c6 = c .before .before .before .before .before .before in
+    let e : c6 .args .points + 3 * c6 .args .spots - c6 .args .points ≡ 3 * c6 .args .spots = omega arith in rw (c .corner-texture .ensures, c .before .default-at .ensures, e)
 
 pub texture-at-spec : {M : Type 1} → statement M
 texture-at-spec =

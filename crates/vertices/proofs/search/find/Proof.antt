@@ -46,13 +46,24 @@ returns : tie.Need-returns Inv-loop μ-loop
 returns c = met-found (c .before .before .before .before .before .loop .inv _ (c .before .before .before .before .before .before .before .before .before .before .before .before .before .before .before .before .pre .3)) _ (c .before .before .before .x .given .1) (sym (c .before .same-vertex .ensures) ∙ c .if1 .taken)
 
 add-known-by-2 : tie.Need-add-known-by-2 Inv-loop μ-loop
-add-known-by-2 c = let P = c .before .before .before .before .before .before .before .before .before .before .before .before .before .before .before .before .before .before .pre in omega (arith, P .2, c .before .before .before .before .before .before .before .before .before .before .before .before .before .before .before .before .before .before .good, met-below (c .before .before .before .before .before .before .before .loop .inv _ (P .3)) _ (c .before .before .before .before .before .x .given .1))
+add-known-by-2 c =
+    let c5 = c .before .before .before .before .before in
+    let c7 = c5 .before .before in
+    let c18 = c7 .before .before .before .before .before .before .before .before .before .before .before in
+    let P = c18 .pre in omega (arith, P .2, c18 .good, met-below (c7 .loop .inv _ (P .3)) _ (c5 .x .given .1))
 
 mul-known-by-2 : tie.Need-mul-known-by-2 Inv-loop μ-loop
-mul-known-by-2 c = let P = c .before .before .before .before .before .before .before .before .before .before .before .before .before .before .before .before .before .before .pre in omega (arith, P .2, c .before .before .before .before .before .before .before .before .before .before .before .before .before .before .before .before .before .before .good, met-below (c .before .before .before .before .before .before .before .loop .inv _ (P .3)) _ (c .before .before .before .before .before .x .given .1))
+mul-known-by-2 c =
+    let c5 = c .before .before .before .before .before in
+    let c7 = c5 .before .before in
+    let c18 = c7 .before .before .before .before .before .before .before .before .before .before .before in
+    let P = c18 .pre in omega (arith, P .2, c18 .good, met-below (c7 .loop .inv _ (P .3)) _ (c5 .x .given .1))
 
 shared-slice-read-known-by-2 : tie.Need-shared-slice-read-known-by-2 Inv-loop μ-loop
-shared-slice-read-known-by-2 c = let P = c .before .before .before .before .before .before .before .before .before .before .before .before .before .before .before .before .before .before .before .pre in omega (arith, P .2, met-below (c .before .before .before .before .before .before .before .before .loop .inv _ (P .3)) _ (c .before .before .before .before .before .before .x .given .1))
+shared-slice-read-known-by-2 c =
+    let c6 = c .before .before .before .before .before .before in
+    let c8 = c6 .before .before in
+    let P = c8 .before .before .before .before .before .before .before .before .before .before .before .pre in omega (arith, P .2, met-below (c8 .loop .inv _ (P .3)) _ (c6 .x .given .1))
 
 known-by-requires-2 : tie.Need-known-by-requires-2 Inv-loop μ-loop
 known-by-requires-2 c κs = search needs
