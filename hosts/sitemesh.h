@@ -12,7 +12,7 @@
  *   changes that for the whole program, and so does, with gcc before 13, a shared library linked with it. Then the mesh
  *   may be another: a duct whose cross-section is (0, 0), (1, 0), (1, 1), (0, 1), (1e-40, 0) lost two of its fourteen
  *   triangles. A host that cannot be sure puts _mm_setcsr(0x1f80) before the call and its own mode back after it.
- * - Stack. Some 3 KiB: 2,968 bytes were the most in 1.3 million fuzzed calls, arguments included, and there is no
+ * - Stack. Some 3 KiB: 2,888 bytes were the most in 1.3 million fuzzed calls, arguments included, and there is no
  *   recursion. Leave 8 KiB, which is all that the fuzzing gives a call (compare/README.md).
  *
  * There is no state outside the arguments, so threads may call at the same time, each with slices of its own; they may
@@ -64,7 +64,8 @@ enum {
 /*
  * Converts the block into the lent slices, each a pointer and its length in elements. Returns SITEMESH_OK and puts the
  * counts and bits above into `result`, as far as it goes; or returns the refusal, and then every lent element is what
- * it was. The lengths asked for are in docs/FORMAT.md 4.
+ * it was. The lengths asked for are in docs/FORMAT.md 4. `words` and `floats` are the two working slices: scratch, and
+ * zeros after success.
  */
 uint32_t sitemesh_convert(const uint8_t *block, size_t block_length,
                           float *positions, size_t positions_length,

@@ -29,6 +29,9 @@ Warnings, each a line on standard error with the line of the text; the block is 
   - a shape that draws nothing, a cap that is asked for and not drawn, a list that is not read or is too short.
 Runs, points and values are numbered from 0; an empty run counts and is not warned of.
 
+A window in a wall is no face of its own: an outline that goes in to it and back along the same edge covers it. Leave a
+slit between the two ways, or lay several faces round it (docs/DIFFERENCES.md, 12).
+
 Errors, each a line on standard error, status 1, nothing written: a text that is not understood, and a block that
 would be refused for what it says (FORMAT 3, rows 4, 6 and 7: list limit, no shape, corners).
 """
