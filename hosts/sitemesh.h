@@ -9,7 +9,7 @@
  *   touches a slice during the call. Otherwise nothing is promised, not even that the call stays inside or ends.
  * - Floats. The calling thread rounds to nearest, has exceptions masked, and neither flushes results to zero nor takes
  *   denormals for zero, as a Linux program starts (MXCSR 1f80). Linking a program with gcc's or clang's -ffast-math
- *   changes that for the whole program, and so does, with gcc before 13, a shared library linked with it. Then the mesh
+ *   changes that for the whole program, and so did, with gcc 12.2, a shared library linked with it. Then the mesh
  *   may be another: a duct whose cross-section is (0, 0), (1, 0), (1, 1), (0, 1), (1e-40, 0) lost two of its fourteen
  *   triangles. A host that cannot be sure puts _mm_setcsr(0x1f80) before the call and its own mode back after it.
  * - Stack. Some 3 KiB: 2,888 bytes were the most in 1.3 million fuzzed calls, arguments included, and there is no

@@ -1,4 +1,4 @@
-//! The converter for Rust (docs/FORMAT.md 15; rustc 1.82 or later, any edition): link target/staticlib/libhost.a, on x86-64 Linux.
+//! The converter for Rust (docs/FORMAT.md 15; tried with rustc 1.95, in every edition): link target/staticlib/libhost.a, on x86-64 Linux.
 //! hosts/example.rs is a program that calls it. Borrows keep the slices apart; what hosts/sitemesh.h says of floats,
 //! stack and threads holds here too.
 #![allow(dead_code)] // a program need not use all of it
