@@ -1,5 +1,5 @@
 -- One law for each way out of the functions that branch.
-use mathlib.Core.Path.{_≡_, ap, _∙_}
+use mathlib.Core.Path.{_≡_, sym, ap, _∙_}
 use mathlib.Core.Bool.{true, false}
 use mathlib.Core.List.{List}
 use Prim.Native.Nat.{ℕ}
@@ -35,27 +35,28 @@ module _ (b : Float) (own : ℕ) (u : V3) (g : ℕ) (s n : V3) where
     unfolding nearBy isNear
     near-yes m r q i j = rw (ne-eqb g own d, ← e, f, ← h, q) (j ∙ ap (vadd s) i)
 
-module _ (own : ℕ) (n : V3) (hs : List Hit) (rule : CreaseRule) (r : V3) where
-  pub sum-own : rule ≡ Own → r ≡ n → r ≡ creaseSum rule own n hs
+module _ (own : ℕ) (n : V3) (hs : List Hit) (rule : CreaseRule) (r : Unit) where
+  pub unit-own : rule ≡ Own → r ≡ unitOf n → r ≡ unitOf (creaseSum rule own n hs)
   unfolding creaseSum
-  sum-own e q = rw e q
+  unit-own e q = rw e q
 
-  pub sum-every : rule ≡ Every → r ≡ sumAll (v3 zeroF zeroF zeroF) hs → r ≡ creaseSum rule own n hs
+  pub unit-every : rule ≡ Every → r ≡ unitOf (sumAll (v3 zeroF zeroF zeroF) hs) → r ≡ unitOf (creaseSum rule own n hs)
   unfolding creaseSum
-  sum-every e q = rw e q
+  unit-every e q = rw e q
 
   module _ (b : Float) (e : rule ≡ Bound b) (k k′ : Unit) (f : k′ ≡ k) (h : k ≡ unitOf n) where
-    pub sum-bound : (u : V3) → k′ ≡ Of u → r ≡ sumNear b own u n hs → r ≡ creaseSum rule own n hs
+    pub unit-bound : (u m : V3) → k′ ≡ Of u → m ≡ sumNear b own u n hs → r ≡ unitOf m → r ≡ unitOf (creaseSum rule own n hs)
     unfolding creaseSum nearSum
-    sum-bound u i q = rw (e, ← h, ← f, i) q
+    unit-bound u m i q s = let near : m ≡ creaseSum rule own n hs = rw (e, ← h, ← f, i) q in s ∙ ap unitOf near
 
-    pub sum-bound-none : k′ ≡ Nothing → r ≡ n → r ≡ creaseSum rule own n hs
+    -- the own face has no unit vector, and its normal is the sum
+    pub unit-bound-none : k′ ≡ Nothing → r ≡ Nothing → r ≡ unitOf (creaseSum rule own n hs)
     unfolding creaseSum nearSum
-    sum-bound-none i q = rw (e, ← h, ← f, i) q
+    unit-bound-none i q = let alone : n ≡ creaseSum rule own n hs = rw (e, ← h, ← f, i) in q ∙ sym i ∙ f ∙ h ∙ ap unitOf alone
 
-pub normal-made : (w : List ℕ) (t : Plan) (rule : CreaseRule) (own p : ℕ) (m d r : V3) (k j i : Unit)
-    → m ≡ creaseSum rule own (normalIn w t own) (hitsAt w t p) → k ≡ unitOf m → j ≡ i → i ≡ unitOf (normalIn w t own) → d ≡ orElse j yAxis → r ≡ orElse k d
+pub normal-made : (w : List ℕ) (t : Plan) (rule : CreaseRule) (own p : ℕ) (d r : V3) (k j i : Unit)
+    → k ≡ unitOf (creaseSum rule own (normalIn w t own) (hitsAt w t p)) → j ≡ i → i ≡ unitOf (normalIn w t own) → d ≡ orElse j yAxis → r ≡ orElse k d
     → r ≡ normalAt w t rule own p
 unfolding normalAt
-normal-made w t rule own p m d r k j i em ek ej ei ed er =
-    er ∙ λ z. orElse ((ek ∙ ap unitOf em) z) ((ed ∙ ap (λ (q : Unit). orElse q yAxis) (ej ∙ ei)) z)
+normal-made w t rule own p d r k j i ek ej ei ed er =
+    er ∙ λ z. orElse (ek z) ((ed ∙ ap (λ (q : Unit). orElse q yAxis) (ej ∙ ei)) z)

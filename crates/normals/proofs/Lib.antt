@@ -4,5 +4,6 @@ mod Walks
 mod Arms
 pub mod Fills
 mod Making
+mod Summing
 mod Soups
 pub mod Joined

@@ -37,16 +37,16 @@ module _ {b : ℕ} {v w : List ℕ} (K : Kept b v w) where
   unfolding at3
   at3-kept a h = λ i. v3 (ofBits binary32 (kept-at K a (omega arith) i)) (ofBits binary32 (kept-at K (a + 1) (omega arith) i)) (ofBits binary32 (kept-at K (a + 2) (omega arith) i))
 
-  unit-kept : (a : ℕ) → a + 4 ≤ b → unitAt w a ≡ unitAt v a
+  pub unit-kept : (a : ℕ) → a + 4 ≤ b → unitAt w a ≡ unitAt v a
   unfolding unitAt
   unit-kept a h = λ i. cond (eqb (kept-at K a (omega arith) i) 0) Nothing (Of (at3-kept (a + 1) (omega arith) i))
 
   module _ (t : Plan) where
-    normal-kept : (g : ℕ) → t .rows + 7 * g + 3 ≤ b → normalIn w t g ≡ normalIn v t g
+    pub normal-kept : (g : ℕ) → t .rows + 7 * g + 3 ≤ b → normalIn w t g ≡ normalIn v t g
     unfolding normalIn
     normal-kept g h = at3-kept (t .rows + 7 * g) h
 
-    unitIn-kept : (g : ℕ) → t .rows + 7 * g + 7 ≤ b → unitIn w t g ≡ unitIn v t g
+    pub unitIn-kept : (g : ℕ) → t .rows + 7 * g + 7 ≤ b → unitIn w t g ≡ unitIn v t g
     unfolding unitIn
     unitIn-kept g h = unit-kept (t .rows + 7 * g + 3) (omega arith)
 
@@ -75,7 +75,7 @@ le-or-lt a b = go (leb a b) refl
     go true e = inl (leb-true a b e)
     go false e = inr (leb-false a b e)
 
-last-or : (g n : ℕ) → g < n + 1 → (g ≡ n) ⊎ (g < n)
+pub last-or : (g n : ℕ) → g < n + 1 → (g ≡ n) ⊎ (g < n)
 last-or g n h = eq-or-lt-of-le (le-of-suc-le-suc (rw add-one at h))
 
 rowed-step : {v w w′ : List ℕ} {t : Plan} {ccw : Bool} (g : ℕ) (n : V3) → Rowed v w t ccw g → Kept (t .rows + 7 * g) w w′
@@ -119,27 +119,25 @@ stored w a x y z v h fx fy fz ex ey ez =
       λ i. v3 ((ap (ofBits binary32) px ∙ back x (v .x) ex fx) i) ((ap (ofBits binary32) py ∙ back y (v .y) ey fy) i) ((ap (ofBits binary32) pz ∙ back z (v .z) ez fz) i),
     )
 
--- ---- a row
+-- ---- a unit vector, and a row
 
-module _ (w w₁ : List ℕ) (a : ℕ) (v : V3) (k : Unit) (h : a + 7 ≤ length w) (K : Kept a w w₁) (e : at3 w₁ a ≡ v) (ek : k ≡ unitOf v) where
-  pub row-some : (w₃ : List ℕ) (u : V3) → Kept (a + 4) (set w₁ (a + 3) 1) w₃ → at3 w₃ (a + 4) ≡ u → k ≡ Of u
-      → Kept a w w₃ × (at3 w₃ a ≡ v) × (unitAt w₃ (a + 3) ≡ unitOf v)
+module _ (w : List ℕ) (a : ℕ) (k : Unit) (h : a + 4 ≤ length w) where
+  pub unit-some : (w′ : List ℕ) (u : V3) → Kept (a + 1) (set w a 1) w′ → at3 w′ (a + 1) ≡ u → k ≡ Of u → Kept a w w′ × (unitAt w′ a ≡ k)
   unfolding unitAt
-  row-some w₃ u L f g =
-      let M : Kept (a + 3) w₁ (set w₁ (a + 3) 1) = kept-set (a + 3) 1 kept-all (omega arith) in
-      let N = kept-then M L (omega arith) in
-      let l = K .len in
-      let one : getD w₃ (a + 3) 0 ≡ 1 = kept-at L (a + 3) (omega arith) ∙ set-hit w₁ (a + 3) 1 (a + 3) (omega arith) refl in
-      let s : a + 3 + 1 ≡ a + 4 = omega arith in
-      (kept-then K N (omega arith), at3-kept N a (omega arith) ∙ e, rw (one, s, f) (sym g ∙ ek))
+  unit-some w′ u L f g =
+      let M : Kept a w (set w a 1) = kept-set a 1 kept-all (omega arith) in
+      let one : getD w′ a 0 ≡ 1 = kept-at L a (omega arith) ∙ set-hit w a 1 a (omega arith) refl in
+      (kept-then M L (omega arith), rw (one, f) (sym g))
 
-  pub row-none : k ≡ Nothing → Kept a w (set w₁ (a + 3) 0) × (at3 (set w₁ (a + 3) 0) a ≡ v) × (unitAt (set w₁ (a + 3) 0) (a + 3) ≡ unitOf v)
+  pub unit-none : k ≡ Nothing → Kept a w (set w a 0) × (unitAt (set w a 0) a ≡ k)
   unfolding unitAt
-  row-none g =
-      let M : Kept (a + 3) w₁ (set w₁ (a + 3) 0) = kept-set (a + 3) 0 kept-all (omega arith) in
-      let l = K .len in
-      let nul : getD (set w₁ (a + 3) 0) (a + 3) 0 ≡ 0 = set-hit w₁ (a + 3) 0 (a + 3) (omega arith) refl in
-      (kept-then K M (omega arith), at3-kept M a (omega arith) ∙ e, rw nul (sym g ∙ ek))
+  unit-none g =
+      let nul : getD (set w a 0) a 0 ≡ 0 = set-hit w a 0 a (omega arith) refl in
+      (kept-set a 0 kept-all (omega arith), rw nul (sym g))
+
+pub row-made : (w w₁ w₂ : List ℕ) (a : ℕ) (v : V3) (k : Unit) → Kept a w w₁ → at3 w₁ a ≡ v → k ≡ unitOf v → Kept (a + 3) w₁ w₂ → unitAt w₂ (a + 3) ≡ k
+    → Kept a w w₂ × (at3 w₂ a ≡ v) × (unitAt w₂ (a + 3) ≡ unitOf v)
+row-made w w₁ w₂ a v k K e ek L f = (kept-then K L (omega arith), at3-kept L a (omega arith) ∙ e, f ∙ ek)
 
 -- ---- all tables
 
@@ -187,4 +185,4 @@ after-rows S K = let R = S .room in sound-kept K _ (omega arith) S
 
 pub chainable-of : {w : List ℕ} {t : Plan} → Sound w t → Chainable w (t .gathers) (t .count) (t .heads) (t .spots) (t .nexts)
 unfolding gatherIn
-chainable-of S = let R = S .room in record { few = R .few; corners = omega arith; heads = R .heads; nexts = R .nexts; points = S .gathers }
+chainable-of S = let R = S .room in record { few = R .few; corners = omega arith; heads = R .heads; nexts = omega arith; points = S .gathers }

@@ -23,7 +23,7 @@ pub record At (w : List ℕ) (t : Plan) (p x : ℕ) : Type 0 where
   pub here : x < t .count → getD (gathersIn w t) x 0 ≡ p
 
 module _ {w : List ℕ} {t : Plan} (R : Ready w t) where
-  length-gathers : length (gathersIn w t) ≡ t .count
+  pub length-gathers : length (gathersIn w t) ≡ t .count
   unfolding gathersIn
   length-gathers = let r = R .room in length-seg w (t .gathers) (t .count) (omega arith)
 

@@ -1,6 +1,6 @@
--- FORMAT 10.1, 10.2: the tables that are made: owners, rows of faces, chains; and what they say of the faces at a corner.
+-- FORMAT 10.1, 10.2: the tables that are made: owners, rows of faces, chains, sums; and what they say of the faces at a corner.
 use mathlib.Core.Path.{_≡_}
-use mathlib.Core.Bool.{Bool, cond}
+use mathlib.Core.Bool.{Bool, true, false, cond}
 use mathlib.Core.List.{List, map}
 use Prim.Native.Nat.{ℕ, suc, _+_, _*_, _≤_, _<_}
 use lib.Dec.{eqb}
@@ -9,9 +9,10 @@ use lib.Ieee.{binary32, ofBits}
 use Rattle.math.specs.declared.vector.V3.{V3}
 use Rattle.math.specs.declared.vector.Unit.{Unit}
 use Rattle.math.specs.declared.vector.Unit.the-variants.{Of, Nothing}
-use Rattle.math.specs.Vector.{v3, unitOf}
-use Rattle.block.specs.declared.crease.CreaseRule.the-variants.{Own}
-use Rattle.mesh.specs.Normals.{facing, Hit}
+use Rattle.math.specs.Vector.{v3, zeroF, unitOf}
+use Rattle.block.specs.declared.crease.CreaseRule.{CreaseRule}
+use Rattle.block.specs.declared.crease.CreaseRule.the-variants.{Own, Every, Bound}
+use Rattle.mesh.specs.Normals.{facing, Hit, sumAll}
 use Rattle.tables.specs.declared.layout.Plan.{Plan}
 use Rattle.lists.specs.Parts.{seg, Kept}
 use Rattle.tables.specs.Layout.{Room}
@@ -71,7 +72,28 @@ pub record Ready (w : List ℕ) (t : Plan) : Type 0 where
   pub owned : (c : ℕ) → c < t .count → ownerIn w t c < t .faces
   pub units : (g : ℕ) → g < t .faces → unitIn w t g ≡ unitOf (normalIn w t g)
 
--- all tables are made, from the words v
+-- FORMAT 10.2, generate_normals (every face): the unit vector of the sum at p, and the words that it is kept in
+abbrev pub everyAt : List ℕ → Plan → ℕ → Unit
+everyAt w t p = unitOf (sumAll (v3 zeroF zeroF zeroF) (hitsAt w t p))
+
+unfoldable pub sumIn : List ℕ → Plan → ℕ → Unit
+sumIn w t p = unitAt w (t .sums + 4 * p)
+
+-- of the first n numbers it is kept, by the words v
+pub record SummedTo (v w : List ℕ) (t : Plan) (n : ℕ) : Type 0 where
+  pub at : (p : ℕ) → p < n → sumIn w t p ≡ everyAt v t p
+
+-- FORMAT 10.2: whether a corner's sum is that of every face
+unfoldable pub isEvery : CreaseRule → Bool
+isEvery Own = false
+isEvery Every = true
+isEvery (Bound b) = false
+
+-- of all numbers, where the rule asks for it
+pub record Summed (w : List ℕ) (t : Plan) (rule : CreaseRule) : Type 0 where
+  pub every : isEvery rule ≡ true → SummedTo w w t (t .spots)
+
+-- owners, rows and chains are made, from the words v
 pub record Made (v w : List ℕ) (t : Plan) (ccw : Bool) : Type 0 where
   pub kept : Kept (t .owners) v w
   pub sound : Sound w t

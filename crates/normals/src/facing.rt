@@ -6,8 +6,8 @@ ghost use Rattle.math.specs.Vector.{unitOf};
 ghost use Rattle.lists.specs.Parts.{Kept};
 ghost use Rattle.tables.specs.Soups.{Sound};
 ghost use Rattle.normals.specs.Rows.{at3, unitAt, facingIn, OwnedTo, Rowed};
+use crate::vectors::store_unit;
 use crate::vectors::store3;
-use math::Unit;
 use math::V3;
 use tables::Plan;
 use tables::fill;
@@ -47,18 +47,7 @@ fn put_row(work: &mut [u32], a: usize, v: V3)
     ensures { λ _. ⌜ Kept a (now (work .entry)) (now (work .exit)) × (at3 (now (work .exit)) a ≡ v) × (unitAt (now (work .exit)) (a + 3) ≡ unitOf v) ⌝ }
 {
     store3(work, a, v);
-    let k = math::normalize(v);
-    match k {
-        Unit::Of(u) => {
-            work[a + 3] = 1;
-            store3(work, a + 4, u);
-            return;
-        }
-        Unit::Nothing => {
-            work[a + 3] = 0;
-            return;
-        }
-    }
+    store_unit(work, a + 3, math::normalize(v));
 }
 
 // The rows of all faces.

@@ -2,6 +2,7 @@
 mod chains;
 mod facing;
 mod outputs;
+mod points;
 mod sums;
 mod vectors;
 mod whole;

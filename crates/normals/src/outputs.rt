@@ -5,7 +5,7 @@ ghost use Prim.Native.Nat.{ℕ, _+_, _*_, _≤_, _<_};
 ghost use lib.ListN.{length, drop};
 ghost use Rattle.lists.specs.Loops.{tab};
 ghost use Rattle.tables.specs.Soups.{gatherIn, Sound};
-ghost use Rattle.normals.specs.Rows.{Owned, Ready};
+ghost use Rattle.normals.specs.Rows.{Owned, Ready, Summed};
 ghost use Rattle.normals.specs.Written.{normalAt, cornerNormalIn, spread};
 use crate::sums::corner_normal;
 use crate::vectors::put3;
@@ -25,7 +25,7 @@ fn face_normals(
     n: usize,
     part: &mut [f32],
 )
-    requires { ⌜ Ready (now work) t × Sound (now work) t × (own < t .faces) × (a .0 + n ≤ t .count) × (length (now part) ≡ 3 * n) ⌝ }
+    requires { ⌜ Ready (now work) t × Summed (now work) t rule × Sound (now work) t × (own < t .faces) × (a .0 + n ≤ t .count) × (length (now part) ≡ 3 * n) ⌝ }
     ensures { λ _. ⌜ now (part .exit) ≡ spread (tab (λ (c : ℕ). normalAt (now (work .entry)) t rule own (gatherIn (now (work .entry)) t c)) n (a .0)) ⌝ }
 {
     let mut i = 0;
@@ -39,7 +39,7 @@ fn face_normals(
 
 // The normals of all corners.
 pub fn corner_normals(work: &[u32], t: Plan, rule: CreaseRule, floats: &mut [f32])
-    requires { ⌜ Ready (now work) t × Sound (now work) t × Owned (now work) t × (3 * t .count ≤ length (now floats)) ⌝ }
+    requires { ⌜ Ready (now work) t × Summed (now work) t rule × Sound (now work) t × Owned (now work) t × (3 * t .count ≤ length (now floats)) ⌝ }
     ensures { λ _. ⌜ now (floats .exit) ≡ spread (tab (cornerNormalIn (now (work .entry)) t rule) (t .count) 0) ++ drop (3 * t .count) (now (floats .entry)) ⌝ }
 {
     let mut g = 0;

@@ -1,10 +1,10 @@
-// FORMAT 10.2, generate_normals: the sum of facing normals at a corner by the crease rule, and the corner's normal.
+// FORMAT 10.2, generate_normals: the unit vector of the sum of facing normals at a corner by the crease rule, and the corner's normal.
 ghost use mathlib.Core.Path.{_≡_};
 ghost use Prim.Native.Nat.{_+_, _≤_, _<_};
 ghost use lib.ListN.{length};
-ghost use Rattle.math.specs.Vector.{v3, zeroF};
-ghost use Rattle.mesh.specs.Normals.{sumAll, nearBy, sumNear, creaseSum, orElse};
-ghost use Rattle.normals.specs.Rows.{at3, unitAt, normalIn, hitsAt, Ready};
+ghost use Rattle.math.specs.Vector.{unitOf};
+ghost use Rattle.mesh.specs.Normals.{nearBy, sumNear, creaseSum, orElse};
+ghost use Rattle.normals.specs.Rows.{at3, unitAt, normalIn, hitsAt, Ready, Summed};
 ghost use Rattle.normals.specs.Written.{normalAt};
 use crate::chains::first_at;
 use crate::chains::next_at;
@@ -16,25 +16,6 @@ use math::Unit;
 use math::V3;
 use tables::Plan;
 use tables::owner_of;
-
-// Every face at p, once for each use, from (0, 0, 0).
-fn sum_all(work: &[u32], t: Plan, p: PointNumber) -> V3
-    requires { ⌜ Ready (now work) t × (p .0 < t .spots) ⌝ }
-    ensures { λ r. ⌜ r ≡ sumAll (v3 zeroF zeroF zeroF) (hitsAt (now (work .entry)) t (p .0)) ⌝ }
-{
-    let mut s = V3 {
-        x: 0.0,
-        y: 0.0,
-        z: 0.0,
-    };
-    let mut x = first_at(work, t, p);
-    while x.0 < t.count {
-        let g = owner_of(work, t, x);
-        s = math::add(s, load(work, t.rows + 7 * g));
-        x = next_at(work, t, x);
-    }
-    s
-}
 
 // s, and the normal of face g where g is another face than own and its unit vector is near to u.
 fn near_step(work: &[u32], row: usize, g: usize, own: usize, u: V3, bound: f32, s: V3) -> V3
@@ -73,27 +54,28 @@ fn sum_near(work: &[u32], t: Plan, p: PointNumber, own: usize, u: V3, bound: f32
     s
 }
 
-// The sum at a corner of face own that is gathered under p.
-fn crease_sum(work: &[u32], t: Plan, p: PointNumber, own: usize, rule: CreaseRule) -> V3
-    requires { ⌜ Ready (now work) t × (p .0 < t .spots) × (own < t .faces) ⌝ }
-    ensures { λ r. ⌜ r ≡ creaseSum rule own (normalIn (now (work .entry)) t own) (hitsAt (now (work .entry)) t (p .0)) ⌝ }
+// The unit vector at a corner of face own that is gathered under p. Only the cosine rule takes a root here: that of the own face stands in its row, and
+// that of every face is made once for each number.
+fn crease_unit(work: &[u32], t: Plan, p: PointNumber, own: usize, rule: CreaseRule) -> Unit
+    requires { ⌜ Ready (now work) t × Summed (now work) t rule × (p .0 < t .spots) × (own < t .faces) ⌝ }
+    ensures { λ r. ⌜ r ≡ unitOf (creaseSum rule own (normalIn (now (work .entry)) t own) (hitsAt (now (work .entry)) t (p .0))) ⌝ }
 {
-    let row = t.rows + 7 * own;
+    let row = t.rows + 7 * own + 3;
     match rule {
         CreaseRule::Own => {
-            return load(work, row);
+            return load_unit(work, row);
         }
         CreaseRule::Every => {
-            return sum_all(work, t, p);
+            return load_unit(work, t.sums + 4 * p.0);
         }
         CreaseRule::Bound(b) => {
-            let k = load_unit(work, row + 3);
+            let k = load_unit(work, row);
             match k {
                 Unit::Of(u) => {
-                    return sum_near(work, t, p, own, u, b);
+                    return math::normalize(sum_near(work, t, p, own, u, b));
                 }
                 Unit::Nothing => {
-                    return load(work, row);
+                    return Unit::Nothing;
                 }
             }
         }
@@ -115,10 +97,10 @@ fn or_else(k: Unit, other: V3) -> V3
 
 // The normal of a corner of face own that is gathered under p.
 pub fn corner_normal(work: &[u32], t: Plan, p: PointNumber, own: usize, rule: CreaseRule) -> V3
-    requires { ⌜ Ready (now work) t × (p .0 < t .spots) × (own < t .faces) ⌝ }
+    requires { ⌜ Ready (now work) t × Summed (now work) t rule × (p .0 < t .spots) × (own < t .faces) ⌝ }
     ensures { λ r. ⌜ r ≡ normalAt (now (work .entry)) t rule own (p .0) ⌝ }
 {
-    let k = math::normalize(crease_sum(work, t, p, own, rule));
+    let k = crease_unit(work, t, p, own, rule);
     let row = t.rows + 7 * own + 3;
     let up = V3 {
         x: 0.0,

@@ -39,6 +39,24 @@ pub fn store3(work: &mut [u32], a: usize, v: V3)
     work[a + 2] = math::bits_of(v.z);
 }
 
+// As `load_unit` reads it.
+pub fn store_unit(work: &mut [u32], a: usize, k: Unit)
+    requires { ⌜ a + 4 ≤ length (now work) ⌝ }
+    ensures { λ _. ⌜ Kept a (now (work .entry)) (now (work .exit)) × (unitAt (now (work .exit)) a ≡ k) ⌝ }
+{
+    match k {
+        Unit::Of(u) => {
+            work[a] = 1;
+            store3(work, a + 1, u);
+            return;
+        }
+        Unit::Nothing => {
+            work[a] = 0;
+            return;
+        }
+    }
+}
+
 pub fn put3(part: &mut [f32], a: usize, v: V3)
     requires { ⌜ a + 3 ≤ length (now part) ⌝ }
     ensures { λ _. ⌜ now (part .exit) ≡ spliced (now (part .entry)) a (three v) ⌝ }

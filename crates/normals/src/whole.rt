@@ -8,6 +8,7 @@ use crate::chains::chain;
 use crate::facing::owners;
 use crate::facing::rows;
 use crate::outputs::corner_normals;
+use crate::points::share;
 use block::CreaseRule;
 use tables::Plan;
 
@@ -27,5 +28,6 @@ pub fn generate(work: &mut [u32], t: Plan, ccw: bool, rule: CreaseRule, floats: 
     ensures { λ _. ⌜ Generated (now (work .entry)) (now (work .exit)) t ccw rule (now (floats .entry)) (now (floats .exit)) ⌝ }
 {
     prepare(work, t, ccw);
+    share(work, t, rule);
     corner_normals(work, t, rule, floats);
 }

@@ -21,4 +21,5 @@ plan-fits spots count faces len p c f l = record {
   rows = omega arith;
   heads = omega arith;
   nexts = omega arith;
+  sums = omega arith;
 }

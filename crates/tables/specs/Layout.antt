@@ -7,7 +7,8 @@ abbrev pub most : ℕ
 most = 262144
 
 -- points 3P, corners C, first corners F + 1, vertex numbers C, places C, face numbers F, owners C, rows 7F, heads P, nexts C;
--- corners are gathered by their points
+-- and sums 4P, four words for each number that corners are gathered by, for what a crease rule makes once for all corners of one number.
+-- Corners are gathered by their points
 unfoldable pub planOf : ℕ → ℕ → ℕ → Plan
 planOf spots count faces =
     let corners = 3 * spots in
@@ -18,6 +19,7 @@ planOf spots count faces =
     let owners = numbers + faces in
     let rows = owners + count in
     let heads = rows + 7 * faces in
+    let nexts = heads + spots in
     record {
       spots = spots;
       count = count;
@@ -32,7 +34,8 @@ planOf spots count faces =
       owners = owners;
       rows = rows;
       heads = heads;
-      nexts = heads + spots;
+      nexts = nexts;
+      sums = nexts + count;
     }
 
 -- the tables stand one after another in len words; what is gathered by stands before the vertex numbers
@@ -50,4 +53,5 @@ pub record Room (len : ℕ) (t : Plan) : Type 0 where
   pub owners : t .owners + t .count ≤ t .rows
   pub rows : t .rows + 7 * t .faces ≤ t .heads
   pub heads : t .heads + t .spots ≤ t .nexts
-  pub nexts : t .nexts + t .count ≤ len
+  pub nexts : t .nexts + t .count ≤ t .sums
+  pub sums : t .sums + 4 * t .spots ≤ len

@@ -18,6 +18,7 @@ pub struct Plan {
     pub rows: usize,
     pub heads: usize,
     pub nexts: usize,
+    pub sums: usize,
 }
 
 // The tables one after another, in the order in which they are written.
@@ -33,6 +34,7 @@ pub fn plan_of(spots: usize, count: usize, faces: usize) -> Plan
     let owners = numbers + faces;
     let rows = owners + count;
     let heads = rows + 7 * faces;
+    let nexts = heads + spots;
     Plan {
         spots,
         count,
@@ -47,6 +49,7 @@ pub fn plan_of(spots: usize, count: usize, faces: usize) -> Plan
         owners,
         rows,
         heads,
-        nexts: heads + spots,
+        nexts,
+        sums: nexts + count,
     }
 }

@@ -29,7 +29,7 @@ mul-work-2 : tie.Need-mul-work-2
 mul-work-2 c = search needs
 
 slice-write-work-2 : tie.Need-slice-write-work-2
-slice-write-work-2 c = let R = c .before .before .before .before .before .pre .0 in rw length-set (omega (arith, R .starts, R .named, R .places, R .numbers, R .owners, R .rows, R .heads, R .nexts))
+slice-write-work-2 c = let R = c .before .before .before .before .before .pre .0 in rw length-set (omega (arith, R .starts, R .named, R .places, R .numbers, R .owners, R .rows, R .heads, R .nexts, R .sums))
 
 same-length : tie.Need-same-length
 same-length c = search needs

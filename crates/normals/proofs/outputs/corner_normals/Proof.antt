@@ -19,10 +19,10 @@ abbrev μ-loop : tie.MeasureT-loop
 μ-loop work t rule floats₀ g₀ floats g = t .faces - g
 
 loop-holds : tie.Need-loop-holds Inv-loop μ-loop
-loop-holds c = (omega arith, faces-start (c .before .before .pre .1) _ _, refl)
+loop-holds c = (omega arith, faces-start (c .before .before .pre .2) _ _, refl)
 
 stretch-of-requires : tie.Need-stretch-of-requires Inv-loop μ-loop
-stretch-of-requires c κs = (c .before .before .before .before .before .pre .1, c .if1 .taken)
+stretch-of-requires c κs = (c .before .before .before .before .before .pre .2, c .if1 .taken)
 
 mul-lo : tie.Need-mul-lo Inv-loop μ-loop
 mul-lo c = search needs
@@ -46,7 +46,7 @@ part-face-normals-end : tie.Need-part-face-normals-end Inv-loop μ-loop
 part-face-normals-end c =
     let c4 = c .before .before .before .before in
     let c7 = c4 .before .before .before in
-    omega (arith, c4 .stretch-of .ensures .order, c4 .stretch-of .ensures .within, c7 .before .before .before .pre .3, c7 .loop .inv .2)
+    omega (arith, c4 .stretch-of .ensures .order, c4 .stretch-of .ensures .within, c7 .before .before .before .pre .4, c7 .loop .inv .2)
 
 face-normals-requires : tie.Need-face-normals-requires Inv-loop μ-loop
 face-normals-requires c κs =
@@ -56,9 +56,10 @@ face-normals-requires c κs =
     let E = c5 .stretch-of .ensures in (
       c11 .pre .0,
       c11 .pre .1,
+      c11 .pre .2,
       c5 .before .if1 .taken,
       omega (arith, E .order, E .within),
-      mid-len (3 * c5 .stretch-of .result .from .0) (3 * c5 .stretch-of .result .to .0) (c8 .loop .floats) (omega (arith, c5 .stretch-of .ensures .order, c5 .stretch-of .ensures .within, c11 .pre .3, c8 .loop .inv .2)) ∙ omega (arith, E .order),
+      mid-len (3 * c5 .stretch-of .result .from .0) (3 * c5 .stretch-of .result .to .0) (c8 .loop .floats) (omega (arith, c5 .stretch-of .ensures .order, c5 .stretch-of .ensures .within, c11 .pre .4, c8 .loop .inv .2)) ∙ omega (arith, E .order),
     )
 
 add-g : tie.Need-add-g Inv-loop μ-loop
@@ -75,7 +76,7 @@ loop-again c =
     let c11 = c9 .before .before in
     let c14 = c11 .before .before .before in
     let E = c8 .stretch-of .ensures in
-    (omega (arith, c9 .if1 .taken), faces-next _ _ _ _ _ _ _ _ _ (c14 .pre .1) (c14 .pre .2) (c9 .if1 .taken) (E .from) (E .to) (c11 .loop .inv .1) (c2 .face-normals .ensures), c .before .floats .given .1 ∙ c11 .loop .inv .2)
+    (omega (arith, c9 .if1 .taken), faces-next _ _ _ _ _ _ _ _ _ (c14 .pre .2) (c14 .pre .3) (c9 .if1 .taken) (E .from) (E .to) (c11 .loop .inv .1) (c2 .face-normals .ensures), c .before .floats .given .1 ∙ c11 .loop .inv .2)
 
 same-length : tie.Need-same-length Inv-loop μ-loop
 same-length c = c .before .before .loop .inv .2
@@ -85,7 +86,7 @@ returns c =
     let c2 = c .before .before in
     let c5 = c2 .before .before .before in
     let e : c2 .loop .g ≡ c5 .args .t .faces = omega arith in
-    rw (ap (startIn (c5 .args .work .now) (c5 .args .t)) e ∙ c5 .pre .1 .last) at (c2 .loop .inv .1)
+    rw (ap (startIn (c5 .args .work .now) (c5 .args .t)) e ∙ c5 .pre .2 .last) at (c2 .loop .inv .1)
 
 pub corner-normals-spec : {M : Type 1} → statement M
 corner-normals-spec =

@@ -25,10 +25,10 @@ add-put3 : tie.Need-add-put3 Inv-loop μ-loop
 add-put3 c = search needs
 
 gather-of-requires : tie.Need-gather-of-requires Inv-loop μ-loop
-gather-of-requires c κs = (c .before .before .before .before .before .pre .1 .room, omega arith)
+gather-of-requires c κs = (c .before .before .before .before .before .pre .2 .room, omega arith)
 
 corner-normal-requires : tie.Need-corner-normal-requires Inv-loop μ-loop
-corner-normal-requires c κs = (c .before .before .before .before .before .before .pre .0, rw (c .gather-of .ensures) (c .before .before .before .before .before .before .pre .1 .gathers _ (omega arith)), c .before .before .before .before .before .before .pre .2)
+corner-normal-requires c κs = (c .before .before .before .before .before .before .pre .0, c .before .before .before .before .before .before .pre .1, rw (c .gather-of .ensures) (c .before .before .before .before .before .before .pre .2 .gathers _ (omega arith)), c .before .before .before .before .before .before .pre .3)
 
 mul-put3 : tie.Need-mul-put3 Inv-loop μ-loop
 mul-put3 c = search needs
@@ -52,7 +52,7 @@ same-length : tie.Need-same-length Inv-loop μ-loop
 same-length c = c .before .loop .inv .2
 
 returns : tie.Need-returns Inv-loop μ-loop
-returns c = made-all _ _ _ _ _ _ (c .before .loop .inv .1) (omega arith) (c .before .before .before .before .pre .4)
+returns c = made-all _ _ _ _ _ _ (c .before .loop .inv .1) (omega arith) (c .before .before .before .before .pre .5)
 
 pub face-normals-spec : {M : Type 1} → statement M
 face-normals-spec =

@@ -4,11 +4,8 @@ use borrow.Author.Needs.{needs}
 use Rattle.normals.proofs.sums.corner_normal.Statement.{statement}
 use Rattle.normals.proofs.sums.corner_normal.Tie as tie
 
-crease-sum-requires : tie.Need-crease-sum-requires
-crease-sum-requires c κs = search needs
-
-normalize-requires : tie.Need-normalize-requires
-normalize-requires c κs = search needs
+crease-unit-requires : tie.Need-crease-unit-requires
+crease-unit-requires c κs = search needs
 
 mul-row : tie.Need-mul-row
 mul-row c = search needs
@@ -33,19 +30,8 @@ unfolding unitIn
 returns c =
     let c2 = c .before .before in
     let c4 = c2 .before .before in
-    let c7 = c4 .before .before .before in
-    normal-made _ _ _ _ _ _ _ _ _ _ _ (c4 .before .crease-sum .ensures) (c4 .normalize .ensures) (c2 .load-unit .ensures) (c7 .pre .0 .units _ (c7 .pre .2)) (c .before .or-else .ensures) (c .or-else2 .ensures)
+    let c6 = c4 .before .before in
+    normal-made _ _ _ _ _ _ _ _ _ _ (c4 .crease-unit .ensures) (c2 .load-unit .ensures) (c6 .pre .0 .units _ (c6 .pre .3)) (c .before .or-else .ensures) (c .or-else2 .ensures)
 
 pub corner-normal-spec : {M : Type 1} → statement M
-corner-normal-spec =
-    tie.close
-    (tie.spec
-    crease-sum-requires
-    normalize-requires
-    mul-row
-    add-row
-    add-row-2
-    load-unit-requires
-    or-else-requires
-    or-else-requires-2
-    returns)
+corner-normal-spec = tie.close (tie.spec crease-unit-requires mul-row add-row add-row-2 load-unit-requires or-else-requires or-else-requires-2 returns)

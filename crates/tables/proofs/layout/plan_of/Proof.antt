@@ -35,8 +35,11 @@ mul-heads c = search needs
 add-heads : tie.Need-add-heads
 add-heads c = search needs
 
-add-t12 : tie.Need-add-t12
-add-t12 c = search needs
+add-nexts : tie.Need-add-nexts
+add-nexts c = search needs
+
+add-t13 : tie.Need-add-t13
+add-t13 c = search needs
 
 returns : tie.Need-returns
 unfolding planOf
@@ -56,5 +59,6 @@ plan-of-spec =
     add-rows
     mul-heads
     add-heads
-    add-t12
+    add-nexts
+    add-t13
     returns)

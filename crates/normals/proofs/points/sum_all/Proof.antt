@@ -5,8 +5,8 @@ use Rattle.mesh.specs.Normals.{sumAll}
 use Rattle.normals.specs.Rows.{normalIn}
 use Rattle.normals.proofs.Walks.{Left, left-start, left-step, left-end, all-one, all-none, next-gt, owner-lt}
 use borrow.Author.Needs.{needs}
-use Rattle.normals.proofs.sums.sum_all.Statement.{statement}
-use Rattle.normals.proofs.sums.sum_all.Tie as tie
+use Rattle.normals.proofs.points.sum_all.Statement.{statement}
+use Rattle.normals.proofs.points.sum_all.Tie as tie
 
 abbrev Inv-loop : tie.InvT-loop
 Inv-loop work t s₀ x₀ s x = Left sumAll work t s₀ (x₀ .0) s (x .0)

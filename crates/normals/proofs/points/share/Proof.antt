@@ -1,0 +1,33 @@
+use native.Mathlib.Omega.{arith}
+use Rattle.lists.proofs.Keep.{kept-all}
+use Rattle.normals.proofs.Summing.{sums-all, sums-own, sums-bound}
+use borrow.Author.Needs.{needs}
+use Rattle.normals.proofs.points.share.Statement.{statement}
+use Rattle.normals.proofs.points.share.Tie as tie
+
+enum-told : tie.Need-enum-told
+enum-told c = search needs
+
+returns : tie.Need-returns
+returns c = (kept-all, sums-own _ (c .enum-told .given .1))
+
+enum-told-2 : tie.Need-enum-told-2
+enum-told-2 c = search needs
+
+sum-points-requires : tie.Need-sum-points-requires
+sum-points-requires c κs = search needs
+
+same-length : tie.Need-same-length
+same-length c = search needs
+
+returns-2 : tie.Need-returns-2
+returns-2 c = (c .before .before .sum-points .ensures .0, sums-all (c .before .before .sum-points .ensures .0) (c .before .before .before .before .before .before .before .pre) _ _ (omega arith) (c .before .before .sum-points .ensures .1))
+
+enum-known-rule : tie.Need-enum-known-rule
+enum-known-rule c = search needs
+
+returns-3 : tie.Need-returns-3
+returns-3 c = (kept-all, sums-bound _ _ (c .before .rule .given .1))
+
+pub share-spec : {M : Type 1} → statement M
+share-spec = tie.close (tie.spec enum-told returns enum-told-2 sum-points-requires same-length returns-2 enum-known-rule returns-3)

@@ -1,0 +1,68 @@
+// FORMAT 10.2, generate_normals: what the corners that are gathered under one number share. The sum of every face depends on the number alone, so it is
+// made once for each: made for each corner, it would be a square where many corners meet.
+ghost use mathlib.Core.Path.{_≡_};
+ghost use Prim.Native.Nat.{_<_};
+ghost use Rattle.math.specs.Vector.{v3, zeroF};
+ghost use Rattle.lists.specs.Parts.{Kept};
+ghost use Rattle.mesh.specs.Normals.{sumAll};
+ghost use Rattle.normals.specs.Rows.{hitsAt, Ready, SummedTo, Summed};
+use crate::chains::first_at;
+use crate::chains::next_at;
+use crate::vectors::load;
+use crate::vectors::store_unit;
+use block::CreaseRule;
+use block::PointNumber;
+use math::V3;
+use tables::Plan;
+use tables::owner_of;
+
+// Every face at p, once for each use, from (0, 0, 0).
+fn sum_all(work: &[u32], t: Plan, p: PointNumber) -> V3
+    requires { ⌜ Ready (now work) t × (p .0 < t .spots) ⌝ }
+    ensures { λ r. ⌜ r ≡ sumAll (v3 zeroF zeroF zeroF) (hitsAt (now (work .entry)) t (p .0)) ⌝ }
+{
+    let mut s = V3 {
+        x: 0.0,
+        y: 0.0,
+        z: 0.0,
+    };
+    let mut x = first_at(work, t, p);
+    while x.0 < t.count {
+        let g = owner_of(work, t, x);
+        s = math::add(s, load(work, t.rows + 7 * g));
+        x = next_at(work, t, x);
+    }
+    s
+}
+
+// The unit vector of that sum, for each number.
+fn sum_points(work: &mut [u32], t: Plan)
+    requires { ⌜ Ready (now work) t ⌝ }
+    ensures { λ _. ⌜ Kept (t .sums) (now (work .entry)) (now (work .exit)) × SummedTo (now (work .entry)) (now (work .exit)) t (t .spots) ⌝ }
+{
+    let mut p = 0;
+    while p < t.spots {
+        let s = sum_all(work, t, PointNumber(p));
+        store_unit(work, t.sums + 4 * p, math::normalize(s));
+        p += 1;
+    }
+}
+
+// What the rule needs of each number: nothing but for the rule of every face.
+pub fn share(work: &mut [u32], t: Plan, rule: CreaseRule)
+    requires { ⌜ Ready (now work) t ⌝ }
+    ensures { λ _. ⌜ Kept (t .sums) (now (work .entry)) (now (work .exit)) × Summed (now (work .exit)) t rule ⌝ }
+{
+    match rule {
+        CreaseRule::Own => {
+            return;
+        }
+        CreaseRule::Every => {
+            sum_points(work, t);
+            return;
+        }
+        CreaseRule::Bound(_b) => {
+            return;
+        }
+    }
+}
