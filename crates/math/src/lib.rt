@@ -23,6 +23,7 @@ pub use vector::len;
 pub use vector::normalize;
 pub use vector::scale;
 pub use vector::sub;
+pub use vector::unit_by;
 pub use word::bits_of;
 pub use word::is_finite;
 pub use word::of_bits;

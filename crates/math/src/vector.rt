@@ -1,6 +1,6 @@
 // FORMAT 9.3: vectors of three f32, their length, and normalising.
 ghost use mathlib.Core.Path.{_≡_};
-ghost use Rattle.math.specs.Vector.{vadd, vsub, vscale, vdot, vcross, vlen, unitOf};
+ghost use Rattle.math.specs.Vector.{vadd, vsub, vscale, vdot, vcross, vlen, unitBy, unitOf};
 use crate::square_root::root;
 use crate::word::is_finite;
 
@@ -68,15 +68,20 @@ pub fn len(a: V3) -> f32
     root(dot(a, a))
 }
 
-// None for a vector whose length is not finite, or not above 1e-20.
-pub fn normalize(a: V3) -> Unit
-    ensures { λ r. ⌜ r ≡ unitOf a ⌝ }
+// The vector a, whose length is l, scaled to length 1: none where l is not finite, or not above 1e-20. For who needs the length too.
+pub fn unit_by(a: V3, l: f32) -> Unit
+    ensures { λ r. ⌜ r ≡ unitBy l a ⌝ }
 {
-    let l = len(a);
     if is_finite(l) {
         if l > 1e-20 {
             return Unit::Of(scale(a, 1.0 / l));
         }
     }
     Unit::Nothing
+}
+
+pub fn normalize(a: V3) -> Unit
+    ensures { λ r. ⌜ r ≡ unitOf a ⌝ }
+{
+    unit_by(a, len(a))
 }

@@ -1,20 +1,19 @@
 -- The pass over the vertices: start, one turn and end.
 use mathlib.Core.Path.{_≡_, refl, sym, ap, _∙_}
-use mathlib.Core.Bool.{Bool, true, false, _||_, cond, true≢false}
+use mathlib.Core.Bool.{Bool, true, false, cond, true≢false}
 use mathlib.Core.List.{List, [], _∷_, _++_, map}
-use Prim.Native.Nat.{ℕ, zero, suc, _+_, _*_, _≤_, _<_}
-use native.Mathlib.Numerals.{add-one}
+use Prim.Native.Nat.{ℕ, _+_, _*_, _≤_, _<_}
 use native.Mathlib.Omega.{arith}
-use lib.Dec.{ltb, eqb}
-use borrow.Author.Tests.{ltb-true, ltb-false, eqb-true, eqb-false}
+use lib.Dec.{ltb}
+use borrow.Author.Tests.{ltb-true, ltb-false}
 use lib.ListN.{length, getD, drop}
-use lib.Ieee.{binary32, sub, lt}
+use lib.Ieee.{Float, binary32, sub, lt}
 use lib.Seq.{sets, sets-eq}
 use Rattle.bits.specs.declared.Words3.{Words3}
 use Rattle.math.specs.declared.vector.V3.{V3}
 use Rattle.math.specs.declared.vector.Unit.{Unit}
 use Rattle.math.specs.declared.vector.Unit.the-variants.{Of, Nothing}
-use Rattle.math.specs.Vector.{yAxis, vlen, unitOf, oneF}
+use Rattle.math.specs.Vector.{yAxis, vlen, unitBy, unitOf, oneF}
 use Rattle.math.specs.Order.{magnitude}
 use Rattle.lists.specs.Loops.{tab}
 use Rattle.lists.proofs.Tabs.{length-tab, map-tab}
@@ -22,69 +21,50 @@ use Rattle.lists.specs.Lists.{mapN, flat}
 use Rattle.mesh.specs.Words.{words3, floats, bits, pointWords}
 use Rattle.mesh.specs.Mend.{visible, orWords, renorm, vertexSpot, firstNormal, mendBy, mended}
 use Rattle.mesh.specs.Mesh.{meshOf}
-use Rattle.lists.proofs.Lists.{All-of, length-words, length-mapN, or-right}
+use Rattle.lists.proofs.Lists.{All-of, length-words, length-mapN}
 use Rattle.lists.proofs.Totals.{mapN-tab}
-use Rattle.mending.specs.Mend.{lentFrame, lentKey, lentKeys, mendedWords, found, Firsts, isNone, badAt, anyBad, Served}
+use Rattle.mending.specs.Mend.{lentFrame, lentKey, lentKeys, mendedWords, found, Firsts, Served}
 use Rattle.mending.proofs.Threes.{Threes, threes-start, threes-go, threes-end}
 use Rattle.mending.proofs.Lent.{first-same, spot-in, spot-out}
 
--- ---- one vertex whose normal can be scaled: it is scaled where it is visibly off length 1, else kept
+-- ---- one vertex
 
-module _ (w : Words3) (n u other : V3) (en : n ≡ floats w) (eu : unitOf n ≡ Of u) where
-  scalable : mendBy (unitOf (floats w)) w other ≡ cond (lt visible (magnitude (sub binary32 (vlen n) oneF))) (bits u) w
-  unfolding mendBy renorm orWords
-  scalable =
-      ap (λ (q : V3). mendBy (unitOf q) w other) (sym en) ∙ ap (λ (q : Unit). mendBy q w other) eu
-      ∙ ap (λ (q : V3). cond (lt visible (magnitude (sub binary32 (vlen q) oneF))) (orWords (unitOf q) w) w) (sym en)
-      ∙ ap (λ (q : Unit). cond (lt visible (magnitude (sub binary32 (vlen n) oneF))) (orWords q w) w) eu
+-- whose normal can be scaled: it is scaled where it is visibly off length 1, else kept; l is its length
+pub mend-scaled : (w r : Words3) (n u other : V3) (l : Float) → n ≡ floats w → l ≡ vlen n → unitBy l n ≡ Of u
+    → r ≡ cond (lt visible (magnitude (sub binary32 l oneF))) (bits u) w → r ≡ mendBy (unitOf (floats w)) w other
+unfolding mendBy renorm orWords unitOf
+mend-scaled w r n u other l en el eu er =
+    let k : unitOf (floats w) ≡ Of u = ap unitOf (sym en) ∙ ap (λ (l : Float). unitBy l n) (sym el) ∙ eu in
+    let m : l ≡ vlen (floats w) = el ∙ ap vlen en in
+    er
+    ∙ ap (λ (l : Float). cond (lt visible (magnitude (sub binary32 l oneF))) (bits u) w) m
+    ∙ ap (λ (q : Unit). cond (lt visible (magnitude (sub binary32 (vlen (floats w)) oneF))) (orWords q w) w) (sym k)
+    ∙ ap (λ (q : Unit). mendBy q w other) (sym k)
 
-  pub mend-scaled : lt visible (magnitude (sub binary32 (vlen n) oneF)) ≡ true → mendBy (unitOf (floats w)) w other ≡ bits u
-  mend-scaled e = scalable ∙ ap (λ (b : Bool). cond b (bits u) w) e
+-- whose normal cannot: it is what the table has
+pub mend-found : (ps is t : List ℕ) (count v k : ℕ) (w r : Words3) (n o : V3) (l : Float) → n ≡ floats w → l ≡ vlen n → unitBy l n ≡ Nothing
+    → v < length t → Firsts (lentFrame ps) (lentKeys [] count) is t → k ≡ getD t v 0 → o ≡ found (lentFrame ps) (lentKeys [] count) is k yAxis → r ≡ bits o
+    → r ≡ mendBy (unitOf (floats w)) w (firstNormal (lentFrame ps) (lentKeys [] count) v is)
+unfolding mendBy unitOf Firsts
+mend-found ps is t count v k w r n o l en el eu h F ek eo er =
+    let z : unitOf (floats w) ≡ Nothing = ap unitOf (sym en) ∙ ap (λ (l : Float). unitBy l n) (sym el) ∙ eu in
+    er ∙ ap bits (eo ∙ ap (λ (k : ℕ). found (lentFrame ps) (lentKeys [] count) is k yAxis) ek ∙ F v h)
+    ∙ ap (λ (q : Unit). mendBy q w (firstNormal (lentFrame ps) (lentKeys [] count) v is)) (sym z)
 
-  pub mend-kept : lt visible (magnitude (sub binary32 (vlen n) oneF)) ≡ false → mendBy (unitOf (floats w)) w other ≡ w
-  mend-kept e = scalable ∙ ap (λ (b : Bool). cond b (bits u) w) e
+-- ---- the table
 
--- ---- what the table has to serve
+module _ (ps is : List ℕ) (count : ℕ) (t : List ℕ) where
+  pub none-made : Served false ps is count t
+  unfolding Served
+  none-made e = absurd (true≢false (sym e))
 
-module _ (ns : List ℕ) where
-  bad-none : (count v : ℕ) → anyBad ns count ≡ false → v < count → badAt ns v ≡ false
-  unfolding anyBad
-  bad-none zero v e h = let z : ⊥ = omega arith in absurd z
-  bad-none (suc count) v e h = go (λ a l. bad-none count v a l) (eqb v count) refl (anyBad ns count) refl (badAt ns count) refl e
-    where
-      go : (anyBad ns count ≡ false → v < count → badAt ns v ≡ false) → (q : Bool) → eqb v count ≡ q
-          → (a : Bool) → anyBad ns count ≡ a → (b : Bool) → badAt ns count ≡ b → (a || b) ≡ false → badAt ns v ≡ false
-      go f q p true ea b eb n = absurd (true≢false n)
-      go f q p false ea true eb n = absurd (true≢false n)
-      go f true p false ea false eb n = ap (badAt ns) (eqb-true v count p) ∙ eb
-      go f false p false ea false eb n = f ea (let d : v ≡ count → ⊥ = eqb-false v count p in omega arith)
+  pub all-made : Firsts (lentFrame ps) (lentKeys [] count) is t → Served true ps is count t
+  unfolding Served
+  all-made F e = F
 
-  pub bad-some : (count v : ℕ) → badAt ns v ≡ true → v < count → anyBad ns count ≡ true
-  unfolding anyBad
-  bad-some zero v e h = let z : ⊥ = omega arith in absurd z
-  bad-some (suc count) v e h = go (λ l. bad-some count v e l) (eqb v count) refl
-    where
-      go : (v < count → anyBad ns count ≡ true) → (q : Bool) → eqb v count ≡ q → (anyBad ns count || badAt ns count) ≡ true
-      go f true p = or-right (anyBad ns count) (badAt ns count) (ap (badAt ns) (sym (eqb-true v count p)) ∙ e)
-      go f false p = ap (λ (b : Bool). b || badAt ns count) (f (let d : v ≡ count → ⊥ = eqb-false v count p in omega arith))
-
-  pub bad-go : (v : ℕ) → anyBad ns v ≡ false → badAt ns v ≡ false → anyBad ns (v + 1) ≡ false
-  unfolding anyBad
-  bad-go v a b = ap (anyBad ns) (add-one v) ∙ (λ i. a i || b i)
-
-by-none : (q : Unit) (w : Words3) (a b : V3) → isNone q ≡ false → mendBy q w a ≡ mendBy q w b
-unfolding isNone mendBy
-by-none (Of u) w a b e = refl
-by-none Nothing w a b e = absurd (true≢false e)
-
-module _ (ps is ns : List ℕ) (count : ℕ) (t : List ℕ) where
-  pub none-served : anyBad ns count ≡ false → Served ps is ns count t
-  unfolding Served badAt
-  none-served e v h = by-none (unitOf (floats (pointWords ns v))) (pointWords ns v) _ _ (bad-none ns count v e h)
-
-  pub firsts-served : count ≤ length t → Firsts (lentFrame ps) (lentKeys [] count) is t → Served ps is ns count t
-  unfolding Served Firsts
-  firsts-served b Fs v h = ap (mendBy (unitOf (floats (pointWords ns v))) (pointWords ns v)) (Fs v (omega arith))
+  pub made-here : (made : Bool) → Served made ps is count t → made ≡ true → Firsts (lentFrame ps) (lentKeys [] count) is t
+  unfolding Served
+  made-here made S e = S e
 
 -- ---- all vertices
 
@@ -119,18 +99,16 @@ module _ (ps is ns₀ : List ℕ) (count : ℕ) where
   unfolding pointWords
   words-same ns v p = λ i. record { x = p (v * 3) (omega arith) i; y = p (v * 3 + 1) (omega arith) i; z = p (v * 3 + 2) (omega arith) i }
 
-  pub mending-go : (t ns ns′ : List ℕ) (v k : ℕ) (w r : Words3) → v < count → Served ps is ns₀ count t
-      → w ≡ pointWords ns v → k ≡ getD t v 0 → r ≡ mendBy (unitOf (floats w)) w (found (lentFrame ps) (lentKeys [] count) is k yAxis)
+  pub mending-go : (ns ns′ : List ℕ) (v : ℕ) (w r : Words3) → v < count
+      → w ≡ pointWords ns v → r ≡ mendBy (unitOf (floats w)) w (firstNormal (lentFrame ps) (lentKeys [] count) v is)
       → length ns′ ≡ length ns → ns′ ≡ sets ns (v * 3) (words3 r)
       → Mending ps is ns₀ count ns v → Mending ps is ns₀ count ns′ (v + 1)
-  unfolding Served mended lentKey
-  mending-go t ns ns′ v k w r h S ew ek er el es M =
+  unfolding mended lentKey
+  mending-go ns ns′ v w r h ew er el es M =
       let f : ℕ → Words3 = one ps is ns₀ count in
-      let other : V3 = found (lentFrame ps) (lentKeys [] count) is k yAxis in
       let e : r ≡ f v =
-      er ∙ ap (λ (m : Words3). mendBy (unitOf (floats m)) m other) (ew ∙ words-same ns v (λ j g. M .past j (omega arith)))
-      ∙ ap (λ (j : ℕ). mendBy (unitOf (floats (pointWords ns₀ v))) (pointWords ns₀ v) (found (lentFrame ps) (lentKeys [] count) is j yAxis)) ek
-      ∙ S v h ∙ ap (mendBy (unitOf (floats (pointWords ns₀ v))) (pointWords ns₀ v)) (first-lent v) in
+      er ∙ ap (λ (m : Words3). mendBy (unitOf (floats m)) m (firstNormal (lentFrame ps) (lentKeys [] count) v is)) (ew ∙ words-same ns v (λ j g. M .past j (omega arith)))
+      ∙ ap (mendBy (unitOf (floats (pointWords ns₀ v))) (pointWords ns₀ v)) (first-lent v) in
       let z : v * 3 ≡ 0 + v * 3 = omega arith in
       threes-go (λ v. words3 (f v)) (λ v. refl) 0 count ns₀ ns ns′ v h el (es ∙ (λ i. sets ns (z i) (words3 (e i)))) M
 

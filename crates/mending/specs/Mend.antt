@@ -1,6 +1,6 @@
 -- FORMAT 10.3, fix_zero_normals: what is lent to it, as a mesh; and how the first usable triangle of each vertex is held in a table.
 use mathlib.Core.Path.{_≡_}
-use mathlib.Core.Bool.{Bool, true, false, _||_, cond}
+use mathlib.Core.Bool.{Bool, true, cond}
 use mathlib.Core.List.{List, [], map}
 use Prim.Native.Nat.{ℕ, zero, suc, _+_, _*_, _<_}
 use lib.Dec.{eqb}
@@ -8,15 +8,15 @@ use lib.ListN.{length, getD, set}
 use Rattle.math.specs.declared.vector.V3.{V3}
 use Rattle.math.specs.declared.vector.Unit.{Unit}
 use Rattle.math.specs.declared.vector.Unit.the-variants.{Of, Nothing}
-use Rattle.math.specs.Vector.{yAxis, unitOf}
+use Rattle.math.specs.Vector.{yAxis}
 use Rattle.lists.specs.Loops.{tab}
 use Rattle.block.specs.declared.crease.CreaseRule.the-variants.{Own}
 use Rattle.lists.specs.Lists.{flat}
-use Rattle.mesh.specs.Words.{words3, floats, pointWords, no2, no4}
+use Rattle.mesh.specs.Words.{words3, pointWords, no2, no4}
 use Rattle.mesh.specs.Soup.{Frame}
 use Rattle.mesh.specs.Normals.{orElse}
 use Rattle.mesh.specs.Vertices.{Key}
-use Rattle.mesh.specs.Mend.{vertexSpot, triNormal, firstNormal, mendBy}
+use Rattle.mesh.specs.Mend.{vertexSpot, triNormal, firstNormal}
 use Rattle.mesh.specs.Mesh.{meshOf}
 
 -- FORMAT 10.3: the points are the positions lent, so that vertex v lies at point v
@@ -34,22 +34,6 @@ lentKeys normals count = tab (lentKey normals) count 0
 -- FORMAT 10.3, fix_zero_normals: the words of the normals of the mesh so lent
 unfoldable pub mendedWords : List ℕ → List ℕ → List ℕ → ℕ → List ℕ
 mendedWords positions indices normals count = flat (map words3 (meshOf (lentFrame positions) (lentKeys normals count) indices .normals))
-
--- ---- whether the pass over the triangles is needed
-
--- FORMAT 9.3, is_none
-unfoldable pub isNone : Unit → Bool
-isNone (Of u) = false
-isNone Nothing = true
-
--- FORMAT 10.3, fix_zero_normals (bad): of vertex v
-unfoldable pub badAt : List ℕ → ℕ → Bool
-badAt normals v = isNone (unitOf (floats (pointWords normals v)))
-
--- FORMAT 10.3, fix_zero_normals (any): of the first vertices
-unfoldable pub anyBad : List ℕ → ℕ → Bool
-anyBad normals zero = false
-anyBad normals (suc v) = anyBad normals v || badAt normals v
 
 -- ---- the table: at v 0, or one more than the number of the first triangle that has a usable normal and uses vertex v
 
@@ -88,11 +72,6 @@ Clear t = (v : ℕ) → v < length t → getD t v 0 ≡ 0
 unfoldable pub Firsts : Frame → List Key → List ℕ → List ℕ → Type 0
 Firsts F vs is t = (v : ℕ) → v < length t → found F vs is (getD t v 0) yAxis ≡ firstNormal F vs v is
 
--- FORMAT 10.3: what the table has for a vertex serves its normal as the first normal does
-unfoldable pub Served : List ℕ → List ℕ → List ℕ → ℕ → List ℕ → Type 0
-Served positions is normals count t =
-    let F = lentFrame positions in
-    let vs = lentKeys [] count in
-    (v : ℕ) → v < count
-    → mendBy (unitOf (floats (pointWords normals v))) (pointWords normals v) (found F vs is (getD t v 0) yAxis)
-    ≡ mendBy (unitOf (floats (pointWords normals v))) (pointWords normals v) (firstNormal F vs v is)
+-- FORMAT 10.3: where the table is made, it has the first usable triangle of each vertex
+unfoldable pub Served : Bool → List ℕ → List ℕ → ℕ → List ℕ → Type 0
+Served made positions is count t = made ≡ true → Firsts (lentFrame positions) (lentKeys [] count) is t

@@ -1,15 +1,17 @@
-// FORMAT 10.3, fix_zero_normals: where some normal cannot be scaled, a pass over the triangles notes the first usable one of each vertex; then one over the vertices.
+// FORMAT 10.3, fix_zero_normals: a pass over the vertices; at the first normal that cannot be scaled, a pass over the triangles notes the first usable one of
+// each vertex.
 ghost use mathlib.Core.Path.{_≡_};
+ghost use mathlib.Core.Bool.{cond};
 ghost use mathlib.Core.List.{[], _++_};
 ghost use Prim.Native.Nat.{_+_, _*_, _^_, _≤_, _<_};
 ghost use lib.ListN.{length, getD, drop};
 ghost use lib.Seq.{sets};
 ghost use lib.Ieee.{binary32, sub, lt};
-ghost use Rattle.math.specs.Vector.{oneF, yAxis, vlen, unitOf};
+ghost use Rattle.math.specs.Vector.{oneF, yAxis, unitOf};
 ghost use Rattle.math.specs.Order.{magnitude};
 ghost use Rattle.mesh.specs.Words.{words3, floats, bits, pointWords};
-ghost use Rattle.mesh.specs.Mend.{visible, vertexSpot, triNormal, mendBy};
-ghost use Rattle.mending.specs.Mend.{lentFrame, lentKeys, mendedWords, triangleNormal, found, marked, markedAll, noted, Clear, Firsts, isNone, anyBad, Served};
+ghost use Rattle.mesh.specs.Mend.{visible, vertexSpot, triNormal, firstNormal, mendBy};
+ghost use Rattle.mending.specs.Mend.{lentFrame, lentKeys, mendedWords, triangleNormal, found, marked, markedAll, noted, Clear, Firsts, Served};
 use crate::words::put_three;
 use bits::Words3;
 use block::VertexNumber;
@@ -150,41 +152,6 @@ fn first_normals(positions: &[u32], indices: &[u32], count: usize, table: &mut [
     }
 }
 
-// ---- whether it is needed
-
-fn is_bad(n: V3) -> bool
-    ensures { λ r. ⌜ r ≡ isNone (unitOf n) ⌝ }
-{
-    let Unit::Of(_u) = math::normalize(n) else {
-        return true;
-    };
-    false
-}
-
-fn is_any_bad(normals: &[u32], count: usize) -> bool
-    requires { ⌜ count ≤ 2 ^ 18 ⌝ }
-    ensures { λ r. ⌜ r ≡ anyBad (now (normals .entry)) count ⌝ }
-{
-    let mut v = 0;
-    while v < count {
-        if is_bad(floats_of(words_at(normals, VertexNumber(v)))) {
-            return true;
-        }
-        v += 1;
-    }
-    false
-}
-
-// The table, where some normal needs it.
-fn prepare(positions: &[u32], indices: &[u32], count: usize, normals: &[u32], table: &mut [u32])
-    requires { ⌜ (count ≤ 2 ^ 18) × (length (now indices) ≤ 3 * 2 ^ 18) × (count ≤ length (now table)) ⌝ }
-    ensures { λ _. ⌜ Served (now (positions .entry)) (now (indices .entry)) (now (normals .entry)) count (now (table .exit)) ⌝ }
-{
-    if is_any_bad(normals, count) {
-        first_normals(positions, indices, count, table);
-    }
-}
-
 // ---- one vertex
 
 fn straight_up() -> V3
@@ -212,47 +179,64 @@ fn found_at(positions: &[u32], indices: &[u32], count: usize, k: u32) -> V3
     u
 }
 
-fn is_off(n: V3) -> bool
-    ensures { λ r. ⌜ r ≡ lt visible (magnitude (sub binary32 (vlen n) oneF)) ⌝ }
+// The normal `w`, of length l and unit vector u: scaled where it is visibly off length 1, else kept word for word.
+fn scaled(w: Words3, u: V3, l: f32) -> Words3
+    ensures { λ r. ⌜ r ≡ cond (lt visible (magnitude (sub binary32 l oneF))) (bits u) w ⌝ }
 {
-    1e-5 < math::abs(math::len(n) - 1.0)
-}
-
-// The normal `w`, whose vertex has the entry `k` in the table; one that is kept stays word for word.
-fn mend_one(positions: &[u32], indices: &[u32], count: usize, w: Words3, k: u32) -> Words3
-    requires { ⌜ count ≤ 2 ^ 18 ⌝ }
-    ensures { λ r. ⌜ r ≡ mendBy (unitOf (floats w)) w (found (lentFrame (now (positions .entry))) (lentKeys [] count) (now (indices .entry)) k yAxis) ⌝ }
-{
-    let n = floats_of(w);
-    let Unit::Of(u) = math::normalize(n) else {
-        return words_of(found_at(positions, indices, count, k));
-    };
-    if is_off(n) {
+    if 1e-5 < math::abs(l - 1.0) {
         return words_of(u);
     }
     w
 }
 
-// ---- all of them
-
-fn mend_all(positions: &[u32], indices: &[u32], count: usize, table: &[u32], normals: &mut [u32])
-    requires { ⌜ (count ≤ 2 ^ 18) × (count ≤ length (now table)) × (3 * count ≤ length (now normals))
-        × Served (now positions) (now indices) (now normals) count (now table) ⌝ }
-    ensures { λ _. ⌜ now (normals .exit) ≡ mendedWords (now (positions .entry)) (now (indices .entry)) (now (normals .entry)) count ++ drop (3 * count) (now (normals .entry)) ⌝ }
+// The table is made when the first normal that cannot be scaled is met.
+fn make_table(positions: &[u32], indices: &[u32], count: usize, made: bool, table: &mut [u32])
+    requires { ⌜ (count ≤ 2 ^ 18) × (length (now indices) ≤ 3 * 2 ^ 18) × Served made (now positions) (now indices) count (now table) ⌝ }
+    ensures { λ _. ⌜ Firsts (lentFrame (now (positions .entry))) (lentKeys [] count) (now (indices .entry)) (now (table .exit)) ⌝ }
 {
-    let mut v = 0;
-    while v < count {
-        let w = mend_one(
-            positions,
-            indices,
-            count,
-            words_at(normals, VertexNumber(v)),
-            get(table, v),
-        );
-        put_words(normals, VertexNumber(v), w);
-        v += 1;
+    if made {
+        return;
+    }
+    first_normals(positions, indices, count, table);
+}
+
+// A normal after mending, and whether the table is made.
+struct Mended {
+    words: Words3,
+    made: bool,
+}
+
+// The normal `w` of vertex v, with one root.
+fn mend_one(
+    positions: &[u32],
+    indices: &[u32],
+    count: usize,
+    v: VertexNumber,
+    w: Words3,
+    made: bool,
+    table: &mut [u32],
+) -> Mended
+    requires { ⌜ (count ≤ 2 ^ 18) × (length (now indices) ≤ 3 * 2 ^ 18) × (v .0 < length (now table)) × Served made (now positions) (now indices) count (now table) ⌝ }
+    ensures { λ r. ⌜ (r .words ≡ mendBy (unitOf (floats w)) w (firstNormal (lentFrame (now (positions .entry))) (lentKeys [] count) (v .0) (now (indices .entry))))
+        × Served (r .made) (now (positions .entry)) (now (indices .entry)) count (now (table .exit)) ⌝ }
+{
+    let n = floats_of(w);
+    let l = math::len(n);
+    let Unit::Of(u) = math::unit_by(n, l) else {
+        make_table(positions, indices, count, made, table);
+        let k = get(table, v.0);
+        return Mended {
+            words: words_of(found_at(positions, indices, count, k)),
+            made: true,
+        };
+    };
+    Mended {
+        words: scaled(w, u, l),
+        made,
     }
 }
+
+// ---- all of them
 
 // The normals of `count` vertices, whose triangles are `indices` in threes. `table` is room to work in, a word for each vertex: 0, or one more than
 // the number of the first triangle that has a usable normal and uses the vertex.
@@ -266,6 +250,13 @@ pub fn fix_zero_normals(
     requires { ⌜ (count ≤ 2 ^ 18) × (length (now indices) ≤ 3 * 2 ^ 18) × (count ≤ length (now table)) × (3 * count ≤ length (now normals)) ⌝ }
     ensures { λ _. ⌜ now (normals .exit) ≡ mendedWords (now (positions .entry)) (now (indices .entry)) (now (normals .entry)) count ++ drop (3 * count) (now (normals .entry)) ⌝ }
 {
-    prepare(positions, indices, count, normals, table);
-    mend_all(positions, indices, count, table, normals);
+    let mut v = 0;
+    let mut made = false;
+    while v < count {
+        let w = words_at(normals, VertexNumber(v));
+        let r = mend_one(positions, indices, count, VertexNumber(v), w, made, table);
+        put_words(normals, VertexNumber(v), r.words);
+        made = r.made;
+        v += 1;
+    }
 }
