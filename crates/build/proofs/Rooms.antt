@@ -47,6 +47,7 @@ module _ (spots count faces : ℕ) (p : spots ≤ most) (c : count ≤ most) (f 
         places = omega arith;
         numbers = omega arith;
         textures = omega arith;
+        buckets = (omega arith, omega arith);
         heads = omega arith;
         nexts = omega arith;
       }

@@ -118,14 +118,14 @@ pub record Turned (L : Lent) (a : Attributes) (widths : Widths) (t : CornerTable
 
 -- the same of whatever words w were w₁ once their heads were cleared
 abbrev pub Turning : Lent → Attributes → Widths → CornerTables → Store → List ℕ → List ℕ → ℕ → ℕ → Store → List ℕ → List ℕ → Type 0
-Turning L a widths t z x₀ w₁ c n s x m = (w : List ℕ) → Filled (t .heads) (t .spots) 0 w w₁ → Ready L widths w t z x₀ → Turned L a widths t z x₀ w c n s x m
+Turning L a widths t z x₀ w₁ c n s x m = (w : List ℕ) → Filled (t .heads) (t .buckets) 0 w w₁ → Ready L widths w t z x₀ → Turned L a widths t z x₀ w c n s x m
 
 module _ {t : CornerTables} {len : ℕ} (Q : Laid t len) where
   order : t .named ≤ t .heads
   order = omega arith
 
   chains-laid : places.Laid (chainsOf t) len (t .count)
-  chains-laid = record { some = Q .some; points = omega arith; heads = Q .heads; nexts = Q .nexts }
+  chains-laid = record { some = Q .some; points = omega arith; buckets = Q .buckets; heads = Q .heads; nexts = Q .nexts }
 
 module _ {L : Lent} {a : Attributes} {widths : Widths} {t : CornerTables} {z : Store} {x₀ : List ℕ} where
   -- the heads are cleared

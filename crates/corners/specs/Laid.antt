@@ -1,14 +1,15 @@
 -- FORMAT 4: where the tables of the corners stand while vertices are made.
-use Prim.Native.Nat.{ℕ, _+_, _*_, _≤_}
+use Prim.Native.Nat.{ℕ, _+_, _*_, _/_, _≤_, _<_}
 use Rattle.tables.specs.Layout.{most}
 use Rattle.tables.specs.declared.layout.Plan.{Plan}
 use Rattle.vertices.specs.declared.places.Chains.{Chains}
 use Rattle.corners.specs.declared.laid.CornerTables.{CornerTables}
 
--- vertex numbers, places, face numbers, texture, heads and nexts, one after another; `numbers` is where the face numbers start
+-- vertex numbers, places, face numbers, texture, heads and nexts, one after another; `numbers` is where the face numbers start; a bucket for each three corners
 unfoldable pub tablesAt : ℕ → ℕ → ℕ → ℕ → ℕ → ℕ → ℕ → CornerTables
 tablesAt count points spots corners named places numbers =
     let textures = numbers + count in
+    let buckets = count / 3 + 1 in
     let heads = textures + 2 * count in
     record {
       count = count;
@@ -19,8 +20,9 @@ tablesAt count points spots corners named places numbers =
       places = places;
       numbers = numbers;
       textures = textures;
+      buckets = buckets;
       heads = heads;
-      nexts = heads + spots;
+      nexts = heads + buckets;
     }
 
 -- where a plan has them; the face numbers stand where the owners stood
@@ -37,9 +39,10 @@ pub record Laid (t : CornerTables) (len : ℕ) : Type 0 where
   pub places : t .places + t .count ≤ t .numbers
   pub numbers : t .numbers + t .count ≤ t .textures
   pub textures : t .textures + 2 * t .count ≤ t .heads
-  pub heads : t .heads + t .spots ≤ t .nexts
+  pub buckets : (0 < t .buckets) × (t .buckets ≤ most)
+  pub heads : t .heads + t .buckets ≤ t .nexts
   pub nexts : t .nexts + t .count ≤ len
 
 -- the chains of vertices
 abbrev pub chainsOf : CornerTables → Chains
-chainsOf t = record { points = t .points; spots = t .spots; heads = t .heads; nexts = t .nexts }
+chainsOf t = record { points = t .points; spots = t .spots; buckets = t .buckets; heads = t .heads; nexts = t .nexts }

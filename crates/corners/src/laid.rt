@@ -4,7 +4,7 @@ ghost use Prim.Native.Nat.{_≤_, _^_};
 ghost use Rattle.tables.specs.Layout.{most};
 ghost use Rattle.corners.specs.Laid.{tablesAt};
 
-// Of each of `count` corners: its point, its vertex number, its place, its face's number, and its two words of texture. Then the chains of vertices by point.
+// Of each of `count` corners: its point, its vertex number, its place, its face's number, and its two words of texture. Then the chains of vertices by bucket.
 pub struct CornerTables {
     pub count: usize,
     pub points: usize,
@@ -14,11 +14,13 @@ pub struct CornerTables {
     pub places: usize,
     pub numbers: usize,
     pub textures: usize,
+    pub buckets: usize,
     pub heads: usize,
     pub nexts: usize,
 }
 
-// The tables from the face numbers on stand one after another; those before are where a shape has put them.
+// The tables from the face numbers on stand one after another; those before are where a shape has put them. There is a
+// bucket for each three corners: the words that are lent (FORMAT 4) have room for that many, however many faces there are.
 pub fn corner_tables(
     count: usize,
     points: usize,
@@ -32,6 +34,7 @@ pub fn corner_tables(
     ensures { λ r. ⌜ r ≡ tablesAt count points spots corners named places numbers ⌝ }
 {
     let textures = numbers + count;
+    let buckets = count / 3 + 1;
     let heads = textures + 2 * count;
     CornerTables {
         count,
@@ -42,7 +45,8 @@ pub fn corner_tables(
         places,
         numbers,
         textures,
+        buckets,
         heads,
-        nexts: heads + spots,
+        nexts: heads + buckets,
     }
 }

@@ -42,6 +42,7 @@ fn number_corner(
     let chains = Chains {
         points: t.points,
         spots: t.spots,
+        buckets: t.buckets,
         heads: t.heads,
         nexts: t.nexts,
     };
@@ -85,7 +86,7 @@ pub fn all_vertices<'a>(
         (record { sources = now (sources .entry); normals = now (normals .entry); colours = now (colours .entry); textures = now (textures .entry) }) (now (positions .entry)) (now (work .entry))
         (record { sources = now (sources .exit); normals = now (normals .exit); colours = now (colours .exit); textures = now (textures .exit) }) (now (positions .exit)) (now (work .exit)) (r .0) ⌝ }
 {
-    fill(work, t.heads, t.spots, 0);
+    fill(work, t.heads, t.buckets, 0);
     let mut n = VertexNumber(0);
     let mut c = CornerNumber(0);
     while c.0 < t.count {

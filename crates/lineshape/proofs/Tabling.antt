@@ -27,6 +27,7 @@ module _ (p : ℕ) (es : List ℕ) (few : p ≤ most) where
         places = omega arith;
         numbers = omega arith;
         textures = omega arith;
+        buckets = (omega arith, omega arith);
         heads = omega arith;
         nexts = omega arith;
       }

@@ -18,10 +18,11 @@ use Rattle.vertices.specs.declared.places.Chains.{Chains}
 use Rattle.vertices.specs.declared.search.Known.{Known}
 use Rattle.vertices.specs.declared.search.Known.the-variants.{At, Nowhere}
 use Rattle.vertices.specs.Places.{Store, Laid}
-use Rattle.vertices.specs.Search.{knownBy, seek, keyAt, placeOf, lastAt, Chained}
+use Rattle.vertices.specs.Hash.{bucketOf}
+use Rattle.vertices.specs.Search.{knownBy, seek, keyAt, placeOf, bucketAt, lastAt, Chained}
 use Rattle.vertices.specs.Adding.{linked}
 use Rattle.vertices.proofs.Seek.{cases, upTo, found, passed, seek-none, seek-le, seek-hit, seek-cong, seek-skip}
-use Rattle.vertices.proofs.Keys.{other-point}
+use Rattle.vertices.proofs.Keys.{other-by}
 
 -- ---- the words of a chain
 
@@ -36,7 +37,7 @@ known-next n = rw (add-one)
 pub known-at : (word x : ℕ) → x ≡ word → 0 < word → At (record { 0 = x - 1 }) ≡ knownBy word
 known-at word x e h = let q : x - 1 + 1 ≡ word = omega arith in rw (← q) (sym (known-next (x - 1)))
 
--- ---- the vertex of a key, and the last of a point
+-- ---- the vertex of a key, and the last in a bucket
 
 module _ (w : Widths) (s : Store) (k : Key) where
   place-none : placeOf w s 0 k ≡ Nowhere
@@ -51,28 +52,30 @@ module _ (w : Widths) (s : Store) (k : Key) where
   unfolding placeOf
   place-no i e = passed (λ i. sameKey k (keyAt w s i)) i e
 
-  -- only the vertices at the key's point count
-  place-skip : (n : ℕ) → placeOf w s n k ≡ placeOf w s (upTo (lastAt (s .sources) n (k .point))) k
-  unfolding placeOf lastAt
-  place-skip n = seek-skip (λ i. sameKey k (keyAt w s i)) (λ i. eqb (k .point) (getD (s .sources) i 0)) (other-point w s k) n
+  -- only the vertices in the key's bucket count
+  place-skip : (t : Chains) (n : ℕ) → placeOf w s n k ≡ placeOf w s (upTo (lastAt (bucketAt w t s) n (bucketOf w (t .buckets) k))) k
+  unfolding placeOf lastAt bucketAt
+  place-skip t n =
+      seek-skip (λ i. sameKey k (keyAt w s i)) (λ i. eqb (bucketOf w (t .buckets) k) (bucketOf w (t .buckets) (keyAt w s i)))
+      (λ i. other-by (bucketOf w (t .buckets)) k (keyAt w s i)) n
 
-last-le : (s : List ℕ) (n v : ℕ) → upTo (lastAt s n v) ≤ n
+last-le : (f : ℕ → ℕ) (n b : ℕ) → upTo (lastAt f n b) ≤ n
 unfolding lastAt
-last-le s n v = seek-le (λ i. eqb v (getD s i 0)) n
+last-le f n b = seek-le (λ i. eqb b (f i)) n
 
-last-is : (s : List ℕ) (n v : ℕ) (i : VertexNumber) → lastAt s n v ≡ At i → getD s (i .0) 0 ≡ v
+last-is : (f : ℕ → ℕ) (n b : ℕ) (i : VertexNumber) → lastAt f n b ≡ At i → f (i .0) ≡ b
 unfolding lastAt
-last-is s n v i e = sym (eqb-true v _ (seek-hit (λ i. eqb v (getD s i 0)) n i e))
+last-is f n b i e = sym (eqb-true b _ (seek-hit (λ i. eqb b (f i)) n i e))
 
 -- ---- the search
 
--- x is where the search along the chain of v has come to: of the n vertices none that was left counts
-pub record Met (w : Widths) (s : Store) (k : Key) (v n : ℕ) (x : Known) : Type 0 where
+-- x is where the search along the chain of the key's bucket has come to: of the n vertices none that was left counts
+pub record Met (w : Widths) (t : Chains) (s : Store) (k : Key) (n : ℕ) (x : Known) : Type 0 where
   pub le : upTo x ≤ n
   pub same : placeOf w s n k ≡ placeOf w s (upTo x) k
-  pub here : (i : VertexNumber) → x ≡ At i → getD (s .sources) (i .0) 0 ≡ v
+  pub here : (i : VertexNumber) → x ≡ At i → bucketAt w t s (i .0) ≡ bucketOf w (t .buckets) k
 
-module _ {w : Widths} {s : Store} {k : Key} {v n : ℕ} {x : Known} (M : Met w s k v n x) where
+module _ {w : Widths} {t : Chains} {s : Store} {k : Key} {n : ℕ} {x : Known} (M : Met w t s k n x) where
   -- the end of the chain
   pub met-end : x ≡ Nowhere → Nowhere ≡ placeOf w s n k
   unfolding upTo
@@ -90,92 +93,86 @@ module _ {w : Widths} {s : Store} {k : Key} {v n : ℕ} {x : Known} (M : Met w s
     pub met-found : sameKey k (keyAt w s (i .0)) ≡ true → At i ≡ placeOf w s n k
     met-found h = sym (met-here ∙ place-yes w s k i h)
 
-module _ (w : Widths) (s : Store) (k : Key) (v : ℕ) (at : k .point ≡ v) (t : Chains) (m : List ℕ) (n : ℕ) (c : Chained t (s .sources) m n) where
-  met-last : (j : ℕ) (x : Known) → x ≡ lastAt (s .sources) j v → Met w s k v j x
+module _ (w : Widths) (s : Store) (k : Key) (t : Chains) (m : List ℕ) (n : ℕ) (c : Chained t (bucketAt w t s) m n) where
+  met-last : (j : ℕ) (x : Known) → x ≡ lastAt (bucketAt w t s) j (bucketOf w (t .buckets) k) → Met w t s k j x
   met-last j x e =
-      rw e (record {
-        le = last-le (s .sources) j v;
-        same = place-skip w s k j ∙ ap (λ (u : ℕ). placeOf w s (upTo (lastAt (s .sources) j u)) k) at;
-        here = last-is (s .sources) j v;
-      })
+      let b = bucketOf w (t .buckets) k in
+      rw e (record { le = last-le (bucketAt w t s) j b; same = place-skip w s k t j; here = last-is (bucketAt w t s) j b })
 
-  pub met-start : (x : Known) → x ≡ knownBy (getD m (t .heads + v) 0) → v < t .spots → Met w s k v n x
-  met-start x e h = met-last n x (e ∙ c .heads v h)
+  pub met-start : (x : Known) (b : ℕ) → x ≡ knownBy (getD m (t .heads + b) 0) → b ≡ bucketOf w (t .buckets) k → b < t .buckets → Met w t s k n x
+  met-start x b e q h = met-last n x (e ∙ c .heads b h ∙ ap (lastAt (bucketAt w t s) n) q)
 
-  pub met-step : (x y : Known) (i : VertexNumber) → y ≡ knownBy (getD m (t .nexts + i .0) 0) → Met w s k v n x → x ≡ At i → sameKey k (keyAt w s (i .0)) ≡ false
-      → (upTo y < upTo x) × Met w s k v n y
+  pub met-step : (x y : Known) (i : VertexNumber) → y ≡ knownBy (getD m (t .nexts + i .0) 0) → Met w t s k n x → x ≡ At i → sameKey k (keyAt w s (i .0)) ≡ false
+      → (upTo y < upTo x) × Met w t s k n y
   unfolding upTo
   met-step x y i q r h e =
       let l : i .0 < n = met-below r i h in
-      let g = met-last (i .0) y (q ∙ c .nexts (i .0) l ∙ ap (λ (u : ℕ). lastAt (s .sources) (i .0) u) (r .here i h)) in
+      let g = met-last (i .0) y (q ∙ c .nexts (i .0) l ∙ ap (lastAt (bucketAt w t s) (i .0)) (r .here i h)) in
       let b : upTo y ≤ i .0 = g .le in
       (rw h (omega arith), record { le = omega arith; same = met-here r i h ∙ place-no w s k (i .0) e ∙ g .same; here = g .here })
 
 -- ---- one vertex more
 
--- what is last among the first j vertices does not see a store at n
-last-set : (s : List ℕ) (n j a u : ℕ) → j ≤ n → lastAt (set s n a) j u ≡ lastAt s j u
-unfolding lastAt
-last-set s n j a u h =
-    seek-cong (λ i. eqb u (getD (set s n a) i 0)) (λ i. eqb u (getD s i 0)) j
-    (λ i l. ap (λ (y : ℕ). eqb u y) (getD-set-other s n i a 0 (λ e. let z : i < n = omega arith in omega arith)))
-
-last-new : (s : List ℕ) (n v : ℕ) → n < length s → lastAt (set s n v) (n + 1) v ≡ At (record { 0 = n })
-unfolding lastAt seek
-last-new s n v h = rw (add-one, getD-set-same s n v 0 h, eq-eqb v v refl)
-
-last-other : (s : List ℕ) (n v u : ℕ) → n < length s → (u ≡ v → ⊥) → lastAt (set s n v) (n + 1) u ≡ lastAt (set s n v) n u
-unfolding lastAt seek
-last-other s n v u h d = rw (add-one, getD-set-same s n v 0 h, ne-eqb u v d)
-
 lt-of : (i n : ℕ) → i < n + 1 → (i ≡ n → ⊥) → i < n
 lt-of i n h d = omega arith
 
-pub chain-grow : (t : Chains) (s m : List ℕ) (n v : ℕ) → Chained t s m n → Laid t (length m) (n + 1) → v < t .spots → n < length s
-    → Chained t (set s n v) (linked t m n v) (n + 1)
-unfolding linked
-chain-grow t s m n v c L hv hn = record { heads = heads; nexts = nexts }
-  where
-    old : ℕ
-    old = getD m (t .heads + v) 0
+-- vertex n in bucket b; those before it are in the buckets they were in
+module _ (f g : ℕ → ℕ) (n b : ℕ) (old : (i : ℕ) → i < n → g i ≡ f i) (new : g n ≡ b) where
+  last-old : (j u : ℕ) → j ≤ n → lastAt g j u ≡ lastAt f j u
+  unfolding lastAt
+  last-old j u h = seek-cong (λ i. eqb u (g i)) (λ i. eqb u (f i)) j (λ i l. ap (eqb u) (old i (omega arith)))
 
-    m1 : List ℕ
-    m1 = set m (t .nexts + n) old
+  last-new : lastAt g (n + 1) b ≡ At (record { 0 = n })
+  unfolding lastAt seek
+  last-new = rw (add-one, new, eq-eqb b b refl)
 
-    heads : (u : ℕ) → u < t .spots → knownBy (getD (set m1 (t .heads + v) (n + 1)) (t .heads + u) 0) ≡ lastAt (set s n v) (n + 1) u
-    heads u hu =
-        ⊎-elim
-        (λ e. let q : u ≡ v = eqb-true u v e in
-        rw q (ap knownBy (getD-set-same m1 (t .heads + v) (n + 1) 0 (rw length-set (omega (arith, L)))) ∙ known-next n ∙ sym (last-new s n v hn)))
-        (λ e. let d : u ≡ v → ⊥ = eqb-false u v e in
-        ap knownBy (getD-set-other m1 (t .heads + v) (t .heads + u) (n + 1) 0 (λ q. d (omega arith))
-        ∙ getD-set-other m (t .nexts + n) (t .heads + u) old 0 (λ q. omega (arith, L)))
-        ∙ c .heads u hu
-        ∙ sym (last-other s n v u hn d ∙ last-set s n n v u (omega arith)))
-        (cases (eqb u v))
+  last-other : (u : ℕ) → (u ≡ b → ⊥) → lastAt g (n + 1) u ≡ lastAt g n u
+  unfolding lastAt seek
+  last-other u d = rw (add-one, new, ne-eqb u b d)
 
-    nexts : (i : ℕ) → i < n + 1 → knownBy (getD (set m1 (t .heads + v) (n + 1)) (t .nexts + i) 0) ≡ lastAt (set s n v) i (getD (set s n v) i 0)
-    nexts i hi =
-        ap knownBy (getD-set-other m1 (t .heads + v) (t .nexts + i) (n + 1) 0 (λ q. omega (arith, L)))
-        ∙ ⊎-elim
-        (λ e. let q : i ≡ n = eqb-true i n e in
-        rw q (ap knownBy (getD-set-same m (t .nexts + n) old 0 (omega (arith, L)))
-        ∙ c .heads v hv
-        ∙ sym (ap (λ (u : ℕ). lastAt (set s n v) n u) (getD-set-same s n v 0 hn) ∙ last-set s n n v v (omega arith))))
-        (λ e. let d : i ≡ n → ⊥ = eqb-false i n e in
-        ap knownBy (getD-set-other m (t .nexts + n) (t .nexts + i) old 0 (λ q. d (omega arith)))
-        ∙ c .nexts i (lt-of i n hi d)
-        ∙ sym (ap (λ (u : ℕ). lastAt (set s n v) i u) (getD-set-other s n i v 0 d) ∙ last-set s n i v (getD s i 0) (omega arith)))
-        (cases (eqb i n))
+  pub chain-grow : (t : Chains) (m : List ℕ) → Chained t f m n → Laid t (length m) (n + 1) → b < t .buckets → Chained t g (linked t m n b) (n + 1)
+  unfolding linked
+  chain-grow t m c L hb = record { heads = heads; nexts = nexts }
+    where
+      was : ℕ
+      was = getD m (t .heads + b) 0
+
+      m1 : List ℕ
+      m1 = set m (t .nexts + n) was
+
+      heads : (u : ℕ) → u < t .buckets → knownBy (getD (set m1 (t .heads + b) (n + 1)) (t .heads + u) 0) ≡ lastAt g (n + 1) u
+      heads u hu =
+          ⊎-elim
+          (λ e. let q : u ≡ b = eqb-true u b e in
+          rw q (ap knownBy (getD-set-same m1 (t .heads + b) (n + 1) 0 (rw length-set (omega (arith, L)))) ∙ known-next n ∙ sym last-new))
+          (λ e. let d : u ≡ b → ⊥ = eqb-false u b e in
+          ap knownBy (getD-set-other m1 (t .heads + b) (t .heads + u) (n + 1) 0 (λ q. d (omega arith))
+          ∙ getD-set-other m (t .nexts + n) (t .heads + u) was 0 (λ q. omega (arith, L)))
+          ∙ c .heads u hu
+          ∙ sym (last-other u d ∙ last-old n u (omega arith)))
+          (cases (eqb u b))
+
+      nexts : (i : ℕ) → i < n + 1 → knownBy (getD (set m1 (t .heads + b) (n + 1)) (t .nexts + i) 0) ≡ lastAt g i (g i)
+      nexts i hi =
+          ap knownBy (getD-set-other m1 (t .heads + b) (t .nexts + i) (n + 1) 0 (λ q. omega (arith, L)))
+          ∙ ⊎-elim
+          (λ e. let q : i ≡ n = eqb-true i n e in
+          rw q (ap knownBy (getD-set-same m (t .nexts + n) was 0 (omega (arith, L))) ∙ c .heads b hb ∙ sym (ap (lastAt g n) new ∙ last-old n b (omega arith))))
+          (λ e. let d : i ≡ n → ⊥ = eqb-false i n e in
+          let l : i < n = lt-of i n hi d in
+          ap knownBy (getD-set-other m (t .nexts + n) (t .nexts + i) was 0 (λ q. d (omega arith)))
+          ∙ c .nexts i l
+          ∙ sym (ap (lastAt g i) (old i l) ∙ last-old i (f i) (omega arith)))
+          (cases (eqb i n))
 
 -- the heads of no vertex are zeros
-pub chained-none : (t : Chains) (s m : List ℕ) → ((v : ℕ) → v < t .spots → getD m (t .heads + v) 0 ≡ 0) → Chained t s m 0
+pub chained-none : (t : Chains) (f : ℕ → ℕ) (m : List ℕ) → ((b : ℕ) → b < t .buckets → getD m (t .heads + b) 0 ≡ 0) → Chained t f m 0
 unfolding knownBy lastAt seek
-chained-none t s m h = record { heads = λ v b. ap knownBy (h v b); nexts = λ i e. absurd (not-suc-le-zero e) }
+chained-none t f m h = record { heads = λ b l. ap knownBy (h b l); nexts = λ i e. absurd (not-suc-le-zero e) }
 
 -- words below the heads may be written
-pub chained-set : (t : Chains) (s m : List ℕ) (n i a : ℕ) → Chained t s m n → i < t .heads → t .heads ≤ t .nexts → Chained t s (set m i a) n
-chained-set t s m n i a c h l =
+pub chained-set : (t : Chains) (f : ℕ → ℕ) (m : List ℕ) (n i a : ℕ) → Chained t f m n → i < t .heads → t .heads ≤ t .nexts → Chained t f (set m i a) n
+chained-set t f m n i a c h l =
     record {
       heads = λ v b. ap knownBy (getD-set-other m i (t .heads + v) a 0 (λ q. omega arith)) ∙ c .heads v b;
       nexts = λ j b. ap knownBy (getD-set-other m i (t .nexts + j) a 0 (λ q. omega arith)) ∙ c .nexts j b;

@@ -8,7 +8,7 @@ use native.Mathlib.Numerals.{add-one}
 use native.Mathlib.Omega.{arith}
 use borrow.Author.Tests.{eq-eqb, ne-eqb}
 use lib.Dec.{T}
-use lib.ListN.{length, getD, set, take, drop, length-append, length-set}
+use lib.ListN.{length, getD, set, take, drop, length-append, length-set, List·getD-append}
 use lib.Seq.{sets, getD-append-seam, take-set-le}
 use Rattle.block.specs.declared.number.VertexNumber.{VertexNumber}
 use Rattle.lists.specs.Lists.{has, place, meet, firsts}
@@ -21,10 +21,11 @@ use Rattle.vertices.specs.declared.search.Known.{Known}
 use Rattle.vertices.specs.declared.search.Known.the-variants.{At, Nowhere}
 use Rattle.lists.specs.Parts.{seg}
 use Rattle.vertices.specs.Places.{Store, Roomy, Laid, Room}
-use Rattle.vertices.specs.Search.{two, three, four, keyAt, cornerKey, placeOf, Chained}
-use Rattle.vertices.specs.Adding.{linked, Appended, positionOf, normalOf, colourOf, textureOf, trimmed, Holds, pointsIn, countAfter, Vertexed}
+use Rattle.vertices.specs.Search.{two, three, four, keyAt, cornerKey, placeOf, bucketAt, Chained}
+use Rattle.vertices.specs.Hash.{normalOf, colourOf, textureOf, bucketOf}
+use Rattle.vertices.specs.Adding.{linked, Appended, positionOf, trimmed, Holds, pointsIn, countAfter, Held, Vertexed}
 use Rattle.vertices.proofs.Seek.{upTo, seek-le, seek-hit, seek-absent}
-use Rattle.vertices.proofs.Keys.{corner-normal, corner-colour, corner-texture, corner-trim}
+use Rattle.vertices.proofs.Keys.{corner-point, corner-normal, corner-colour, corner-texture, corner-trim}
 use Rattle.vertices.proofs.Chains.{chain-grow}
 use Rattle.vertices.proofs.Rows.{row-at, row-grow, source-at, source-grow, position-wide, normal-wide, colour-wide, texture-wide, point-words}
 
@@ -100,56 +101,52 @@ count-more n = sym (ap (λ (b : Bool). cond b (suc n) n) (eq-eqb n n refl) ∙ s
 
 -- ---- the two ways of a corner
 
-linked-front : (t : Chains) (m : List ℕ) (n v : ℕ) → t .heads ≤ t .nexts → take (t .heads) (linked t m n v) ≡ take (t .heads) m
+linked-front : (t : Chains) (m : List ℕ) (n b : ℕ) → t .heads ≤ t .nexts → take (t .heads) (linked t m n b) ≡ take (t .heads) m
 unfolding linked
-linked-front t m n v h =
-    let old = getD m (t .heads + v) 0 in
-    take-set-le (t .heads) (set m (t .nexts + n) old) (t .heads + v) (n + 1) (omega arith) ∙ take-set-le (t .heads) m (t .nexts + n) old (omega arith)
+linked-front t m n b h =
+    let old = getD m (t .heads + b) 0 in
+    take-set-le (t .heads) (set m (t .nexts + n) old) (t .heads + b) (n + 1) (omega arith) ∙ take-set-le (t .heads) m (t .nexts + n) old (omega arith)
 
-linked-length : (t : Chains) (m : List ℕ) (n v : ℕ) → length (linked t m n v) ≡ length m
+linked-length : (t : Chains) (m : List ℕ) (n b : ℕ) → length (linked t m n b) ≡ length m
 unfolding linked
-linked-length t m n v =
-    let old = getD m (t .heads + v) 0 in
-    length-set (set m (t .nexts + n) old) (t .heads + v) (n + 1) ∙ length-set m (t .nexts + n) old
+linked-length t m n b =
+    let old = getD m (t .heads + b) 0 in
+    length-set (set m (t .nexts + n) old) (t .heads + b) (n + 1) ∙ length-set m (t .nexts + n) old
 
 pub laid-le : {t : Chains} {len n : ℕ} (m : ℕ) → Laid t len n → m ≤ n → Laid t len m
-laid-le {t} {len} {n} m L h = record { some = L .some; points = L .points; heads = L .heads; nexts = omega (arith, L .nexts) }
+laid-le {t} {len} {n} m L h = record { some = L .some; points = L .points; buckets = L .buckets; heads = L .heads; nexts = omega (arith, L .nexts) }
 
 pub vertexed-old : (w : Widths) (t : Chains) (n : ℕ) (k : Key) (s : Store) (x m : List ℕ) (i : VertexNumber) → Roomy w s (n + 1)
-    → Chained t (s .sources) m n → placeOf w s n k ≡ At i → Vertexed w t n k s x m s x m (i .0)
+    → Chained t (bucketAt w t s) m n → placeOf w s n k ≡ At i → Vertexed w t n k s x m s x m (i .0)
 vertexed-old w t n k s x m i R C f =
     record {
       number = λ z x₀ ks H e. let a = held-old w (pointsIn t m) z x₀ s x ks H (R .widths) k n e i f in
           sym (ap (place sameKey k) (meet-old sameKey k ks (a .0)) ∙ a .1);
       holds = λ z x₀ ks H e. let a = held-old w (pointsIn t m) z x₀ s x ks H (R .widths) k n e i f in
           subst (Holds w (pointsIn t m) z x₀ s x) (sym (meet-old sameKey k ks (a .0))) H;
-      chained = subst (Chained t (s .sources) m) (count-same n (i .0) (place-below w s n k i f)) C;
+      chained = subst (Chained t (bucketAt w t s) m) (count-same n (i .0) (place-below w s n k i f)) C;
       front = refl;
       len = refl;
     }
 
-module _ (w : Widths) (t : Chains) (n v : ℕ) (l : List ℕ) (s : Store) (x m : List ℕ) (s′ : Store) (x′ m′ : List ℕ) (R : Room w t s x m (n + 1)) (b : v < t .spots) (g : 9 ≤ length l)
-    (A : Appended w t n v l s x m s′ x′ m′) where
+module _ (w : Widths) (t : Chains) (n v b : ℕ) (l : List ℕ) (s : Store) (x m : List ℕ) (s′ : Store) (x′ m′ : List ℕ) (R : Room w t s x m (n + 1)) (p : v < t .spots) (g : 9 ≤ length l)
+    (A : Appended w t n v b l s x m s′ x′ m′) where
   k : Key
   k = cornerKey w v l
 
   W : (w .normal ≤ 3) × (w .colour ≤ 4) × (w .texture ≤ 2)
   W = R .roomy .widths
 
-  at : k .point ≡ v
-  unfolding k cornerKey
-  at = refl
-
   position : seg m (t .points + 3 * v) 3 ≡ positionOf (pointsIn t m) k
   unfolding positionOf pointsIn k cornerKey
-  position = let L = R .laid in point-words m (t .points) (t .spots) v b (omega arith)
+  position = let L = R .laid in point-words m (t .points) (t .spots) v p (omega arith)
 
   held-grow : (z : Store) (x₀ : List ℕ) (ks : List Key) → Holds w (pointsIn t m) z x₀ s x ks → length ks ≡ n → Own (ks ++ (k ∷ []))
       → Holds w (pointsIn t m) z x₀ s′ x′ (ks ++ (k ∷ []))
   unfolding k
   held-grow z x₀ ks H e D =
       record {
-        sources = A .sources ∙ ap (set (s .sources) n) (sym at) ∙ source-grow (z .sources) (s .sources) ks k n e (H .sources) (omega (arith, R .roomy .sources));
+        sources = A .sources ∙ ap (set (s .sources) n) (sym (corner-point w v l)) ∙ source-grow (z .sources) (s .sources) ks k n e (H .sources) (omega (arith, R .roomy .sources));
         positions = A .positions ∙ ap (sets x (3 * n)) position ∙ row-grow (positionOf (pointsIn t m)) 3 (position-wide (pointsIn t m)) x₀ x ks k n e (H .positions) (R .positions);
         normals = A .normals ∙ ap (sets (s .normals) (w .normal * n)) (sym (corner-normal w v l W g))
             ∙ row-grow (normalOf w) (w .normal) (normal-wide w (W .0)) (z .normals) (s .normals) ks k n e (H .normals) (R .roomy .normals);
@@ -161,15 +158,43 @@ module _ (w : Widths) (t : Chains) (n v : ℕ) (l : List ℕ) (s : Store) (x m :
         distinct = D;
       }
 
-  pub vertexed-new : Chained t (s .sources) m n → placeOf w s n (cornerKey w v l) ≡ Nowhere → Vertexed w t n (cornerKey w v l) s x m s′ x′ m′ n
-  unfolding k
-  vertexed-new C f =
-      let L = R .laid in
-      record {
-        number = λ z x₀ ks H e. sym (place-new ks k (H .distinct) (held-new w (pointsIn t m) z x₀ s x ks H W k n e f) ∙ e);
-        holds = λ z x₀ ks H e. let a = meet-new sameKey k ks (held-new w (pointsIn t m) z x₀ s x ks H W k n e f) in
-            subst (Holds w (pointsIn t m) z x₀ s′ x′) (sym a) (held-grow z x₀ ks H e (subst Own a (own-meet ks k (H .distinct))));
-        chained = rw (A .sources, A .table, ← count-more n) (chain-grow t (s .sources) m n v C L b (omega (arith, R .roomy .sources)));
-        front = ap (take (t .heads)) (A .table) ∙ linked-front t m n v (omega arith);
-        len = ap length (A .table) ∙ linked-length t m n v;
-      }
+  -- where the key is new
+  module _ (f : placeOf w s n (cornerKey w v l) ≡ Nowhere) where
+    met-new : (z : Store) (x₀ : List ℕ) (ks : List Key) → Holds w (pointsIn t m) z x₀ s x ks → length ks ≡ n → meet sameKey ks k ≡ ks ++ (k ∷ [])
+    unfolding k
+    met-new z x₀ ks H e = meet-new sameKey k ks (held-new w (pointsIn t m) z x₀ s x ks H W k n e f)
+
+    grown : (z : Store) (x₀ : List ℕ) (ks : List Key) → Holds w (pointsIn t m) z x₀ s x ks → length ks ≡ n → Holds w (pointsIn t m) z x₀ s′ x′ (ks ++ (k ∷ []))
+    grown z x₀ ks H e = held-grow z x₀ ks H e (subst Own (met-new z x₀ ks H e) (own-meet ks k (H .distinct)))
+
+    -- the new vertex has the key, and those before it have theirs
+    module _ (H : Held w (pointsIn t m) s x n) where
+      key-grown : (i : ℕ) → i < n + 1 → keyAt w s′ i ≡ getD (H .keys ++ (k ∷ [])) i k
+      key-grown i h =
+          held-key w (pointsIn t m) (H .beyond) (H .after) s′ x′ (H .keys ++ (k ∷ [])) (grown (H .beyond) (H .after) (H .keys) (H .holds) (H .count)) W i k
+          (omega (arith, length-append (H .keys) (k ∷ []), H .count))
+
+      bucket-old : (i : ℕ) → i < n → bucketAt w t s′ i ≡ bucketAt w t s i
+      unfolding bucketAt
+      bucket-old i h =
+          let a : i < length (H .keys) = omega (arith, H .count) in
+          ap (bucketOf w (t .buckets)) (key-grown i (omega arith) ∙ List·getD-append (H .keys) (k ∷ []) k i a
+          ∙ sym (held-key w (pointsIn t m) (H .beyond) (H .after) s x (H .keys) (H .holds) W i k a))
+
+      bucket-new : b ≡ bucketOf w (t .buckets) (cornerKey w v l) → bucketAt w t s′ n ≡ b
+      unfolding bucketAt k
+      bucket-new q =
+          ap (bucketOf w (t .buckets)) (key-grown n (omega arith) ∙ ap (λ (i : ℕ). getD (H .keys ++ (k ∷ [])) i k) (sym (H .count)) ∙ getD-append-seam (H .keys) k [] k) ∙ sym q
+
+      pub vertexed-new : Chained t (bucketAt w t s) m n → b ≡ bucketOf w (t .buckets) (cornerKey w v l) → b < t .buckets
+          → Vertexed w t n (cornerKey w v l) s x m s′ x′ m′ n
+      unfolding k
+      vertexed-new C q h =
+          let L = R .laid in
+          record {
+            number = λ z x₀ ks H e. sym (place-new ks k (H .distinct) (held-new w (pointsIn t m) z x₀ s x ks H W k n e f) ∙ e);
+            holds = λ z x₀ ks H e. subst (Holds w (pointsIn t m) z x₀ s′ x′) (sym (met-new z x₀ ks H e)) (grown z x₀ ks H e);
+            chained = rw (A .table, ← count-more n) (chain-grow (bucketAt w t s) (bucketAt w t s′) n b bucket-old (bucket-new q) t m C L h);
+            front = ap (take (t .heads)) (A .table) ∙ linked-front t m n b (omega arith);
+            len = ap length (A .table) ∙ linked-length t m n b;
+          }

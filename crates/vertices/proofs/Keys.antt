@@ -1,12 +1,13 @@
 -- The keys that the slices hold: compared row by row, and read back from their rows.
-use mathlib.Core.Path.{_≡_, sym, ap, _∙_}
+use mathlib.Core.Path.{_≡_, refl, sym, ap, _∙_, subst}
 use mathlib.Core.Bool.{Bool, false, _&&_}
 use mathlib.Core.Logic.{_⊎_, ⊎-elim}
 use mathlib.Core.List.{List, _++_}
 use Prim.Native.Nat.{ℕ, _+_, _*_, _≤_}
 use native.Mathlib.Nat.{le-trans, mul-le-mul-left}
 use native.Mathlib.Omega.{arith}
-use lib.Dec.{eqb}
+use borrow.Author.Tests.{eqb-false}
+use lib.Dec.{T, eqb}
 use lib.ListN.{length, getD, take}
 use lib.Seq.{take-append-le}
 use Rattle.lists.specs.Lists.{sameWords}
@@ -16,7 +17,10 @@ use Rattle.vertices.specs.declared.places.Widths.{Widths}
 use Rattle.lists.specs.Parts.{seg}
 use Rattle.vertices.specs.Places.{Store, Roomy}
 use Rattle.vertices.specs.Search.{two, three, four, keyAt, cornerKey}
-use Rattle.vertices.specs.Adding.{normalOf, colourOf, textureOf, trimmed}
+use Rattle.vertices.specs.Hash.{normalOf, colourOf, textureOf}
+use Rattle.vertices.specs.Adding.{trimmed}
+use Rattle.mesh.proofs.Keys.{sameKey-sound}
+use Rattle.vertices.proofs.Seek.{cases}
 use Rattle.vertices.proofs.Words.{length-seg, row-fits, front, front-take, front-same}
 
 pub roomy-le : {w : Widths} {s : Store} {n : ℕ} (m : ℕ) → Roomy w s n → m ≤ n → Roomy w s m
@@ -49,12 +53,16 @@ module _ (w : Widths) (s : Store) (i v : ℕ) (l : List ℕ) (r : Roomy w s (i +
       let c = same-rows 2 (w .texture) l (s .textures) 7 (w .texture * i) (omega (arith, r .widths)) (le-trans (row-fits (w .texture) i (i + 1) (omega arith)) (r .textures)) (r .widths .2) in
       ap (λ (x : Bool). eqb v (getD (s .sources) i 0) && x) (λ j. a j && (b j && c j))
 
--- a vertex at another point has another key
-pub other-point : (w : Widths) (s : Store) (k : Key) (j : ℕ) → eqb (k .point) (getD (s .sources) j 0) ≡ false → sameKey k (keyAt w s j) ≡ false
-unfolding sameKey keyAt
-other-point w s k j e = rw e
+-- two keys that a function tells apart are not the same
+pub other-by : (f : Key → ℕ) (k j : Key) → eqb (f k) (f j) ≡ false → sameKey k j ≡ false
+other-by f k j e =
+    ⊎-elim (λ t. absurd (eqb-false (f k) (f j) e (ap f (sameKey-sound k j (subst T (sym t) tt))))) (λ t. t) (cases (sameKey k j))
 
 -- ---- the rows of a corner's key are its words
+
+pub corner-point : (w : Widths) (v : ℕ) (l : List ℕ) → cornerKey w v l .point ≡ v
+unfolding cornerKey
+corner-point w v l = refl
 
 module _ (w : Widths) (v : ℕ) (l : List ℕ) (d : (w .normal ≤ 3) × (w .colour ≤ 4) × (w .texture ≤ 2)) (h : 9 ≤ length l) where
   read-back : (n u at : ℕ) → at + u ≤ length l → u ≤ n → take u (front n (λ (k : ℕ). getD (seg l at u) k 0)) ≡ seg l at u

@@ -2,6 +2,7 @@
 mod Words
 mod Seek
 pub mod Keys
+mod Buckets
 mod Chains
 mod Rows
 mod Held

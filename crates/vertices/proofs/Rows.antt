@@ -12,7 +12,8 @@ use Rattle.mesh.specs.Vertices.{Key}
 use Rattle.lists.proofs.Lists.{All-of, All-of-map, middle, length-flat, in-flat}
 use Rattle.vertices.specs.declared.places.Widths.{Widths}
 use Rattle.lists.specs.Parts.{seg}
-use Rattle.vertices.specs.Adding.{positionOf, normalOf, colourOf, textureOf}
+use Rattle.vertices.specs.Hash.{normalOf, colourOf, textureOf}
+use Rattle.vertices.specs.Adding.{positionOf}
 
 -- ---- rows of n words, one for each key
 

@@ -13,7 +13,8 @@ use Rattle.mesh.specs.Mesh.{meshOf, slicesOf}
 use Rattle.lists.proofs.Lists.{All-of, map-All}
 use Rattle.vertices.specs.declared.places.Widths.{Widths}
 use Rattle.vertices.specs.Places.{Store}
-use Rattle.vertices.specs.Adding.{positionOf, normalOf, colourOf, textureOf, Holds}
+use Rattle.vertices.specs.Hash.{normalOf, colourOf, textureOf}
+use Rattle.vertices.specs.Adding.{positionOf, Holds}
 
 -- rows of nothing
 flat-none : (ks : List Key) (g : Key → List ℕ) → ((k : Key) → g k ≡ []) → flat (map g ks) ≡ []

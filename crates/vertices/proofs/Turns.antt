@@ -19,8 +19,9 @@ use Rattle.vertices.specs.declared.places.Widths.{Widths}
 use Rattle.vertices.specs.declared.places.Chains.{Chains}
 use Rattle.lists.specs.Parts.{seg}
 use Rattle.vertices.specs.Places.{Store, Roomy, Laid}
-use Rattle.vertices.specs.Search.{Chained}
-use Rattle.vertices.specs.Adding.{positionOf, normalOf, colourOf, textureOf, Holds, madeOf, pointsIn, countAfter, Ready, Vertexed}
+use Rattle.vertices.specs.Search.{bucketAt, Chained}
+use Rattle.vertices.specs.Hash.{normalOf, colourOf, textureOf}
+use Rattle.vertices.specs.Adding.{positionOf, Holds, madeOf, pointsIn, countAfter, Ready, Vertexed}
 use Rattle.vertices.proofs.Seek.{cases}
 use Rattle.vertices.proofs.Keys.{roomy-le}
 use Rattle.vertices.proofs.Chains.{chained-none, chained-set}
@@ -86,7 +87,7 @@ meet-count ks k D =
 pub record Made (w : Widths) (t : Chains) (pts : List ℕ) (f : ℕ → Key) (z : Store) (x₀ : List ℕ) (size c n : ℕ) (s : Store) (x m : List ℕ) : Type 0 where
   pub count : length (madeOf f c) ≡ n
   pub holds : Holds w pts z x₀ s x (madeOf f c)
-  pub chained : Chained t (s .sources) m n
+  pub chained : Chained t (bucketAt w t s) m n
   pub points : pointsIn t m ≡ pts
   pub len : length m ≡ size
 
@@ -113,13 +114,13 @@ module _ (w : Widths) (t : Chains) (pts : List ℕ) (f : ℕ → Key) (z : Store
       }
 
   -- before the first corner the heads are zeros
-  pub made-start : (m : List ℕ) → pointsIn t m ≡ pts → length m ≡ size → ((v : ℕ) → v < t .spots → getD m (t .heads + v) 0 ≡ 0)
+  pub made-start : (m : List ℕ) → pointsIn t m ≡ pts → length m ≡ size → ((b : ℕ) → b < t .buckets → getD m (t .heads + b) 0 ≡ 0)
       → Made w t pts f z x₀ size 0 0 z x₀ m
   made-start m p q h =
       record {
         count = ap length (made-none f);
         holds = subst (Holds w pts z x₀ z x₀) (sym (made-none f)) holds-none;
-        chained = chained-none t (z .sources) m h;
+        chained = chained-none t (bucketAt w t z) m h;
         points = p;
         len = q;
       }
@@ -152,7 +153,7 @@ module _ (w : Widths) (t : Chains) (pts : List ℕ) (f : ℕ → Key) (z : Store
           record {
             count = M .count;
             holds = M .holds;
-            chained = chained-set t (s .sources) m n i a (M .chained) h (omega arith);
+            chained = chained-set t (bucketAt w t s) m n i a (M .chained) h (omega arith);
             points = middle (t .points) (3 * t .spots) i (set m i a) m p (take-set-le i m i a (omega arith)) ∙ M .points;
             len = length-set m i a ∙ M .len;
           }

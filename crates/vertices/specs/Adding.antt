@@ -8,39 +8,31 @@ use lib.ListN.{length, getD, set, take, drop}
 use lib.Seq.{sets}
 use Rattle.lists.specs.Loops.{tab, All}
 use Rattle.lists.specs.Lists.{place, meet, firsts, flat}
-use Rattle.mesh.specs.Words.{words2, words3, words4, pointWords}
+use Rattle.mesh.specs.Words.{words3, pointWords}
 use Rattle.mesh.specs.Vertices.{Key, sameKey}
 use Rattle.vertices.specs.declared.places.Widths.{Widths}
 use Rattle.vertices.specs.declared.places.Chains.{Chains}
 use Rattle.lists.specs.Parts.{seg}
 use Rattle.vertices.specs.Places.{Store, Room}
-use Rattle.vertices.specs.Search.{two, three, four, Chained}
+use Rattle.vertices.specs.Hash.{normalOf, colourOf, textureOf}
+use Rattle.vertices.specs.Search.{two, three, four, bucketAt, Chained}
 
--- the table with vertex n last in the chain of point v
+-- the table with vertex n last in the chain of bucket b
 unfoldable pub linked : Chains → List ℕ → ℕ → ℕ → List ℕ
-linked t m n v = set (set m (t .nexts + n) (getD m (t .heads + v) 0)) (t .heads + v) (n + 1)
+linked t m n b = set (set m (t .nexts + n) (getD m (t .heads + b) 0)) (t .heads + b) (n + 1)
 
--- one row more in each slice: vertex n, of point v, with the nine words l of a corner
-pub record Appended (w : Widths) (t : Chains) (n v : ℕ) (l : List ℕ) (s : Store) (x m : List ℕ) (s′ : Store) (x′ m′ : List ℕ) : Type 0 where
+-- one row more in each slice: vertex n, of point v, in bucket b, with the nine words l of a corner
+pub record Appended (w : Widths) (t : Chains) (n v b : ℕ) (l : List ℕ) (s : Store) (x m : List ℕ) (s′ : Store) (x′ m′ : List ℕ) : Type 0 where
   pub sources : s′ .sources ≡ set (s .sources) n v
   pub positions : x′ ≡ sets x (3 * n) (seg m (t .points + 3 * v) 3)
   pub normals : s′ .normals ≡ sets (s .normals) (w .normal * n) (seg l 0 (w .normal))
   pub colours : s′ .colours ≡ sets (s .colours) (w .colour * n) (seg l 3 (w .colour))
   pub textures : s′ .textures ≡ sets (s .textures) (w .texture * n) (seg l 7 (w .texture))
-  pub table : m′ ≡ linked t m n v
+  pub table : m′ ≡ linked t m n b
 
--- FORMAT 5: the words of a vertex in each slice
+-- FORMAT 5: the words of a vertex among the positions
 unfoldable pub positionOf : List ℕ → Key → List ℕ
 positionOf pts k = words3 (pointWords pts (k .point))
-
-unfoldable pub normalOf : Widths → Key → List ℕ
-normalOf w k = take (w .normal) (words3 (k .normal))
-
-unfoldable pub colourOf : Widths → Key → List ℕ
-colourOf w k = take (w .colour) (words4 (k .colour))
-
-unfoldable pub textureOf : Widths → Key → List ℕ
-textureOf w k = take (w .texture) (words2 (k .texture))
 
 -- FORMAT 11: a key with zeros for the attributes that are not made
 unfoldable pub trimmed : Widths → Key → Key
@@ -80,7 +72,7 @@ pub record Held (w : Widths) (pts : List ℕ) (s : Store) (x : List ℕ) (n : �
 pub record Ready (w : Widths) (t : Chains) (s : Store) (x m : List ℕ) (n v : ℕ) (l : List ℕ) : Type 0 where
   pub room : Room w t s x m (n + 1)
   pub held : Held w (pointsIn t m) s x n
-  pub chained : Chained t (s .sources) m n
+  pub chained : Chained t (bucketAt w t s) m n
   pub point : v < t .spots
   pub words : 9 ≤ length l
 
@@ -90,6 +82,6 @@ pub record Vertexed (w : Widths) (t : Chains) (n : ℕ) (k : Key) (s : Store) (x
   pub number : (z : Store) (x₀ : List ℕ) (ks : List Key) → Holds w (pointsIn t m) z x₀ s x ks → length ks ≡ n → r ≡ place sameKey k (meet sameKey ks k)
   pub holds : (z : Store) (x₀ : List ℕ) (ks : List Key) → Holds w (pointsIn t m) z x₀ s x ks → length ks ≡ n
       → Holds w (pointsIn t m) z x₀ s′ x′ (meet sameKey ks k)
-  pub chained : Chained t (s′ .sources) m′ (countAfter n r)
+  pub chained : Chained t (bucketAt w t s′) m′ (countAfter n r)
   pub front : take (t .heads) m′ ≡ take (t .heads) m
   pub len : length m′ ≡ length m

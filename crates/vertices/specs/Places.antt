@@ -1,6 +1,6 @@
 -- FORMAT 4, 5: room for vertices in the output slices and for the tables of the search.
 use mathlib.Core.List.{List}
-use Prim.Native.Nat.{ℕ, _+_, _*_, _≤_}
+use Prim.Native.Nat.{ℕ, _+_, _*_, _≤_, _<_}
 use lib.ListN.{length}
 use Rattle.tables.specs.Layout.{most}
 use Rattle.vertices.specs.declared.places.Widths.{Widths}
@@ -22,11 +22,12 @@ pub record Roomy (w : Widths) (s : Store) (n : ℕ) : Type 0 where
   pub colours : w .colour * n ≤ length (s .colours)
   pub textures : w .texture * n ≤ length (s .textures)
 
--- in a working slice of len words the points' words stand before the heads, these before the nexts, and there are nexts for n vertices
+-- in a working slice of len words the points' words stand before the heads, one for each bucket, these before the nexts, and there are nexts for n vertices
 pub record Laid (t : Chains) (len n : ℕ) : Type 0 where
   pub some : t .spots ≤ most
   pub points : t .points + 3 * t .spots ≤ t .heads
-  pub heads : t .heads + t .spots ≤ t .nexts
+  pub buckets : (0 < t .buckets) × (t .buckets ≤ most)
+  pub heads : t .heads + t .buckets ≤ t .nexts
   pub nexts : t .nexts + n ≤ len
 
 -- room for n vertices in all slices: x holds the positions, m the tables

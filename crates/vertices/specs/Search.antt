@@ -15,6 +15,7 @@ use Rattle.vertices.specs.declared.search.Known.{Known}
 use Rattle.vertices.specs.declared.search.Known.the-variants.{At, Nowhere}
 use Rattle.lists.specs.Parts.{seg}
 use Rattle.vertices.specs.Places.{Store}
+use Rattle.vertices.specs.Hash.{bucketOf}
 
 -- FORMAT 11, PolyMesh::build (key): the words of a row, and zeros where the row has none
 abbrev pub two : List ℕ → Words2
@@ -55,11 +56,15 @@ seek p (suc n) = let r = seek p n in cond (p n) (At (record { 0 = n })) r
 unfoldable pub placeOf : Widths → Store → ℕ → Key → Known
 placeOf w s n k = seek (λ i. sameKey k (keyAt w s i)) n
 
--- the last of the first n vertices that is made of point v; s the sources
-unfoldable pub lastAt : List ℕ → ℕ → ℕ → Known
-lastAt s n v = seek (λ i. eqb v (getD s i 0)) n
+-- the bucket of vertex i
+unfoldable pub bucketAt : Widths → Chains → Store → ℕ → ℕ
+bucketAt w t s i = bucketOf w (t .buckets) (keyAt w s i)
 
--- of each point the last of the n vertices made of it, and of each vertex the last before it of the same point
-pub record Chained (t : Chains) (s m : List ℕ) (n : ℕ) : Type 0 where
-  pub heads : (v : ℕ) → v < t .spots → knownBy (getD m (t .heads + v) 0) ≡ lastAt s n v
-  pub nexts : (i : ℕ) → i < n → knownBy (getD m (t .nexts + i) 0) ≡ lastAt s i (getD s i 0)
+-- the last of the first n vertices that is in bucket b, where vertex i is in bucket f i
+unfoldable pub lastAt : (ℕ → ℕ) → ℕ → ℕ → Known
+lastAt f n b = seek (λ i. eqb b (f i)) n
+
+-- of each bucket the last of the n vertices in it, and of each vertex the last before it in the same bucket
+pub record Chained (t : Chains) (f : ℕ → ℕ) (m : List ℕ) (n : ℕ) : Type 0 where
+  pub heads : (b : ℕ) → b < t .buckets → knownBy (getD m (t .heads + b) 0) ≡ lastAt f n b
+  pub nexts : (i : ℕ) → i < n → knownBy (getD m (t .nexts + i) 0) ≡ lastAt f i (f i)

@@ -6,7 +6,9 @@ ghost use Rattle.vertices.specs.Places.{Laid, Room};
 ghost use Rattle.tables.specs.Layout.{most};
 ghost use Rattle.vertices.specs.Search.{cornerKey};
 ghost use Rattle.vertices.specs.Adding.{linked, Appended, Ready, Vertexed, countAfter};
+use crate::hash::bucket_of;
 use crate::parts::put_row;
+use crate::places::Bucket;
 use crate::places::Chains;
 use crate::places::Widths;
 use crate::search::Known;
@@ -16,18 +18,18 @@ use block::PointNumber;
 use block::VertexNumber;
 use tables::narrow;
 
-// Vertex n is the last of the chain of point v.
-pub fn link(work: &mut [u32], t: Chains, n: VertexNumber, v: PointNumber)
-    requires { ⌜ Laid t (length (now work)) (n .0 + 1) × (v .0 < t .spots) × (n .0 < most) ⌝ }
-    ensures { λ _. ⌜ now (work .exit) ≡ linked t (now (work .entry)) (n .0) (v .0) ⌝ }
+// Vertex n is the last of the chain of a bucket.
+pub fn link(work: &mut [u32], t: Chains, n: VertexNumber, bucket: Bucket)
+    requires { ⌜ Laid t (length (now work)) (n .0 + 1) × (bucket .0 < t .buckets) × (n .0 < most) ⌝ }
+    ensures { λ _. ⌜ now (work .exit) ≡ linked t (now (work .entry)) (n .0) (bucket .0) ⌝ }
 {
-    let head = t.heads + v.0;
+    let head = t.heads + bucket.0;
     let next = t.nexts + n.0;
     work[next] = work[head];
     work[head] = word_of(n);
 }
 
-// Vertex n is made: of point v, with the words key of a corner.
+// Vertex n is made: of point v, with the words key of a corner, in a bucket.
 pub fn append(
     sources: &mut [u32],
     positions: &mut [u32],
@@ -39,11 +41,12 @@ pub fn append(
     t: Chains,
     n: VertexNumber,
     v: PointNumber,
+    bucket: Bucket,
     key: &[u32],
 )
     requires { ⌜ Room w t (record { sources = now sources; normals = now normals; colours = now colours; textures = now textures }) (now positions) (now work) (n .0 + 1)
-        × (v .0 < t .spots) × (9 ≤ length (now key)) ⌝ }
-    ensures { λ _. ⌜ Appended w t (n .0) (v .0) (now (key .entry))
+        × (v .0 < t .spots) × (bucket .0 < t .buckets) × (9 ≤ length (now key)) ⌝ }
+    ensures { λ _. ⌜ Appended w t (n .0) (v .0) (bucket .0) (now (key .entry))
         (record { sources = now (sources .entry); normals = now (normals .entry); colours = now (colours .entry); textures = now (textures .entry) }) (now (positions .entry)) (now (work .entry))
         (record { sources = now (sources .exit); normals = now (normals .exit); colours = now (colours .exit); textures = now (textures .exit) }) (now (positions .exit)) (now (work .exit)) ⌝ }
 {
@@ -54,7 +57,7 @@ pub fn append(
     put_row(colours, w.colour, i, key, 3);
     put_row(textures, w.texture, i, key, 7);
     sources[i] = narrow(v.0);
-    link(work, t, n, v);
+    link(work, t, n, bucket);
 }
 
 // The number of the vertex of a corner: the one made before with its point and words, or a new one, the n-th (PolyMesh::build, or_insert_with).
@@ -76,6 +79,7 @@ pub fn vertex(
         (record { sources = now (sources .entry); normals = now (normals .entry); colours = now (colours .entry); textures = now (textures .entry) }) (now (positions .entry)) (now (work .entry))
         (record { sources = now (sources .exit); normals = now (normals .exit); colours = now (colours .exit); textures = now (textures .exit) }) (now (positions .exit)) (now (work .exit)) (r .0) ⌝ }
 {
+    let bucket = bucket_of(w, t.buckets, point, key);
     let known = find(
         sources,
         normals,
@@ -84,6 +88,7 @@ pub fn vertex(
         w,
         n,
         point,
+        bucket,
         key,
         work,
         t,
@@ -102,6 +107,7 @@ pub fn vertex(
         t,
         n,
         point,
+        bucket,
         key,
     );
     n

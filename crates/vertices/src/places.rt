@@ -7,10 +7,15 @@ pub struct Widths {
     pub texture: usize,
 }
 
-// In the working slice: where the words of the points stand, how many points there are, and where the chains' heads and nexts stand.
+// In the working slice: where the words of the points stand, how many points there are, into how many buckets vertices are put,
+// and where the chains' heads stand, one for each bucket, and the nexts, one for each vertex.
 pub struct Chains {
     pub points: usize,
     pub spots: usize,
+    pub buckets: usize,
     pub heads: usize,
     pub nexts: usize,
 }
+
+// The number of a bucket, which is none of the three of FORMAT 11.
+pub struct Bucket(pub usize);

@@ -5,8 +5,10 @@ ghost use lib.ListN.{length};
 ghost use Rattle.mesh.specs.Vertices.{sameKey};
 ghost use Rattle.tables.specs.Layout.{most};
 ghost use Rattle.vertices.specs.Places.{Roomy, Laid};
-ghost use Rattle.vertices.specs.Search.{knownBy, keyAt, cornerKey, placeOf, Chained};
+ghost use Rattle.vertices.specs.Hash.{bucketOf};
+ghost use Rattle.vertices.specs.Search.{knownBy, keyAt, cornerKey, placeOf, bucketAt, Chained};
 use crate::parts::same_row;
+use crate::places::Bucket;
 use crate::places::Chains;
 use crate::places::Widths;
 use block::PointNumber;
@@ -66,8 +68,8 @@ pub fn same_vertex(
     same_row(key, 7, textures, w.texture, k)
 }
 
-// The vertex among the first n that has the point v and the words key. Only the chain of the vertices at v is looked at:
-// the last of them is in its head, the one before vertex i in the next of i.
+// The vertex among the first n that has the point v and the words key. Only the chain of the vertices in the key's bucket is
+// looked at: the last of them is in its head, the one before vertex i in the next of i.
 pub fn find(
     sources: &[u32],
     normals: &[u32],
@@ -76,16 +78,19 @@ pub fn find(
     w: Widths,
     n: VertexNumber,
     v: PointNumber,
+    bucket: Bucket,
     key: &[u32],
     work: &[u32],
     t: Chains,
 ) -> Known
     requires { ⌜ Roomy w (record { sources = now sources; normals = now normals; colours = now colours; textures = now textures }) (n .0)
-        × (9 ≤ length (now key)) × Laid t (length (now work)) (n .0) × Chained t (now sources) (now work) (n .0) × (v .0 < t .spots) ⌝ }
+        × (9 ≤ length (now key)) × Laid t (length (now work)) (n .0)
+        × Chained t (bucketAt w t (record { sources = now sources; normals = now normals; colours = now colours; textures = now textures })) (now work) (n .0)
+        × (bucket .0 ≡ bucketOf w (t .buckets) (cornerKey w (v .0) (now key))) × (bucket .0 < t .buckets) ⌝ }
     ensures { λ r. ⌜ r ≡ placeOf w (record { sources = now (sources .entry); normals = now (normals .entry); colours = now (colours .entry); textures = now (textures .entry) }) (n .0)
         (cornerKey w (v .0) (now (key .entry))) ⌝ }
 {
-    let mut x = known_by(work[t.heads + v.0]);
+    let mut x = known_by(work[t.heads + bucket.0]);
     while let Known::At(i) = x {
         if same_vertex(sources, normals, colours, textures, w, i, v, key) {
             return x;

@@ -11,15 +11,18 @@ add-textures c = search needs
 mul-heads : tie.Need-mul-heads
 mul-heads c = search needs
 
+add-buckets : tie.Need-add-buckets
+add-buckets c = search needs
+
 add-heads : tie.Need-add-heads
 add-heads c = search needs
 
-add-t10 : tie.Need-add-t10
-add-t10 c = search needs
+add-t11 : tie.Need-add-t11
+add-t11 c = search needs
 
 returns : tie.Need-returns
 unfolding tablesAt
 returns c = search needs
 
 pub corner-tables-spec : {M : Type 1} → statement M
-corner-tables-spec = tie.close (tie.spec add-textures mul-heads add-heads add-t10 returns)
+corner-tables-spec = tie.close (tie.spec add-textures add-buckets mul-heads add-heads add-t11 returns)

@@ -19,7 +19,7 @@ put-row-requires-3 : tie.Need-put-row-requires-3
 put-row-requires-3 c κs = search needs
 
 put-row-requires-4 : tie.Need-put-row-requires-4
-put-row-requires-4 c κs = let P = c .before .before .before .before .before .before .before .before .before .before .before .before .before .before .before .before .before .before .before .before .before .before .before .pre in (search needs, omega (arith, P .0 .roomy .widths, P .2))
+put-row-requires-4 c κs = let P = c .before .before .before .before .before .before .before .before .before .before .before .before .before .before .before .before .before .before .before .before .before .before .before .pre in (search needs, omega (arith, P .0 .roomy .widths, P .3))
 
 narrow-requires : tie.Need-narrow-requires
 narrow-requires c κs =
@@ -35,7 +35,7 @@ slice-write-sources c = omega (arith, c .before .before .before .before .before 
 link-requires : tie.Need-link-requires
 link-requires c κs =
     let P = c .before .before .before .before .before .before .before .before .before .before .before .before .before .before .before .before .before .before .before .before .before .before .before .before .before .before .before .before .pre in
-    (P .0 .laid, P .1, omega (arith, P .0 .roomy))
+    (P .0 .laid, P .2, omega (arith, P .0 .roomy))
 
 same-length : tie.Need-same-length
 same-length c = search needs

@@ -6,10 +6,15 @@ use borrow.Author.Needs.{needs}
 use Rattle.vertices.proofs.adding.vertex.Statement.{statement}
 use Rattle.vertices.proofs.adding.vertex.Tie as tie
 
+bucket-of-requires : tie.Need-bucket-of-requires
+bucket-of-requires c κs =
+    let P = c .before .before .before .before .before .before .before .pre in
+    (P .room .roomy .widths, P .words, omega (arith, P .point, P .room .laid), P .room .laid .buckets)
+
 find-requires : tie.Need-find-requires
 find-requires c κs =
-    let P = c .before .before .before .before .before .before .before .before .before .before .before .before .pre in
-    (roomy-le _ (P .room .roomy) (omega arith), P .words, laid-le _ (P .room .laid) (omega arith), P .chained, P .point)
+    let P = c .before .before .before .before .before .before .before .before .before .before .before .before .before .pre in
+    (roomy-le _ (P .room .roomy) (omega arith), P .words, laid-le _ (P .room .laid) (omega arith), P .chained, c .before .before .before .before .before .bucket-of .ensures .0, c .before .before .before .before .before .bucket-of .ensures .1)
 
 enum-known-known : tie.Need-enum-known-known
 enum-known-known c = search needs
@@ -31,14 +36,16 @@ same-length-5 c = search needs
 
 returns : tie.Need-returns
 returns c =
-    let P = c .before .before .before .before .before .before .before .before .before .before .before .before .before .before .before .before .pre in
+    let P = c .before .before .before .before .before .before .before .before .before .before .before .before .before .before .before .before .before .pre in
     vertexed-old _ _ _ _ _ _ _ _ (P .room .roomy) (P .chained) (sym (c .before .before .before .find .ensures) ∙ c .before .known .given .1)
 
 enum-told : tie.Need-enum-told
 enum-told c = search needs
 
 append-requires : tie.Need-append-requires
-append-requires c κs = search needs
+append-requires c κs =
+    let c14 = c .before .before .before .before .before .before .before .before .before .before .before .before .before .before in
+    let P = c14 .before .before .before .before .before .before .before .before .pre in (P .room, P .point, c14 .bucket-of .ensures .1, P .words)
 
 same-length-6 : tie.Need-same-length-6
 same-length-6 c = search needs
@@ -62,13 +69,17 @@ returns-2 : tie.Need-returns-2
 returns-2 c =
     let c12 = c .before .before .before .before .before .before .before .before .before .before .before .before in
     let c19 = c12 .before .before .before .before .before .before .before in
-    let P = c19 .before .before .before .before .before .before .before .before .before .before .before .before .before .before .before .pre in
-    vertexed-new _ _ _ _ _ _ _ _ _ _ _ (P .room) (P .point) (P .words) (c12 .append .ensures) (P .chained) (sym (c19 .before .before .find .ensures) ∙ c19 .enum-told .given .1)
+    let c21 = c19 .before .before in
+    let c27 = c21 .before .before .before .before .before .before in
+    let P = c27 .before .before .before .before .before .before .before .before .pre in
+    vertexed-new _ _ _ _ _ _ _ _ _ _ _ _ (P .room) (P .point) (P .words) (c12 .append .ensures) (sym (c21 .find .ensures) ∙ c19 .enum-told .given .1) (P .held) (P .chained)
+    (c27 .bucket-of .ensures .0) (c27 .bucket-of .ensures .1)
 
 pub vertex-spec : {M : Type 1} → statement M
 vertex-spec =
     tie.close
     (tie.spec
+    bucket-of-requires
     find-requires
     enum-known-known
     same-length

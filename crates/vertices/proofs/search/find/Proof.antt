@@ -1,7 +1,7 @@
-use mathlib.Core.Path.{refl, sym, _∙_}
+use mathlib.Core.Path.{sym, _∙_}
 use native.Mathlib.Omega.{arith}
 use Prim.Native.Nat.{ℕ}
-use Rattle.vertices.specs.Search.{cornerKey, Chained}
+use Rattle.vertices.specs.Search.{cornerKey, bucketAt, Chained}
 use Rattle.vertices.proofs.Seek.{upTo}
 use Rattle.vertices.proofs.Keys.{roomy-le}
 use Rattle.vertices.proofs.Chains.{Met, met-start, met-step, met-below, met-found, met-end}
@@ -12,8 +12,8 @@ use Rattle.vertices.proofs.search.find.Tie as tie
 -- the code does not read n, so it is any n whose vertices are chained
 abbrev Inv-loop : tie.InvT-loop
 Inv-loop sources normals colours textures w v key work t x₀ x =
-    (n : ℕ) → Chained t sources work n
-    → Met w (record { sources = sources; normals = normals; colours = colours; textures = textures }) (cornerKey w (v .0) key) (v .0) n x
+    (n : ℕ) → Chained t (bucketAt w t (record { sources = sources; normals = normals; colours = colours; textures = textures })) work n
+    → Met w t (record { sources = sources; normals = normals; colours = colours; textures = textures }) (cornerKey w (v .0) key) n x
 
 abbrev μ-loop : tie.MeasureT-loop
 μ-loop sources normals colours textures w v key work t x₀ x = upTo x
@@ -31,8 +31,9 @@ known-by-requires : tie.Need-known-by-requires Inv-loop μ-loop
 known-by-requires c κs = search needs
 
 loop-holds : tie.Need-loop-holds Inv-loop μ-loop
-unfolding cornerKey
-loop-holds c = λ n C. met-start _ _ _ _ refl _ _ _ C _ (c .known-by .ensures) (c .before .before .before .before .before .before .before .before .before .before .pre .4)
+loop-holds c =
+    let c10 = c .before .before .before .before .before .before .before .before .before .before in
+    λ n C. met-start _ _ _ _ _ _ C _ _ (c .known-by .ensures) (c10 .pre .4) (c10 .pre .5)
 
 enum-known-x : tie.Need-enum-known-x Inv-loop μ-loop
 enum-known-x c = search needs
@@ -69,20 +70,18 @@ known-by-requires-2 : tie.Need-known-by-requires-2 Inv-loop μ-loop
 known-by-requires-2 c κs = search needs
 
 loop-less : tie.Need-loop-less Inv-loop μ-loop
-unfolding cornerKey
 loop-less c =
     let c4 = c .before .before .before .before in
     let c7 = c4 .before .before .before in
     let c9 = c7 .before .before in
     let c20 = c9 .before .before .before .before .before .before .before .before .before .before .before in
-    met-step _ _ _ _ refl _ _ _ (c20 .pre .3) _ _ _ (c .known-by2 .ensures) (c9 .loop .inv _ (c20 .pre .3)) (c7 .x .given .1) (sym (c4 .before .same-vertex .ensures) ∙ c4 .if1 .left) .0
+    met-step _ _ _ _ _ _ (c20 .pre .3) _ _ _ (c .known-by2 .ensures) (c9 .loop .inv _ (c20 .pre .3)) (c7 .x .given .1) (sym (c4 .before .same-vertex .ensures) ∙ c4 .if1 .left) .0
 
 loop-again : tie.Need-loop-again Inv-loop μ-loop
-unfolding cornerKey
 loop-again c =
     let c4 = c .before .before .before .before in
     let c7 = c4 .before .before .before in
-    λ n C. met-step _ _ _ _ refl _ _ _ C _ _ _ (c .known-by2 .ensures) (c7 .before .before .loop .inv n C) (c7 .x .given .1) (sym (c4 .before .same-vertex .ensures) ∙ c4 .if1 .left) .1
+    λ n C. met-step _ _ _ _ _ _ C _ _ _ (c .known-by2 .ensures) (c7 .before .before .loop .inv n C) (c7 .x .given .1) (sym (c4 .before .same-vertex .ensures) ∙ c4 .if1 .left) .1
 
 enum-told : tie.Need-enum-told Inv-loop μ-loop
 enum-told c = search needs
