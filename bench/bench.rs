@@ -2,99 +2,20 @@
 
 use std::time::{Duration, Instant};
 
-use crate::expected::Expected;
+use crate::blocks;
+use crate::expected::expected;
 use crate::follow::given;
-use crate::format::{Block, EXTRUSION, FACES, GRID, LIMIT, LINES, flag, lengths};
+use crate::format::{Block, FACES, LIMIT, LINES, Sizes, lengths};
 use crate::judge::judge;
-use crate::maker::{Maker, Taste};
+use crate::maker::Maker;
 use crate::ours::{self, Slices};
-use crate::outlines::{self, Outline};
+use crate::outlines;
 use crate::rng::Rng;
 use crate::shape::Shape;
 use reference::scene::Scene;
 
-const CREASE: f32 = 0.7;
-
-fn level(outline: &Outline) -> Vec<f32> {
-    outline.iter().flat_map(|p| [p[0], 0.0, -p[1]]).collect()
-}
-
-/// Concave faces, each with points of its own.
-fn plates(outlines: &[Outline]) -> Shape {
-    let mut shape = Shape::new(FACES);
-    shape.flags[flag::CONVEX] = false;
-    shape.crease(CREASE);
-    let (mut points, mut index) = (Vec::new(), Vec::new());
-    for outline in outlines {
-        let first = points.len() as i32 / 3;
-        points.extend(level(outline));
-        index.extend((0..outline.len() as i32).map(|k| first + k).chain([-1]));
-    }
-    index.pop();
-    shape.set_floats(0, &points);
-    shape.set_entries(1, &index);
-    shape
-}
-
-fn grid(maker: &mut Maker) -> Shape {
-    let mut shape = Shape::new(GRID);
-    shape.crease(CREASE);
-    shape.flags[flag::TEXTURE_WANTED] = true;
-    shape.counts[..2].copy_from_slice(&[46, 46]);
-    let heights = maker.values(46 * 46, Taste::Real);
-    shape.set_floats(3, &heights);
-    shape
-}
-
-fn triangles(maker: &mut Maker) -> Shape {
-    let (points, index) = maker.ground(33, Taste::Real);
-    let mut shape = Shape::new(FACES);
-    shape.crease(CREASE);
-    shape.set_floats(0, &points);
-    shape.set_entries(1, &index[..index.len().min(LIMIT)]);
-    shape
-}
-
-/// 45 by 30 faces of four corners over heights: 2,700 triangles.
-fn quads(maker: &mut Maker) -> Shape {
-    let heights = maker.values(46 * 31, Taste::Real);
-    let points: Vec<f32> = (0..46 * 31).flat_map(|k| [(k % 46) as f32, heights[k], (k / 46) as f32]).collect();
-    let firsts = (0..30).flat_map(|j| (0..45).map(move |i| i + 46 * j));
-    let index: Vec<i32> = firsts.flat_map(|k| [k, k + 46, k + 47, k + 1, -1]).collect();
-    let mut shape = Shape::new(FACES);
-    shape.crease(CREASE);
-    shape.set_floats(0, &points);
-    shape.set_entries(1, &index);
-    shape
-}
-
-fn duct() -> Shape {
-    let mut shape = Shape::new(EXTRUSION);
-    shape.crease(CREASE);
-    shape.flags[flag::TEXTURE_WANTED] = true;
-    shape.flags[flag::CONVEX] = false;
-    let bend = outlines::circle(90);
-    let spine: Vec<f32> = (0..45).flat_map(|k| [bend[k][0], 0.1 * k as f32, bend[k][1]]).collect();
-    let mut section = outlines::star(44);
-    section.push(section[0]);
-    shape.set_floats(0, &spine);
-    shape.set_floats(1, section.as_flattened());
-    shape
-}
-
-fn lines(maker: &mut Maker) -> Shape {
-    let mut shape = Shape::new(LINES);
-    shape.flags[flag::COLOURS] = true;
-    let points = maker.values(3 * 4096, Taste::Real);
-    shape.set_floats(0, &points);
-    shape.set_floats(2, &points);
-    let index: Vec<i32> = (0..LIMIT).map(|k| if k % 64 == 63 { -1 } else { (k * 5 % 4096) as i32 }).collect();
-    shape.set_entries(1, &index);
-    shape
-}
-
-/// The shortest of several runs, and what the last gave: at least one, then as many as fit into a second, 50 at most.
-fn best<T>(mut run: impl FnMut() -> T) -> (Duration, T) {
+/// The shortest of several runs, and what the last gave: at least one, then as many as fit into the time, 50 at most.
+fn best<T>(time: Duration, mut run: impl FnMut() -> T) -> (Duration, T) {
     let start = Instant::now();
     let mut least = Duration::MAX;
     let mut runs = 0;
@@ -103,49 +24,95 @@ fn best<T>(mut run: impl FnMut() -> T) -> (Duration, T) {
         let made = run();
         least = least.min(one.elapsed());
         runs += 1;
-        if runs == 50 || start.elapsed() > Duration::from_secs(1) {
+        if runs == 50 || start.elapsed() > time {
             return (least, made);
         }
     }
 }
 
-/// One row of the table; the answer is whether both agree.
-fn row(name: &str, shape: &Shape, maker: &Maker, slices: &mut Slices) -> bool {
-    let bytes = shape.block();
-    let block = Block::read(&bytes).expect("a whole block");
-    let sizes = block.sizes().expect("a shape");
-    let scene = Scene::new(given(&block, &maker.angles).expect("angles of the host"));
-    let (theirs, made) = best(|| scene.convert());
-    slices.lend(&bytes, &lengths(sizes), 5, 0);
-    let (mine, number) = best(|| ours::convert(slices));
-    let ratio = mine.as_secs_f64() / theirs.as_secs_f64();
-    let ms = |d: Duration| d.as_secs_f64() * 1000.0;
-    println!("| {name} | {} | {:.3} | {:.3} | {ratio:.2} |", sizes.corners, ms(theirs), ms(mine));
-    let want = Expected::Made(made.expect("a mesh").mesh(), false);
-    let verdict = judge(&want, number, slices);
-    if let Err(what) = &verdict {
-        println!("{name} differs: {what}");
-    }
-    verdict.is_ok()
+pub struct Timed {
+    pub sizes: Sizes,
+    pub theirs: Duration,
+    pub mine: Duration,
+    /// What differs, if something does.
+    pub differs: Option<String>,
 }
 
-/// Prints the table; the answer is whether all agreed.
-pub fn bench() -> bool {
+impl Timed {
+    pub fn ratio(&self) -> f64 {
+        self.mine.as_secs_f64() / self.theirs.as_secs_f64()
+    }
+}
+
+pub fn ms(d: Duration) -> f64 {
+    d.as_secs_f64() * 1000.0
+}
+
+/// The reference's time and ours for a shape, each within `time`; none where one of them takes no such block.
+pub fn timed(shape: &Shape, maker: &Maker, slices: &mut Slices, time: Duration) -> Option<Timed> {
+    let bytes = shape.block();
+    let block = Block::read(&bytes).ok()?;
+    let sizes = block.sizes().ok()?;
+    let scene = Scene::new(given(&block, &maker.angles)?);
+    let (theirs, made) = best(time, || scene.convert());
+    made?;
+    slices.lend(&bytes, &lengths(sizes), 5, 0);
+    let (mine, number) = best(time, || ours::convert(slices));
+    let differs = judge(&expected(&bytes, &lengths(sizes), &maker.angles), number, slices).err();
+    Some(Timed { sizes, theirs, mine, differs })
+}
+
+/// A block of the table, for so many entries.
+type Made = Box<dyn Fn(&mut Maker, usize) -> Shape>;
+
+fn rows() -> Vec<(&'static str, Made)> {
+    vec![
+        ("grid 46 by 46", Box::new(blocks::grid)),
+        ("2,048 faces of 3 corners", Box::new(blocks::triangles)),
+        ("faces of 4 corners over heights", Box::new(blocks::quads)),
+        ("64 concave faces of 127 corners", Box::new(|_, n| blocks::stars(n))),
+        ("extrusion 45 by 45", Box::new(|_, n| blocks::duct(n))),
+        ("8,192 line entries", Box::new(blocks::lines)),
+        ("hub, own face", Box::new(|_, n| blocks::hub(blocks::OWN, n))),
+        ("hub, faces within the crease angle", Box::new(|_, n| blocks::hub(blocks::CREASE, n))),
+        ("hub, every face", Box::new(|_, n| blocks::hub(blocks::EVERY, n))),
+        ("one point with other colours, face set", Box::new(|_, n| blocks::one_point(FACES, blocks::OWN, n))),
+        ("one point with other colours, every face", Box::new(|_, n| blocks::one_point(FACES, blocks::EVERY, n))),
+        ("one point with other colours, line set", Box::new(|_, n| blocks::one_point(LINES, blocks::OWN, n))),
+        ("soup with every attribute", Box::new(blocks::soup)),
+        ("comb", Box::new(|_, n| blocks::plates(&[outlines::comb(n / 2)]))),
+        ("combs in each other", Box::new(|_, n| blocks::plates(&[outlines::zipper(n / 2)]))),
+        ("spiral", Box::new(|_, n| blocks::plates(&[outlines::spiral(n / 2)]))),
+    ]
+}
+
+/// Prints the tables of the rows whose names have the part; the answer is whether all agreed.
+pub fn bench(part: &str) -> bool {
     let mut maker = Maker { rng: Rng::new(1, 0), angles: Default::default() };
     let mut slices = Slices::default();
-    let stars = vec![outlines::star(127); 64];
-    let shapes = [
-        ("grid 46 by 46", grid(&mut maker)),
-        ("2,048 faces of 3 corners", triangles(&mut maker)),
-        ("2,700 triangles of 1,350 faces", quads(&mut maker)),
-        ("64 concave faces of 127 corners", plates(&stars)),
-        ("extrusion 45 by 45", duct()),
-        ("8,192 line entries", lines(&mut maker)),
-        ("comb of 4,096 corners", plates(&[outlines::comb(4096)])),
-        ("combs in each other, 4,096 corners", plates(&[outlines::zipper(4096)])),
-        ("spiral of 4,096 corners", plates(&[outlines::spiral(4096)])),
-    ];
+    let mut agreed = true;
+    let mut grown = Vec::new();
     println!("| block | corners | reference, ms | ours, ms | ours / reference |");
     println!("|---|---|---|---|---|");
-    shapes.iter().fold(true, |all, (name, shape)| row(name, shape, &maker, &mut slices) && all)
+    for (name, make) in rows().into_iter().filter(|(name, _)| name.contains(part)) {
+        let mut cells = Vec::new();
+        for size in [LIMIT, LIMIT / 2, LIMIT / 4, LIMIT / 8] {
+            let shape = make(&mut maker, size);
+            let t = timed(&shape, &maker, &mut slices, Duration::from_secs(1)).expect("a mesh");
+            if size == LIMIT {
+                let (theirs, mine) = (ms(t.theirs), ms(t.mine));
+                println!("| {name} | {} | {theirs:.3} | {mine:.3} | {:.2} |", t.sizes.corners, t.ratio());
+            }
+            if let Some(what) = &t.differs {
+                println!("{name} of {size} differs: {what}");
+                agreed = false;
+            }
+            cells.insert(0, format!("{:.3} ({:.2})", ms(t.mine), t.ratio()));
+        }
+        grown.push(format!("| {name} | {} |", cells.join(" | ")));
+    }
+    println!("\n| block | 1,024 | 2,048 | 4,096 | 8,192 |");
+    println!("|---|---|---|---|---|");
+    grown.iter().for_each(|row| println!("{row}"));
+    agreed
 }

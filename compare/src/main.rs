@@ -3,6 +3,8 @@
 mod angles;
 #[path = "../../bench/bench.rs"]
 mod bench;
+#[path = "../../bench/blocks.rs"]
+mod blocks;
 mod cases;
 mod compare;
 mod expected;
@@ -18,13 +20,15 @@ mod outlines;
 mod pages;
 mod record;
 mod rng;
+#[path = "../../bench/search.rs"]
+mod search;
 mod shape;
 mod solids;
 mod text;
 
 use std::process::ExitCode;
 
-const USAGE: &str = "compare COUNT SEED [FIRST] | record COUNT SEED FILE | bench";
+const USAGE: &str = "compare COUNT SEED [FIRST] | record COUNT SEED FILE | bench [PART] | search SECONDS SEED";
 
 fn number(word: Option<&String>, otherwise: u64) -> u64 {
     word.and_then(|w| w.parse().ok()).unwrap_or(otherwise)
@@ -43,7 +47,8 @@ fn main() -> ExitCode {
             compare::compare(number(words.get(1), 10_000), number(words.get(2), 1), number(first, 0), folder)
         }
         ("record", Some(file)) => record::record(number(words.get(1), 600), number(words.get(2), 1), file),
-        ("bench", _) => bench::bench(),
+        ("bench", _) => bench::bench(words.get(1).map_or("", String::as_str)),
+        ("search", _) => search::search(number(words.get(1), 900), number(words.get(2), 1)),
         _ => {
             println!("{USAGE}");
             false

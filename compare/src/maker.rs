@@ -8,7 +8,7 @@ use crate::rng::Rng;
 use crate::shape::Shape;
 
 /// What the numbers of a shape are like.
-#[derive(Clone, Copy, PartialEq)]
+#[derive(Clone, Copy, Debug, PartialEq)]
 pub enum Taste {
     /// Halves of small whole numbers: points coincide, edges are parallel, sums are exact.
     Coarse,
