@@ -3,7 +3,6 @@ use mathlib.Core.Path.{_≡_, refl, sym, ap, _∙_}
 use mathlib.Core.Bool.{false}
 use mathlib.Core.List.{List}
 use Prim.Native.Nat.{ℕ, _+_, _*_, _^_, _≤_, _<_}
-use native.Mathlib.Nat.{mul-assoc, mul-comm}
 use native.Mathlib.Omega.{arith}
 use borrow.Author.Tests.{ltb-false}
 use lib.Dec.{ltb}
@@ -24,15 +23,13 @@ use Rattle.mesh.specs.Extrusion.{spineCount, sectionCount, threes, twos, turnIn
 use Rattle.mesh.specs.Sizes.{extrusionSizes, isNoExtrusion, isNoShape}
 use Rattle.mesh.proofs.Sizes.{extrusion-points}
 use Rattle.lists.specs.Parts.{spliced}
+use native.Mathlib.Nat.{mul-left-comm}
 use Rattle.extrusion.specs.Given.{scaleCount, turnCount, Given}
 use Rattle.extrusion.specs.Rows.{rowBy, rowsBy}
 use Rattle.extrusion.proofs.Values.{count2, count3}
 
-pub triple : (n m : ℕ) → n * (3 * m) ≡ 3 * (n * m)
-triple n m = sym (mul-assoc n 3 m) ∙ ap (λ (k : ℕ). k * m) (mul-comm n 3) ∙ mul-assoc 3 n m
-
 pub rows-room : (n m a b k len : ℕ) → n ≡ a → m ≡ b → k + 3 * (a * b) ≤ len → k + n * (3 * m) ≤ len
-rows-room n m a b k len en em h = rw (en, em, triple a b) h
+rows-room n m a b k len en em h = rw (en, em, mul-left-comm a 3 b) h
 
 module _ {bs : List ℕ} {h : Header} (G : Given bs h) where
   list-size : (k : ℕ) → length (listBytes bs h k) ≡ 4 * (getD extrusionWidths k 0 * getD (h .counts) k 0)

@@ -1,9 +1,9 @@
 -- FORMAT 4, 8.4: how many corners the faces have, and how many stand before each.
 use mathlib.Core.Path.{_≡_, refl, sym, ap, ap₂, _∙_}
-use mathlib.Core.Bool.{Bool, true, false, _&&_, cond, true≢false}
-use mathlib.Core.List.{List, [], _∷_, _++_, reverse}
+use mathlib.Core.Bool.{Bool, true, false, cond}
+use mathlib.Core.List.{List, [], _++_, reverse}
 use Prim.Native.Nat.{ℕ, zero, suc, _+_, _-_, _*_, _≤_, _<_}
-use native.Mathlib.Nat.{add-zero, add-assoc, zero-add, not-suc-le-zero, le-of-suc-le-suc, mul-assoc, mul-comm}
+use native.Mathlib.Nat.{add-zero, mul-assoc, mul-comm}
 use native.Mathlib.Numerals.{add-one}
 use native.Mathlib.Omega.{arith}
 use borrow.Author.Tests.{ltb-true, ltb-false, leb-true}
@@ -18,6 +18,7 @@ use Rattle.mesh.specs.Extrusion.{hasCap}
 use Rattle.mesh.specs.Sizes.{one}
 use Rattle.lists.proofs.Lists.{All-append, All-getD}
 use Rattle.lists.proofs.Totals.{flat-total, total-append, total-suc}
+use Rattle.lists.proofs.Tests.{and-right}
 use Rattle.mesh.proofs.Tabs.{tabs-tab, total-tabs}
 use Rattle.tables.specs.Layout.{most}
 use Rattle.extrusion.specs.Listings.{oneIf, spot, sidePoints, beginPoints, endPoints, facePoints, sizeAt, startAt}
@@ -55,15 +56,6 @@ size-most s cap j h = go (ltb j s)
 
 -- ---- of a list of lists
 
-module _ {A : Type 0} where
-  -- element i of list j, among all
-  pub flat-place : (l : List (List A)) (j i : ℕ) (d : A) → j < length l → i < length (getD l j []) → getD (flat l) (total length (take j l) + i) d ≡ getD (getD l j []) i d
-  unfolding total flat
-  flat-place [] j i d h b = absurd (not-suc-le-zero h)
-  flat-place (x ∷ l) zero i d h b = rw (zero-add i) (List·getD-append x (flat l) d i b)
-  flat-place (x ∷ l) (suc j) i d h b =
-      rw (add-assoc (length x) (total length (take j l)) i) (getD-append-add x (flat l) (total length (take j l) + i) d ∙ flat-place l j i d (le-of-suc-le-suc h) b)
-
 -- where every list has the size that is told, the totals are the places told
 pub starts-total : (s cap : ℕ) (l : List (List ℕ)) → ((j : ℕ) → j < length l → length (getD l j []) ≡ sizeAt s cap j) → (j : ℕ) → j ≤ length l
     → startAt s cap j ≡ total length (take j l)
@@ -74,13 +66,9 @@ starts-total s cap l h (suc j) b =
 
 -- ---- the faces
 
-right-true : (x y : Bool) → (x && y) ≡ true → y ≡ true
-right-true true y q = q
-right-true false y q = absurd (true≢false (sym q))
-
 -- a cap that is there has three corners or more
 pub three-there : (cap : ℕ) (w : Bool) → hasCap w cap ≡ true → 3 ≤ cap
-three-there cap w q = leb-true 3 cap (right-true w (leb 3 cap) q)
+three-there cap w q = leb-true 3 cap (and-right w (leb 3 cap) q)
 
 module _ (n m cap : ℕ) (b e : Bool) where
   side-count : 2 ≤ m → length (sidePoints n m) ≡ (n - 1) * (m - 1)

@@ -1,23 +1,23 @@
 -- FORMAT 8.4: the corners of every face name points below n * m.
 use mathlib.Core.Path.{sym, subst}
 use mathlib.Core.Bool.{Bool, true, false}
-use mathlib.Core.List.{List, [], _∷_, _++_, reverse}
-use Prim.Native.Nat.{ℕ, zero, suc, _+_, _-_, _*_, _≤_, _<_}
+use mathlib.Core.List.{List, _++_, reverse}
+use Prim.Native.Nat.{ℕ, _+_, _-_, _*_, _≤_, _<_}
 use native.Mathlib.Omega.{arith}
 use lib.ListN.{length, getD}
 use Rattle.lists.specs.Loops.{tab, All}
 use Rattle.lists.specs.Lists.{flat}
 use Rattle.mesh.specs.Quads.{quad}
 use Rattle.mesh.specs.Extrusion.{hasCap}
-use Rattle.lists.proofs.Lists.{All-append, All-getD}
+use Rattle.lists.proofs.Lists.{All-append, All-getD, All-by, All-flat}
 use Rattle.lists.proofs.Totals.{tab-reverse}
-use Rattle.mesh.proofs.Within.{All-by, All-flat, All-tabs}
-use Rattle.mesh.proofs.Within as within
+use Rattle.mesh.proofs.Within.{All-tabs}
+use Rattle.lists.proofs.Numbers.{cell}
 use Rattle.extrusion.specs.Listings.{oneIf, spot, sidePoints, beginPoints, endPoints, facePoints}
 
 -- point j of row i, of n rows of m
-pub cell : (n m i j : ℕ) → i < n → j < m → i * m + j < n * m
-cell n m i j h k = let e = within.cell j i m n k h in omega arith
+spot-below : (n m i j : ℕ) → i < n → j < m → spot m i j < n * m
+spot-below n m i j h k = let e = cell j i m n k h in omega arith
 
 module _ (n m cap : ℕ) (b e : Bool) (hn : 2 ≤ n) (hc : cap ≤ m) where
   abbrev pub Below : List ℕ → Type 0
@@ -26,8 +26,8 @@ module _ (n m cap : ℕ) (b e : Bool) (hn : 2 ≤ n) (hc : cap ≤ m) where
   quad-below : (i j : ℕ) → i < n - 1 → j < m - 1 → Below (quad (spot m) i j)
   unfolding quad
   quad-below i j p q = (
-    cell n m i j (omega arith) (omega arith),
-    (cell n m i (j + 1) (omega arith) (omega arith), (cell n m (i + 1) (j + 1) (omega arith) (omega arith), (cell n m (i + 1) j (omega arith) (omega arith), tt))),
+    spot-below n m i j (omega arith) (omega arith),
+    (spot-below n m i (j + 1) (omega arith) (omega arith), (spot-below n m (i + 1) (j + 1) (omega arith) (omega arith), (spot-below n m (i + 1) j (omega arith) (omega arith), tt))),
   )
 
   sides-below : All Below (sidePoints n m)
@@ -40,10 +40,10 @@ module _ (n m cap : ℕ) (b e : Bool) (hn : 2 ≤ n) (hc : cap ≤ m) where
   begin-below : Below (reverse (tab (λ j. j) cap 0))
   begin-below =
       subst Below (sym (tab-reverse (λ j. j) cap))
-      (All-by (λ (p : ℕ). p < n * m) (λ j. cap - 1 - j) cap (λ j q. let c = cell n m 0 (cap - 1 - j) (omega arith) (omega arith) in omega arith))
+      (All-by (λ (p : ℕ). p < n * m) (λ j. cap - 1 - j) cap (λ j q. let c = spot-below n m 0 (cap - 1 - j) (omega arith) (omega arith) in omega arith))
 
   end-below : Below (tab (λ j. (n - 1) * m + j) cap 0)
-  end-below = All-by (λ (p : ℕ). p < n * m) (λ j. (n - 1) * m + j) cap (λ j q. cell n m (n - 1) j (omega arith) (omega arith))
+  end-below = All-by (λ (p : ℕ). p < n * m) (λ j. (n - 1) * m + j) cap (λ j q. spot-below n m (n - 1) j (omega arith) (omega arith))
 
   pub faces-below : All Below (facePoints n m cap b e)
   unfolding facePoints beginPoints endPoints

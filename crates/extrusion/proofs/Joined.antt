@@ -2,8 +2,8 @@
 use mathlib.Core.Path.{_≡_, refl, sym, ap, ap₂, _∙_}
 use mathlib.Core.Bool.{Bool, true, false, cond}
 use mathlib.Core.List.{List, [], _∷_, _++_, map, map-map, reverse}
-use Prim.Native.Nat.{ℕ, zero, suc, _+_, _-_, _*_, _/_, _%_, _≤_, _<_}
-use native.Mathlib.Nat.{zero-add, add-comm, add-mul-div-right, add-mul-mod-self-right, div-eq-of-lt, mod-eq-of-lt, mod-lt}
+use Prim.Native.Nat.{ℕ, suc, _+_, _-_, _*_, _/_, _%_, _≤_, _<_}
+use native.Mathlib.Nat.{zero-add, mod-lt, add-comm}
 use native.Mathlib.Omega.{arith}
 use borrow.Author.Tests.{lt-ltb, le-ltb}
 use lib.ListN.{length}
@@ -17,6 +17,8 @@ use Rattle.mesh.specs.Quads.{quad}
 use Rattle.mesh.specs.Sizes.{sideCount, capCount, extrusionSizes}
 use Rattle.mesh.specs.Extrusion.{Extrusion, spineCount, sectionCount, sectionOf, extrusionOf, hasCap, closes, capLength, sideCorner, capCorner, sides, capFace, faceIf, caps, extrusionFaces}
 use Rattle.lists.proofs.Totals.{tab-reverse, mapN-tab}
+use Rattle.lists.proofs.Lists.{mapN-append}
+use Rattle.lists.proofs.Numbers.{row-of, column-of}
 use Rattle.mesh.proofs.Tabs.{tabs-tab}
 use Rattle.mesh.proofs.Shapes.{sides-listed}
 use Rattle.tables.specs.declared.layout.Plan.{Plan}
@@ -27,34 +29,12 @@ use Rattle.extrusion.specs.Given.{Given}
 use Rattle.extrusion.specs.Corners.{textureOf, extrusionCorner}
 use Rattle.extrusion.proofs.Blocks.{section-long, spine-long, head-is}
 
--- ---- lists with numbers
-
-module _ {A B : Type 0} (G : ℕ → A → B) where
-  mapN-append : (n : ℕ) (x y : List A) → mapN G n (x ++ y) ≡ mapN G n x ++ mapN G (n + length x) y
-  unfolding mapN
-  mapN-append n [] y = let e : n ≡ n + 0 = omega arith in ap (λ (k : ℕ). mapN G k y) e
-  mapN-append n (a ∷ x) y =
-      let e : suc n + length x ≡ n + suc (length x) = omega arith in
-      ap (λ (r : List B). G n a ∷ r) (mapN-append (suc n) x y ∙ ap (λ (k : ℕ). mapN G (suc n) x ++ mapN G k y) e)
-
 -- the faces of numbered lists of points
 faces-of : (corner : ℕ → Use → Corner) (k : ℕ) (l : List (List ℕ))
     → facesWith corner (mapN (λ k ps. record { number = k; uses = map useOf ps }) k l) ≡ mapN (λ k ps. map (λ (p : ℕ). corner k (useOf p)) ps) k l
 unfolding facesWith mapN
 faces-of corner k [] = refl
 faces-of corner k (ps ∷ l) = ap₂ (λ (x : Face) (r : List Face). x ∷ r) (map-map (corner k) useOf ps) (faces-of corner (suc k) l)
-
--- ---- point j of row i is in row i and column j
-
-module _ (m i j : ℕ) (h : j < m) where
-  pub row-of : (i * m + j) / m ≡ i
-  row-of =
-      let d : (j + i * m) / m ≡ j / m + i = add-mul-div-right j i (omega arith) in
-      let e : j / m ≡ 0 = div-eq-of-lt h in
-      rw (add-comm (i * m) j) (omega arith)
-
-  pub column-of : (i * m + j) % m ≡ j
-  column-of = rw (add-comm (i * m) j) (add-mul-mod-self-right j i m ∙ mod-eq-of-lt h)
 
 -- ---- corners
 
@@ -69,11 +49,11 @@ cap-fits E = go (closes (E .section))
 module _ (E : Extrusion) (k i j : ℕ) (h : j < length (E .section)) where
   pub corner-side : k < (length (E .spine) - 1) * (length (E .section) - 1) → extrusionCorner E k (useOf (i * length (E .section) + j)) ≡ sideCorner E i j
   unfolding extrusionCorner textureOf sideCorner
-  corner-side l = rw (lt-ltb k ((length (E .spine) - 1) * (length (E .section) - 1)) l, row-of (length (E .section)) i j h, column-of (length (E .section)) i j h) refl
+  corner-side l = rw (lt-ltb k ((length (E .spine) - 1) * (length (E .section) - 1)) l, add-comm (i * length (E .section)) j, row-of (length (E .section)) j i h, column-of (length (E .section)) j i h) refl
 
   pub corner-cap : (length (E .spine) - 1) * (length (E .section) - 1) ≤ k → extrusionCorner E k (useOf (i * length (E .section) + j)) ≡ capCorner E i j
   unfolding extrusionCorner textureOf capCorner
-  corner-cap l = rw (le-ltb k ((length (E .spine) - 1) * (length (E .section) - 1)) l, column-of (length (E .section)) i j h) refl
+  corner-cap l = rw (le-ltb k ((length (E .spine) - 1) * (length (E .section) - 1)) l, add-comm (i * length (E .section)) j, column-of (length (E .section)) j i h) refl
 
 -- ---- faces
 

@@ -23,7 +23,7 @@ use Rattle.extrusion.specs.Steps.{stepOf, bytesOf}
 use Rattle.extrusion.proofs.Values.{count2, count3}
 use Rattle.extrusion.proofs.Blocks.{section-of, spine-of}
 use Rattle.lists.proofs.Splices.{splice-more}
-use Rattle.lists.proofs.Pieces.{Pieces, single, singles-all}
+use Rattle.lists.proofs.Pieces.{Singles, singles-all}
 
 pub step3-is : (l : List V3) (i : ℕ) (v : V3) (r : Float) → v ≡ step l i (i + 1) → r ≡ vlen v → r ≡ step3 l i
 unfolding step3
@@ -72,9 +72,9 @@ pub param-is : (d : ℕ → Float) (n i : ℕ) (t x v : Float) → t ≡ lengthT
 unfolding paramAt
 param-is d n i t x v et ex ev = rw (ev, et, ex) refl
 
-pub params-all : (d : ℕ → Float) (n i : ℕ) (l m : List Float) (k : ℕ) → Pieces (single (paramAt d n)) l k i m → i ≡ n → m ≡ spliced l k (arcs d n)
+pub params-all : (d : ℕ → Float) (n i : ℕ) (l m : List Float) (k : ℕ) → Singles (paramAt d n) n l k i m → n ≤ i → m ≡ spliced l k (arcs d n)
 unfolding arcs paramAt
-params-all d n i l m k P e = singles-all (paramAt d n) l m k i n P e
+params-all d n i l m k P e = singles-all P e
 
 pub length-arcs : (d : ℕ → Float) (n : ℕ) → length (arcs d n) ≡ n
 unfolding arcs

@@ -2,9 +2,8 @@
 use mathlib.Core.Path.{_≡_, refl, sym, ap, _∙_}
 use mathlib.Core.Bool.{Bool, true, false}
 use mathlib.Core.List.{List, [], _++_, append-assoc, append-nil, reverse}
-use Prim.Native.Nat.{ℕ, zero, suc, _+_, _-_, _*_, _≤_, _<_}
+use Prim.Native.Nat.{ℕ, suc, _+_, _-_, _*_, _≤_, _<_}
 use native.Mathlib.Nat.{suc-mul, mul-le-mul-left, mul-le-mul-right}
-use native.Mathlib.Numerals.{add-one}
 use native.Mathlib.Omega.{arith}
 use lib.Dec.{leb}
 use lib.ListN.{length, set, length-append}
@@ -18,10 +17,7 @@ use Rattle.tables.specs.Layout.{most}
 use Rattle.lists.specs.Parts.{spliced}
 use Rattle.extrusion.specs.Listings.{spot, sidePoints, beginPoints, endPoints, facePoints}
 use Rattle.lists.proofs.Splices.{splice-more, put-four}
-use Rattle.lists.proofs.Pieces.{flat-append, length-pieces}
-
-pub next-row : (i m : ℕ) → (i + 1) * m ≡ i * m + m
-next-row i m = ap (λ (k : ℕ). k * m) (add-one i) ∙ suc-mul i m
+use Rattle.lists.proofs.Pieces.{flat-append, length-pieces, flat-rows}
 
 -- four points, stored
 pub quad-put : (m i j k : ℕ) (l w x y z : List ℕ) (a b c d : ℕ) → k + 4 ≤ length l → a ≡ spot m i j → b ≡ spot m i (j + 1) → c ≡ spot m (i + 1) (j + 1) → d ≡ spot m (i + 1) j
@@ -33,19 +29,9 @@ pub quad-length : {A : Type 0} (f : ℕ → ℕ → A) (i j : ℕ) → length (q
 unfolding quad
 quad-length f i j = refl
 
--- room for quad j of k quads
-pub quad-room : (k w j : ℕ) → j < w → k + j * 4 + 4 ≤ k + w * 4
-quad-room k w j h = omega arith
-
 -- the sides of a row
 pub row-width : (m i : ℕ) → length (flat (tab (quad (spot m) i) (m - 1) 0)) ≡ (m - 1) * 4
 row-width m i = length-pieces (quad (spot m) i) 4 (quad-length (spot m) i) (m - 1)
-
-flat-rows : {A : Type 0} (f : ℕ → ℕ → List A) (m n i : ℕ) → flat (tab (λ i. flat (tab (f i) m 0)) n i) ≡ flat (flat (tab (λ i. tab (f i) m 0) n i))
-unfolding tab flat
-flat-rows f m zero i = refl
-flat-rows f m (suc n) i =
-    ap (λ (r : List _). flat (tab (f i) m 0) ++ r) (flat-rows f m n (suc i)) ∙ sym (flat-append (tab (f i) m 0) (flat (tab (λ i. tab (f i) m 0) n (suc i))))
 
 pub sides-are : (n m : ℕ) → flat (tab (λ i. flat (tab (quad (spot m) i) (m - 1) 0)) (n - 1) 0) ≡ flat (sidePoints n m)
 unfolding tabs

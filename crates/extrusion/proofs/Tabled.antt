@@ -1,26 +1,29 @@
 -- FORMAT 8.4: the tables that are written hold the faces as they are listed.
-use mathlib.Core.Path.{_≡_, sym, ap, ap₂, _∙_, subst}
+use mathlib.Core.Path.{_≡_, refl, sym, ap, ap₂, _∙_, subst}
 use mathlib.Core.Bool.{Bool}
 use mathlib.Core.List.{List, [], map}
 use Prim.Native.Nat.{ℕ, suc, _+_, _-_, _*_, _≤_, _<_}
 use native.Mathlib.Nat.{zero-add}
 use native.Mathlib.Omega.{arith}
-use lib.ListN.{length, getD, take, drop, length-map}
+use lib.ListN.{length, getD, take, length-map}
 use Rattle.block.specs.declared.header.Header.{Header}
 use Rattle.lists.specs.Lists.{flat, total}
 use Rattle.mesh.specs.Extrusion.{spineCount, sectionCount}
 use Rattle.lists.proofs.Lists.{length-mapN, getD-mapN, getD-map-lt}
 use Rattle.tables.specs.declared.layout.Plan.{Plan}
 use Rattle.tables.specs.Layout.{most, Room}
-use Rattle.lists.specs.Parts.{seg, spliced, Kept, TableOf, Written}
+use Rattle.lists.specs.Parts.{seg, spliced, Kept, TableOf}
 use Rattle.tables.specs.Soups.{pointIn, placeIn, startIn, numberIn}
 use Rattle.tables.specs.Listed.{Use, Listing, noUse, noListing, usesAt, Beside, Listed}
 use Rattle.lists.proofs.Keep.{kept-then, kept-seg, seg-at, table-kept}
 use Rattle.extrusion.specs.Listings.{facePoints, useOf, extrusionListings, startAt, Planned}
-use Rattle.lists.proofs.Splices.{spliced-above, kept-spliced, seg-spliced}
+use Rattle.lists.proofs.Splices.{put-kept, put-seg, put-table}
+use Rattle.lists.specs.Loops.{tab}
+use Rattle.lists.proofs.Tabs.{length-tab}
+use Rattle.lists.proofs.Totals.{flat-place}
 use Rattle.tables.proofs.Besides.{beside-then, beside-corners, beside-starts, beside-places, beside-numbers}
 use Rattle.extrusion.proofs.Sides.{section-least}
-use Rattle.extrusion.proofs.Counting.{flat-place, face-size, faces-count, flat-count, starts-are, starts-last, start-none, start-suc, start-rises}
+use Rattle.extrusion.proofs.Counting.{face-size, faces-count, flat-count, starts-are, starts-last, start-none, start-suc, start-rises}
 use Rattle.extrusion.proofs.Inside.{point-below}
 
 -- ---- the listing, face by face
@@ -115,31 +118,33 @@ module _ (n m cap : ℕ) (b e : Bool) (hn : 2 ≤ n) (hm : 2 ≤ m) (hc : cap �
 -- ---- the four writings, one after another
 
 pub faces-written : (n m cap : ℕ) (b e : Bool) (t : Plan) (l w x y z : List ℕ) → Room (length l) t → t .count ≡ length (flat (facePoints n m cap b e))
-    → w ≡ spliced l (t .corners) (flat (facePoints n m cap b e)) → Written (t .starts) (t .faces + 1) (startAt ((n - 1) * (m - 1)) cap) w x
-    → y ≡ spliced x (t .places) (flat (facePoints n m cap b e)) → Written (t .numbers) (t .faces) (λ j. j) y z
+    → w ≡ spliced l (t .corners) (flat (facePoints n m cap b e)) → x ≡ spliced w (t .starts) (tab (startAt ((n - 1) * (m - 1)) cap) (t .faces + 1) 0)
+    → y ≡ spliced x (t .places) (flat (facePoints n m cap b e)) → z ≡ spliced y (t .numbers) (tab (λ j. j) (t .faces) 0)
     → Beside t l z × Tabled n m cap b e t z
-faces-written n m cap b e t l w x y z R count ew X ey Z =
+faces-written n m cap b e t l w x y z R count ew ex ey ez =
     let p : List ℕ = flat (facePoints n m cap b e) in
     let rl : t .corners + length p ≤ length l = omega arith in
-    let kw : Kept (t .corners) l w = rw ew (kept-spliced l (t .corners) p rl) in
+    let kw = put-kept l (t .corners) p ew refl rl in
     let lw = kw .len in
-    let lx = X .kept .len in
+    let rs : t .starts + (t .faces + 1) ≤ length w = omega arith in
+    let kx = put-kept w (t .starts) _ ex (length-tab _ _ 0) rs in
+    let lx = kx .len in
     let rx : t .places + length p ≤ length x = omega arith in
-    let ky : Kept (t .places) x y = rw ey (kept-spliced x (t .places) p rx) in
+    let ky = put-kept x (t .places) p ey refl rx in
     let ly = ky .len in
-    let kyz : Kept (t .places) x z = kept-then ky (Z .kept) (omega arith) in
-    let kwz : Kept (t .starts) w z = kept-then (X .kept) kyz (omega arith) in
-    let aw : drop (t .corners + length p) w ≡ drop (t .corners + length p) l = rw ew (spliced-above l (t .corners) p rl) in
-    let ay : drop (t .places + length p) y ≡ drop (t .places + length p) x = rw ey (spliced-above x (t .places) p rx) in (
-      beside-then (beside-corners (length p) kw aw (omega arith) (omega arith))
-          (beside-then (beside-starts (t .faces + 1) (X .kept) (X .above) (omega arith) (omega arith))
-          (beside-then (beside-places (length p) ky ay (omega arith) (omega arith))
-          (beside-numbers (t .faces) (Z .kept) (Z .above) (omega arith) (omega arith)))),
+    let ry : t .numbers + t .faces ≤ length y = omega arith in
+    let kz = put-kept y (t .numbers) _ ez (length-tab _ _ 0) ry in
+    let kyz : Kept (t .places) x z = kept-then ky kz (omega arith) in
+    let kwz : Kept (t .starts) w z = kept-then kx kyz (omega arith) in (
+      beside-then (beside-corners l (t .corners) p ew refl rl (omega arith) (omega arith))
+          (beside-then (beside-starts w (t .starts) _ ex (length-tab _ _ 0) rs (omega arith) (omega arith))
+          (beside-then (beside-places x (t .places) p ey refl rx (omega arith) (omega arith))
+          (beside-numbers y (t .numbers) _ ez (length-tab _ _ 0) ry (omega arith) (omega arith)))),
       record {
-        points = kept-seg kwz (t .corners) (length p) (omega arith) (omega arith) ∙ ap (λ (v : List ℕ). seg v (t .corners) (length p)) ew ∙ seg-spliced l (t .corners) p rl;
-        places = kept-seg (Z .kept) (t .places) (length p) (omega arith) (omega arith) ∙ ap (λ (v : List ℕ). seg v (t .places) (length p)) ey ∙ seg-spliced x (t .places) p rx;
-        starts = table-kept (t .starts) (t .faces + 1) kyz (omega arith) (X .words);
-        numbers = Z .words;
+        points = kept-seg kwz (t .corners) (length p) (omega arith) (omega arith) ∙ put-seg l (t .corners) p ew refl rl;
+        places = kept-seg kz (t .places) (length p) (omega arith) (omega arith) ∙ put-seg x (t .places) p ey refl rx;
+        starts = table-kept (t .starts) (t .faces + 1) kyz (omega arith) (put-table w _ rs ex);
+        numbers = put-table y _ ry ez;
       },
     )
 
@@ -201,12 +206,12 @@ module _ {h : Header} {cap len : ℕ} {t : Plan} (P : Planned h cap len t) (n m 
   sides-most = omega (arith, P .room .many, faces-planned, faces-count n m cap (h .«begin_cap») (h .«end_cap») section-planned)
 
   pub faces-put : (l w x y z : List ℕ) → len ≡ length l
-      → w ≡ spliced l (t .corners) (flat (facePoints n m cap (h .«begin_cap») (h .«end_cap»))) → Written (t .starts) (t .faces + 1) (startAt ((n - 1) * (m - 1)) cap) w x
-      → y ≡ spliced x (t .places) (flat (facePoints n m cap (h .«begin_cap») (h .«end_cap»))) → Written (t .numbers) (t .faces) (λ j. j) y z
+      → w ≡ spliced l (t .corners) (flat (facePoints n m cap (h .«begin_cap») (h .«end_cap»))) → x ≡ spliced w (t .starts) (tab (startAt ((n - 1) * (m - 1)) cap) (t .faces + 1) 0)
+      → y ≡ spliced x (t .places) (flat (facePoints n m cap (h .«begin_cap») (h .«end_cap»))) → z ≡ spliced y (t .numbers) (tab (λ j. j) (t .faces) 0)
       → Beside t l z × Listed z t (extrusionListings (spineCount h) (sectionCount h) cap (h .«begin_cap») (h .«end_cap»))
-  faces-put l w x y z el ew X ey Z =
+  faces-put l w x y z el ew ex ey ez =
       let R : Room (length l) t = rw el at (P .room) in
-      let q = faces-written n m cap (h .«begin_cap») (h .«end_cap») t l w x y z R count-planned ew X ey Z in
+      let q = faces-written n m cap (h .«begin_cap») (h .«end_cap») t l w x y z R count-planned ew ex ey ez in
       let L : Listed z t (extrusionListings n m cap (h .«begin_cap») (h .«end_cap»))
       = listed n m cap (h .«begin_cap») (h .«end_cap») spine-planned section-planned cap-planned t z (rw (q .0 .len) R) (q .1) count-planned faces-planned (P .gathers) spots-planned in
       (q .0, subst (λ (k : ℕ). Listed z t (extrusionListings k (sectionCount h) cap (h .«begin_cap») (h .«end_cap»))) en (subst (λ (k : ℕ). Listed z t (extrusionListings n k cap (h .«begin_cap») (h .«end_cap»))) em L))

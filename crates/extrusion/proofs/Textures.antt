@@ -23,11 +23,11 @@ use Rattle.mesh.specs.Arcs.{at2, step2, step3, arcs2, arcs3}
 use Rattle.mesh.specs.Extrusion.{Extrusion, spineCount, sectionCount, twos, extrusionOf, sideTexture, capFit, capTexture, cornerAt}
 use Rattle.lists.specs.Parts.{spliced, Kept}
 use Rattle.lists.proofs.Keep.{kept-at}
-use Rattle.lists.proofs.Splices.{spliced-part}
+use Rattle.lists.proofs.Splices.{put-part}
+use Rattle.lists.proofs.Lists.{getD-any}
 use Rattle.extrusion.specs.Given.{Given}
 use Rattle.extrusion.specs.Listings.{useOf}
 use Rattle.extrusion.specs.Corners.{textureOf, extrusionCorner, extrusionTexture, Measured, Cornered}
-use Rattle.extrusion.proofs.Values.{getD-any}
 use Rattle.extrusion.proofs.Blocks.{section-of, spine-few, section-few, section-long, spine-long, head-is, settings-are}
 use Rattle.extrusion.proofs.Lengths.{length-arcs}
 
@@ -38,11 +38,6 @@ sides-fit G n m en em =
     let b = section-few G in
     let p : (n - 1) * (m - 1) ≤ (n - 1) * 65536 = mul-le-mul-left (n - 1) (omega arith) in
     omega arith
-
--- ---- a point's row and column
-
-pub row-lt : (p n m : ℕ) → 0 < m → p < n * m → p / m < n
-row-lt p n m h l = div-lt-iff-lt-mul {k = m} {x = p} {y = n} h .1 l
 
 -- ---- the parameters, in floats
 
@@ -59,7 +54,7 @@ pub arcs-held : {bs : List ℕ} {h : Header} → Given bs h → (l made : List F
     → take (sectionCount h + spineCount h) (drop at made) ≡ arcs2 (extrusionOf bs .section) ++ arcs3 (extrusionOf bs .spine)
 arcs-held {bs} {h} G l made at room e =
     let p : List Float = arcs2 (extrusionOf bs .section) ++ arcs3 (extrusionOf bs .spine) in
-    rw (e, ← lengths G) (spliced-part l at p (omega (arith, lengths G)))
+    put-part l at p e (lengths G) room
 
 module _ {bs : List ℕ} {h : Header} {floats : List Float} {at : ℕ} {fit : Fit} (T : Measured bs h floats at fit) where
   pub arcs-room : at + (sectionCount h + spineCount h) ≤ length floats
@@ -107,7 +102,7 @@ module _ {bs : List ℕ} {h : Header} {floats : List Float} {at : ℕ} {fit : Fi
   column-lt = mod-lt p (let q = T .given .section in omega arith)
 
   row-under : p / m < n
-  row-under = row-lt p n m (let q = T .given .section in omega arith) (rw (en, em) l)
+  row-under = div-lt-iff-lt-mul {k = m} {x = p} {y = n} (let q = T .given .section in omega arith) .1 (rw (en, em) l)
 
   pub column-reach : at + p % m < length floats
   column-reach = omega (arith, arcs-room T, column-lt)

@@ -1,10 +1,9 @@
 -- FORMAT 2.4: what is read from the bytes of a list is its entry.
 use mathlib.Core.Path.{_≡_, refl, sym, ap, _∙_}
-use mathlib.Core.List.{List, [], _∷_}
-use Prim.Native.Nat.{ℕ, zero, suc, _+_, _*_, _≤_, _<_}
-use native.Mathlib.Nat.{not-suc-le-zero, le-of-suc-le-suc}
+use mathlib.Core.List.{List}
+use Prim.Native.Nat.{ℕ, _+_, _*_, _≤_, _<_}
 use native.Mathlib.Omega.{arith}
-use lib.ListN.{length, getD, List·getD-eq-default}
+use lib.ListN.{length, List·getD-eq-default}
 use lib.Ieee.{Float, binary32, ofBits}
 use Rattle.bits.specs.Bits.{wordAt}
 use Rattle.math.specs.declared.quaternion.Quat.{Quat}
@@ -16,6 +15,7 @@ use Rattle.block.specs.Texture.{pairOf}
 use Rattle.block.proofs.ValueLaws.{word-first}
 use Rattle.lists.specs.Loops.{tab}
 use Rattle.lists.proofs.Tabs.{length-tab, tab-at}
+use Rattle.lists.proofs.Lists.{getD-any}
 use Rattle.mesh.specs.Words.{floats}
 use Rattle.mesh.specs.Frames.{origin, at}
 use Rattle.mesh.specs.Arcs.{at2}
@@ -52,12 +52,6 @@ pub turn-is : (b : List ℕ) (k : ℕ) (x y z s c : Float) (r : Quat) → x ≡ 
     → r ≡ axisTurn (v3 x y z) s c → r ≡ turnIn b k
 unfolding turnIn
 turn-is b k x y z s c r ex ey ez es ec er = er ∙ (λ t. axisTurn (v3 (first-float 5 b k x ex t) (ey t) (ez t)) (es t) (ec t))
-
--- in range any default does
-pub getD-any : {A : Type 0} (l : List A) (i : ℕ) (d e : A) → i < length l → getD l i d ≡ getD l i e
-getD-any [] i d e h = absurd (not-suc-le-zero h)
-getD-any (x ∷ xs) zero d e h = refl
-getD-any (x ∷ xs) (suc i) d e h = getD-any xs i d e (le-of-suc-le-suc h)
 
 module _ (l : List Pair) (k i : ℕ) (e : k ≡ length l) (r : Pair) where
   pub scale-own : i < k → r ≡ at2 l i → r ≡ scaleAt l i

@@ -2,9 +2,7 @@
 use mathlib.Core.Path.{_≡_, refl, sym, ap, _∙_}
 use mathlib.Core.List.{List}
 use Prim.Native.Nat.{ℕ, suc, _+_, _*_, _≤_, _<_}
-use native.Mathlib.Nat.{suc-mul, mul-le-mul-right}
 use native.Mathlib.Numerals.{add-one}
-use native.Mathlib.Omega.{arith}
 use lib.ListN.{length}
 use Rattle.math.specs.declared.vector.V3.{V3}
 use Rattle.math.specs.declared.vector.Unit.{Unit}
@@ -59,22 +57,16 @@ row-length sp cs scs qs m i e = length-words _ 3 (λ p. refl) cs ∙ ap (λ (k :
 
 -- ---- the walk along the spine
 
--- row i and the place behind it
-pub row-room : (k n w i len : ℕ) → k + n * w ≤ len → i < n → k + i * w + w ≤ len
-row-room k n w i len h l =
-    let p : suc i * w ≤ n * w = mul-le-mul-right w l in
-    omega (arith, suc-mul i w)
-
 -- the state before point i
-pub record Walked (sp : List V3) (cs scs : List Pair) (qs : List Quat) (l : List ℕ) (k i : ℕ) (work : List ℕ) (y prev : Unit) : Type 0 where
+pub record Walked (sp : List V3) (cs scs : List Pair) (qs : List Quat) (n : ℕ) (l : List ℕ) (k i : ℕ) (work : List ℕ) (y prev : Unit) : Type 0 where
   pub y-is : y ≡ lastOf (firstY sp) (yOwn sp) i
   pub prev-is : prev ≡ prevZ sp i
-  pub rows : Pieces (rowBy sp cs scs qs) l k i work
+  pub rows : Pieces (rowBy sp cs scs qs) n l k i work
 
 module _ (sp : List V3) (cs scs : List Pair) (qs : List Quat) where
-  pub walk-start : (l : List ℕ) (k : ℕ) (y : Unit) → y ≡ firstY sp → Walked sp cs scs qs l k 0 l y Nothing
+  pub walk-start : (n : ℕ) (l : List ℕ) (k : ℕ) (y : Unit) → y ≡ firstY sp → Walked sp cs scs qs n l k 0 l y Nothing
   unfolding lastOf prevZ
-  walk-start l k y e = record { y-is = e; prev-is = refl; rows = pieces-none (rowBy sp cs scs qs) l k }
+  walk-start n l k y e = record { y-is = e; prev-is = refl; rows = pieces-none }
 
   axes-is : (i : ℕ) (first y₀ y own y' prev z : Unit) (v : V3) (f : Axes) → first ≡ firstZ sp → y₀ ≡ firstY sp → y ≡ lastOf (firstY sp) (yOwn sp) i → own ≡ yOwn sp i → y' ≡ or own y
       → prev ≡ prevZ sp i → z ≡ zOwn sp i → v ≡ pickZ first prev z → f ≡ axesBy first y₀ y' v → f ≡ axesAt sp i
@@ -89,16 +81,16 @@ module _ (sp : List V3) (cs scs : List Pair) (qs : List Quat) where
   unfolding rowBy
   row-by i o f q sc eo ef eq es = rw (eo, ef, eq, es) refl
 
-  pub walk-step : (l work work' : List ℕ) (k i m : ℕ) (first y₀ y own y' prev z : Unit) (v o : V3) (f : PlaneAxes) (q : Quat) (sc : Pair)
-      → Walked sp cs scs qs l k i work y prev → m ≡ length cs → k + i * (3 * m) + 3 * m ≤ length l
+  pub walk-step : (n : ℕ) (l work work' : List ℕ) (k i m : ℕ) (first y₀ y own y' prev z : Unit) (v o : V3) (f : PlaneAxes) (q : Quat) (sc : Pair)
+      → Walked sp cs scs qs n l k i work y prev → m ≡ length cs → k + n * (3 * m) ≤ length l → i < n
       → first ≡ firstZ sp → y₀ ≡ firstY sp → own ≡ yOwn sp i → y' ≡ or own y → z ≡ zOwn sp i → v ≡ pickZ first prev z → axesOf f ≡ axesBy first y₀ y' v
       → o ≡ at sp i → q ≡ turnAt qs i → sc ≡ scaleAt scs i
       → work' ≡ spliced work (k + i * (3 * m)) (rowWords o (axesOf f) q sc cs)
-      → Walked sp cs scs qs l k (i + 1) work' y' (Of v)
-  walk-step l work work' k i m first y₀ y own y' prev z v o f q sc w em room ef e₀ eo ey' ez ev er eO eQ eS ew =
+      → Walked sp cs scs qs n l k (i + 1) work' y' (Of v)
+  walk-step n l work work' k i m first y₀ y own y' prev z v o f q sc w em room h ef e₀ eo ey' ez ev er eO eQ eS ew =
       let fr : axesOf f ≡ axesAt sp i = axes-is i first y₀ y own y' prev z v (axesOf f) ef e₀ (w .y-is) eo ey' (w .prev-is) ez ev er in
       record {
         y-is = last-step _ _ _ _ _ _ (w .y-is) eo ey';
         prev-is = ap Of (ev ∙ (λ j. pickZ (ef j) (w .prev-is j) (ez j))) ∙ sym (prev-more i) ∙ ap (prevZ sp) (sym (add-one i));
-        rows = pieces-more (rowBy sp cs scs qs) (3 * m) (λ t. row-length sp cs scs qs m t em) l work work' _ k i _ refl room (w .rows) (row-by i o (axesOf f) q sc eO fr eQ eS) ew;
+        rows = pieces-more (3 * m) (λ t. row-length sp cs scs qs m t em) room (w .rows) h refl (row-by i o (axesOf f) q sc eO fr eQ eS) ew;
       }

@@ -4,7 +4,8 @@ ghost use Prim.Native.Nat.{_+_, _≤_};
 ghost use lib.ListN.{length};
 ghost use Rattle.mesh.specs.Extrusion.{spineCount, sectionCount};
 ghost use Rattle.tables.specs.Layout.{most};
-ghost use Rattle.lists.specs.Parts.{Written};
+ghost use Rattle.lists.specs.Loops.{tab};
+ghost use Rattle.lists.specs.Parts.{spliced};
 ghost use Rattle.tables.specs.Listed.{Beside, Listed};
 ghost use Rattle.extrusion.specs.Listings.{extrusionListings, sizeAt, startAt, Planned};
 use crate::faces::put_uses;
@@ -26,7 +27,7 @@ fn size_at(sides: usize, cap: usize, j: usize) -> usize
 // How many corners stand before each face, and before the end.
 fn put_starts(work: &mut [u32], k: usize, sides: usize, faces: usize, cap: usize)
     requires { ⌜ (faces ≤ most) × (startAt sides cap faces ≤ most) × (cap ≤ most) × (k + (faces + 1) ≤ length (now work)) ⌝ }
-    ensures { λ _. ⌜ Written k (faces + 1) (startAt sides cap) (now (work .entry)) (now (work .exit)) ⌝ }
+    ensures { λ _. ⌜ now (work .exit) ≡ spliced (now (work .entry)) k (tab (startAt sides cap) (faces + 1) 0) ⌝ }
 {
     let mut c = 0;
     let mut j = 0;
@@ -40,7 +41,7 @@ fn put_starts(work: &mut [u32], k: usize, sides: usize, faces: usize, cap: usize
 // 0, 1, ..
 fn put_numbers(work: &mut [u32], k: usize, faces: usize)
     requires { ⌜ (faces ≤ most) × (k + faces ≤ length (now work)) ⌝ }
-    ensures { λ _. ⌜ Written k faces (λ j. j) (now (work .entry)) (now (work .exit)) ⌝ }
+    ensures { λ _. ⌜ now (work .exit) ≡ spliced (now (work .entry)) k (tab (λ j. j) faces 0) ⌝ }
 {
     let mut j = 0;
     while j < faces {

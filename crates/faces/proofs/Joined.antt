@@ -1,9 +1,9 @@
 -- The indices from the tables are those of the mesh's definition.
 use mathlib.Core.Path.{_≡_, refl, sym, ap, _∙_, subst}
 use mathlib.Core.Bool.{Bool}
-use mathlib.Core.List.{List, [], _∷_, _++_, map}
+use mathlib.Core.List.{List, [], _∷_, map}
 use Prim.Native.Nat.{ℕ, zero, suc, _+_, _-_, _*_, _≤_, _<_}
-use native.Mathlib.Nat.{zero-add, add-zero, add-suc, suc-add}
+use native.Mathlib.Nat.{zero-add}
 use native.Mathlib.Omega.{arith}
 use lib.Ieee.{Float}
 use lib.ListN.{length, getD, length-append}
@@ -13,7 +13,7 @@ use Rattle.polygon.specs.Points.{spots}
 use Rattle.polygon.specs.Facing.{newell}
 use Rattle.polygon.specs.Plane.{handed}
 use Rattle.polygon.specs.Face.{triangles}
-use Rattle.lists.specs.Lists.{joinN, place, flat}
+use Rattle.lists.specs.Lists.{place, flat}
 use Rattle.mesh.specs.Soup.{Face, pointsOf, Frame}
 use Rattle.mesh.specs.Normals.{outline, facing}
 use Rattle.mesh.specs.Vertices.{Key, noKey, sameKey, keysOf, wound, locals, faceIndices, indicesOf}
@@ -23,6 +23,7 @@ use Rattle.tables.specs.declared.layout.Plan.{Plan}
 use Rattle.lists.specs.Parts.{seg}
 use Rattle.tables.specs.Soups.{startIn, namedIn, bare, Sound, Holds}
 use Rattle.lists.proofs.Keep.{seg-at}
+use Rattle.lists.proofs.Pieces.{flat-join}
 use Rattle.tables.proofs.Stays.{start-le, names-in}
 use Rattle.tables.proofs.Held.{faces-held, face-held, start-held}
 use Rattle.faces.specs.Naming.{numbered}
@@ -32,17 +33,6 @@ use Rattle.faces.proofs.Pieces.{length-one}
 points-bare : (f : Face) → pointsOf (map bare f) ≡ pointsOf f
 points-bare [] = refl
 points-bare (c ∷ f) = ap (λ (l : List ℕ). c .point ∷ l) (points-bare f)
-
--- pieces given by number
-flat-join : {A B : Type 0} (f : ℕ → List B) (g : ℕ → A → List B) (d : A) (n : ℕ) (l : List A)
-    → ((j : ℕ) → j < length l → f (n + j) ≡ g (n + j) (getD l j d)) → flat (tab f (length l) n) ≡ joinN g n l
-unfolding flat tab joinN
-flat-join f g d n [] same = refl
-flat-join f g d n (x ∷ xs) same =
-    let first : f n ≡ g n x = subst (λ (k : ℕ). f k ≡ g k x) (add-zero n) (same 0 (omega arith)) in
-    let rest : flat (tab f (length xs) (suc n)) ≡ joinN g (suc n) xs
-    = flat-join f g d (suc n) xs (λ j b. subst (λ (k : ℕ). f k ≡ g k (getD xs j d)) (add-suc n j ∙ sym (suc-add n j)) (same (suc j) (omega arith))) in
-    λ i. first i ++ rest i
 
 module _ {w : List ℕ} {t : Plan} {F : Frame} {fs : List Face} {vs : List Key} (H : Holds w t F fs) (N : Named w t F fs vs) where
   -- the vertex number of a corner, as it is read

@@ -1,15 +1,14 @@
 -- One face of the tables: how many indices it has, that it is kept, and what the functions leave. Then the room that is lent.
 use mathlib.Core.Path.{_≡_, refl, sym, ap, ap₂, _∙_}
 use mathlib.Core.Bool.{Bool}
-use mathlib.Core.List.{List, [], _∷_, _++_}
+use mathlib.Core.List.{List, [], _∷_}
 use Prim.Native.Nat.{ℕ, suc, _+_, _-_, _*_, _≤_, _<_}
 use native.Mathlib.Omega.{arith}
 use borrow.Author.Tests.{lt-ltb, le-ltb}
-use borrow.Rule.Slice.PartMut.{putMid, midOf, postOf, same-len-mid}
 use lib.Dec.{ltb}
 use lib.Ieee.{Float}
 use lib.ListN.{length, take, drop}
-use lib.Seq.{sets, take-at, length-take-le}
+use lib.Seq.{sets}
 use Rattle.math.specs.declared.vector.V3.{V3}
 use Rattle.lists.specs.Loops.{pick}
 use Rattle.polygon.specs.Points.{spots}
@@ -23,26 +22,11 @@ use Rattle.tables.specs.declared.layout.Plan.{Plan}
 use Rattle.tables.specs.Layout.{planOf}
 use Rattle.lists.specs.Parts.{seg, Kept}
 use Rattle.tables.specs.Soups.{startIn, pointsIn, Sound}
-use Rattle.lists.proofs.Keep.{kept-all, kept-seg, length-seg}
+use Rattle.lists.proofs.Keep.{kept-all, kept-seg, length-seg, part-seg}
 use Rattle.tables.proofs.Stays.{start-le, start-kept, points-kept}
 use Rattle.faces.specs.Naming.{threes, numbered}
 use Rattle.faces.specs.Indices.{outlineIn, facingIn, trianglesIn, cornersMade, oneFace, planeIn, cornersFloats, oneFloats, Ready, Put}
 use Rattle.faces.proofs.Threes.{length-numbered, in-place}
-
--- a part as it is lent
-pub part-seg : (w : List ℕ) (lo hi n : ℕ) → hi ≡ lo + n → take (hi - lo) (drop lo w) ≡ seg w lo n
-unfolding seg
-part-seg w lo hi n h = let e : hi - lo ≡ n = omega arith in ap (λ (k : ℕ). take k (drop lo w)) e
-
-pub part-length : (w : List ℕ) (lo hi n : ℕ) → hi ≡ lo + n → lo + n ≤ length w → length (take (hi - lo) (drop lo w)) ≡ n
-part-length w lo hi n h k = ap length (part-seg w lo hi n h) ∙ length-seg w lo n k
-
--- what a call leaves in a part keeps what is below it
-pub kept-mid : (w last : List ℕ) (lo k : ℕ) → lo + k ≤ length w → length last ≡ length (midOf lo k w) → Kept lo w (putMid lo k w last)
-kept-mid w last lo k h e = record {
-  len = same-len-mid lo k w last e;
-  front = take-at (take lo w) (last ++ postOf lo k w) lo (length-take-le lo w (omega arith));
-}
 
 module _ (w : List ℕ) (t : Plan) (ccw : Bool) (a n : ℕ) where
   -- what `put_plane` leaves

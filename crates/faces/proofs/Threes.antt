@@ -5,8 +5,10 @@ use mathlib.Core.List.{List, [], _∷_, _++_, append-assoc}
 use Prim.Native.Nat.{ℕ, suc, _+_, _-_, _*_, _≤_, _<_}
 use native.Mathlib.Nat.{sub-zero}
 use native.Mathlib.Omega.{arith}
-use lib.ListN.{length, getD, take, drop, set}
-use lib.Seq.{drop-cons, sets, sets-eq, length-sets, take-set-le, drop-set-lt, drop-at, length-take-le}
+use lib.ListN.{length, getD, take, drop}
+use lib.Seq.{sets, sets-eq, length-sets, drop-at, length-take-le}
+use Rattle.lists.proofs.Lists.{drop-three}
+use Rattle.lists.proofs.Stores.{sets-over, drop-sets}
 use Rattle.polygon.specs.Ears.{Tri, triple, flat}
 use Rattle.polygon.proofs.Whole.{length-flat}
 use Rattle.mesh.specs.Vertices.{wound}
@@ -17,36 +19,7 @@ unfolding numbered wound
 length-numbered ccw named [] = refl
 length-numbered ccw named (t ∷ ts) = let h : length (numbered ccw named ts) ≡ length ts * 3 = length-numbered ccw named ts in omega arith
 
--- ---- stores outside a part
-
-take-sets-le : (vs l : List ℕ) (k n : ℕ) → n ≤ k → take n (sets l k vs) ≡ take n l
-take-sets-le [] l k n h = refl
-take-sets-le (x ∷ vs) l k n h = take-sets-le vs (set l k x) (suc k) n (omega arith) ∙ take-set-le n l k x h
-
-drop-sets : (vs l : List ℕ) (k n : ℕ) → k + length vs ≤ n → drop n (sets l k vs) ≡ drop n l
-drop-sets [] l k n h = refl
-drop-sets (x ∷ vs) l k n h = drop-sets vs (set l k x) (suc k) n (omega arith) ∙ drop-set-lt n l k x (omega arith)
-
--- the second of two runs of stores is what counts
-sets-over : (xs ys l : List ℕ) (at : ℕ) → length xs ≡ length ys → at + length ys ≤ length l → sets (sets l at xs) at ys ≡ sets l at ys
-sets-over xs ys l at e h =
-    let b : length (sets l at xs) ≡ length l = length-sets l at xs in
-    let p : take at (sets l at xs) ≡ take at l = take-sets-le xs l at at (omega arith) in
-    let q : drop (at + length ys) (sets l at xs) ≡ drop (at + length ys) l = drop-sets xs l at (at + length ys) (omega arith) in
-    sets-eq ys (sets l at xs) at (omega arith) ∙ (λ i. p i ++ ys ++ q i) ∙ sym (sets-eq ys l at h)
-
 -- ---- the loop that renames
-
-drop-three : (l : List ℕ) (k : ℕ) → k + 3 ≤ length l → drop k l ≡ getD l k 0 ∷ getD l (k + 1) 0 ∷ getD l (k + 2) 0 ∷ drop (k + 3) l
-drop-three l k h =
-    let e1 : suc k ≡ k + 1 = omega arith in
-    let e2 : suc (k + 1) ≡ k + 2 = omega arith in
-    let e3 : suc (k + 2) ≡ k + 3 = omega arith in
-    drop-cons l k 0 (omega arith)
-    ∙ ap (λ (r : List ℕ). getD l k 0 ∷ r)
-    (ap (λ (j : ℕ). drop j l) e1 ∙ drop-cons l (k + 1) 0 (omega arith)
-    ∙ ap (λ (r : List ℕ). getD l (k + 1) 0 ∷ r)
-    (ap (λ (j : ℕ). drop j l) e2 ∙ drop-cons l (k + 2) 0 (omega arith) ∙ ap (λ (j : ℕ). getD l (k + 2) 0 ∷ drop j l) e3))
 
 module _ (ccw : Bool) (named : List ℕ) where
   -- i of n triangles are renamed
@@ -87,7 +60,7 @@ module _ (ccw : Bool) (named : List ℕ) where
             ∙ ap (λ (x : List ℕ). sets x (k + 3) (numbered ccw named (threes m r))) e
             ∙ ap (λ (j : ℕ). sets (sets o k (numbered ccw named (T ∷ []))) j (numbered ccw named (threes m r))) (sym u)
             ∙ ap (λ (j : ℕ). sets o k (numbered ccw named (threes j (getD o k 0 ∷ getD o (k + 1) 0 ∷ getD o (k + 2) 0 ∷ r)))) (sym f)
-            ∙ ap (λ (x : List ℕ). sets o k (numbered ccw named (threes (n - i) x))) (sym (drop-three o k (omega arith)))
+            ∙ ap (λ (x : List ℕ). sets o k (numbered ccw named (threes (n - i) x))) (sym (drop-three 0 o k (omega arith)))
             ∙ ap (λ (j : ℕ). sets o j (numbered ccw named (threes (n - i) (drop j o)))) q
             ∙ R .rest;
       }

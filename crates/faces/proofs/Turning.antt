@@ -1,5 +1,5 @@
 -- The loop over the kept faces: start, one turn, end. The next face goes behind the last.
-use mathlib.Core.Path.{_≡_, refl, sym, ap, ap₂, _∙_}
+use mathlib.Core.Path.{_≡_, sym, ap, ap₂, _∙_}
 use mathlib.Core.Bool.{Bool}
 use mathlib.Core.List.{List, [], _++_}
 use Prim.Native.Nat.{ℕ, suc, _+_, _-_, _*_, _≤_, _<_}
@@ -7,16 +7,16 @@ use native.Mathlib.Nat.{zero-add, sub-zero}
 use native.Mathlib.Numerals.{add-one}
 use native.Mathlib.Omega.{arith}
 use lib.Ieee.{Float}
-use lib.ListN.{length, drop, length-append}
-use lib.Seq.{sets, sets-eq, length-sets}
+use lib.ListN.{length, drop}
+use lib.Seq.{sets, sets-eq}
 use Rattle.lists.specs.Loops.{tab, run}
 use Rattle.lists.proofs.Loops.{run-go, run-end}
 use Rattle.lists.specs.Lists.{flat}
-use Rattle.lists.proofs.Lists.{sets-append}
 use Rattle.tables.specs.declared.layout.Plan.{Plan}
 use Rattle.lists.specs.Parts.{Kept}
 use Rattle.tables.specs.Soups.{startIn}
 use Rattle.lists.proofs.Keep.{kept-all, kept-then}
+use Rattle.lists.proofs.Putting.{Split, stores, Left, left-all, left-here, left-next, left-end}
 use Rattle.tables.proofs.Stays.{sound-kept}
 use Rattle.faces.specs.Indices.{oneFace, allFaces, oneFloats, allFloats, Ready, Put, Made}
 use Rattle.faces.proofs.Pieces.{length-one, one-kept, one-floats}
@@ -30,9 +30,7 @@ module _ (w₀ : List ℕ) (t : Plan) (ccw convex : Bool) where
   pub record Facing (o₀ o w : List ℕ) (f₀ f : List Float) (g at : ℕ) : Type 0 where
     pub within : g ≤ t .faces
     pub kept : Kept (t .places) w₀ w
-    pub long : length o ≡ length o₀
-    pub count : at + length (rest g) ≡ length (allFaces w₀ t ccw convex)
-    pub made : sets o at (rest g) ≡ sets o₀ 0 (allFaces w₀ t ccw convex)
+    pub left : Left sets (allFaces w₀ t ccw convex) 0 o₀ (rest g) at o
     pub floats : run (oneFloats w₀ t ccw) (t .faces - g) g f ≡ allFloats w₀ t ccw f₀
 
   rest-all : rest 0 ≡ allFaces w₀ t ccw convex
@@ -52,9 +50,7 @@ module _ (w₀ : List ℕ) (t : Plan) (ccw convex : Bool) where
   facing-start o f = record {
     within = omega arith;
     kept = kept-all;
-    long = refl;
-    count = let e = ap length rest-all in omega (arith, e);
-    made = ap (sets o 0) rest-all;
+    left = rw rest-all (left-all sets);
     floats = ap (λ (k : ℕ). run (oneFloats w₀ t ccw) k 0 f) (sub-zero (t .faces));
   }
 
@@ -71,37 +67,22 @@ module _ (w₀ : List ℕ) (t : Plan) (ccw convex : Bool) where
       same : oneFace w t ccw convex g ≡ oneFace w₀ t ccw convex g
       same = one-kept (F .kept) (Q .sound) ccw convex g h
 
-      length-now : length (rest g) ≡ length (oneFace w t ccw convex g) + length (rest (suc g))
-      length-now =
-          ap length (rest-now g h ∙ ap (λ (l : List ℕ). l ++ rest (suc g)) (sym same)) ∙ length-append (oneFace w t ccw convex g) (rest (suc g))
+      split : Split (rest g) (oneFace w t ccw convex g) (rest (g + 1))
+      split = record { is = rest-now g h ∙ ap₂ (λ (l m : List ℕ). l ++ m) (sym same) (ap rest (sym (add-one g))) }
 
       pub facing-room : length (allFaces w₀ t ccw convex) ≤ length o₀ → at + (startIn w t (suc g) - startIn w t g - 2) * 3 ≤ length o
       facing-room b =
           let R = Q .sound .room in
           let e = length-one (sound-kept (F .kept) t (omega arith) (Q .sound)) ccw convex g h in
-          let x = length-now in
-          let y = F .count in
-          let z = F .long in
-          omega (arith, e, x, y, z, b)
+          omega (arith, e, left-here (F .left) split, F .left .len, b)
 
       pub facing-go : (o′ w′ : List ℕ) (f′ : List Float) (r : ℕ) → Put t (oneFace w t ccw convex g) (oneFloats w t ccw g f) at r o o′ w w′ f′
           → Facing o₀ o′ w′ f₀ f′ (g + 1) r
       facing-go o′ w′ f′ r P =
-          let xs : List ℕ = oneFace w t ccw convex g in
-          let q : rest (g + 1) ≡ rest (suc g) = ap rest (add-one g) in
-          let x = length-now in
-          let y = F .count in
-          let n = P .next in
-          let m : length (rest (g + 1)) ≡ length (rest (suc g)) = ap length q in
-          let s : rest g ≡ xs ++ rest (suc g) = rest-now g h ∙ ap (λ (l : List ℕ). l ++ rest (suc g)) (sym same) in
           record {
             within = omega arith;
             kept = kept-then (F .kept) (P .kept) (omega arith);
-            long = ap length (P .made) ∙ length-sets o at xs ∙ F .long;
-            count = omega (arith, x, y, n, m);
-            made =
-                ap (sets o′ r) q ∙ ap₂ (λ (l : List ℕ) (k : ℕ). sets l k (rest (suc g))) (P .made) n
-                ∙ sym (sets-append xs (rest (suc g)) o at) ∙ ap (sets o at) (sym s) ∙ F .made;
+            left = left-next (F .left) split stores (record { next = P .next; made = P .made });
             floats =
                 ap (run (oneFloats w₀ t ccw) (t .faces - (g + 1)) (g + 1)) (P .floats ∙ one-floats (F .kept) (Q .sound) ccw convex g h f)
                 ∙ sym (run-go (oneFloats w₀ t ccw) (t .faces) g f h) ∙ F .floats;
@@ -110,11 +91,10 @@ module _ (w₀ : List ℕ) (t : Plan) (ccw convex : Bool) where
   pub facing-end : (o₀ o w : List ℕ) (f₀ f : List Float) (g at : ℕ) → t .faces ≤ g → length (allFaces w₀ t ccw convex) ≤ length o₀ → Facing o₀ o w f₀ f g at
       → Made t (allFaces w₀ t ccw convex) (allFloats w₀ t ccw f₀) at o₀ o w₀ w f
   facing-end o₀ o w f₀ f g at h b F =
-      let z : length (rest g) ≡ 0 = ap length (rest-none g h) in
-      let y = F .count in
+      let A = left-end (F .left) stores (rest-none g h) in
       record {
-        count = omega (arith, z, y);
-        made = ap (sets o at) (sym (rest-none g h)) ∙ F .made ∙ sets-eq (allFaces w₀ t ccw convex) o₀ 0 (omega (arith, b))
+        count = A .next ∙ zero-add (length (allFaces w₀ t ccw convex));
+        made = A .made ∙ sets-eq (allFaces w₀ t ccw convex) o₀ 0 (omega (arith, b))
             ∙ ap (λ (k : ℕ). allFaces w₀ t ccw convex ++ drop k o₀) (zero-add (length (allFaces w₀ t ccw convex)));
         kept = F .kept;
         floats = sym (run-end (oneFloats w₀ t ccw) (t .faces) g f h) ∙ F .floats;

@@ -18,16 +18,16 @@ use Rattle.block.proofs.RunLaws.{runs-turn, sum-turn, sum-ended, kept-below, fa
 use Rattle.lists.specs.Lists.{mapN, joinN}
 use Rattle.lists.proofs.Lists.{length-mapN, getD-mapN}
 use Rattle.tables.specs.declared.layout.Plan.{Plan}
-use Rattle.tables.specs.Soups.{pointIn, startIn, numberIn, placeIn}
+use Rattle.tables.specs.Soups.{pointIn, startIn, placeIn}
 use Rattle.tables.specs.Listed.{Use, noUse, noListing, Listing, usesAt, Beside}
 use Rattle.lists.proofs.Keep.{set-hit}
-use Rattle.lists.proofs.Written.{written-one}
+use Rattle.lists.proofs.Splices.{set-is}
 use Rattle.tables.proofs.Besides.{beside-all, beside-starts}
 use Rattle.faceset.specs.declared.listing.Progress.{Progress}
 use Rattle.faceset.specs.Listings.{useOf, listingOf, listed, listingsOf}
-use Rattle.faceset.specs.Passing.{Fits, FaceAdded, Planned, ListedTo, Underway, Turned, FacesListed}
+use Rattle.faceset.specs.Passing.{Fits, faceAdded, Planned, ListedTo, Underway, Turned, FacesListed}
 use Rattle.faceset.proofs.Faces.{listings-kept, listings-lost, length-listings}
-use Rattle.faceset.proofs.Writing.{more-at, one-more}
+use Rattle.faceset.proofs.Writing.{face-beside, start-old, number-old, point-old, place-old, start-new, number-new, point-new, place-new}
 
 -- ---- one face more in the tables
 
@@ -42,42 +42,13 @@ module _ {w : List ℕ} {t : Plan} {ls : List Listing} {g c : ℕ} (M : ListedTo
   corner-below : (j i : ℕ) → j < g → i < length (usesAt ls j) → startIn w t j + i < c
   corner-below j i h b = let q : suc j + (g - suc j) ≡ g = omega arith in omega (arith, M .starts j h, start-below (g - suc j) (suc j) q)
 
-module _ {t : Plan} {p : Progress} {es w w′ : List ℕ} {ls : List Listing} (M : ListedTo w t ls (p .faces) (p .corner .0)) (A : FaceAdded t p es w w′)
+module _ (es : List ℕ) {t : Plan} {p : Progress} {w : List ℕ} {ls : List Listing} (M : ListedTo w t ls (p .faces) (p .corner .0)) (F : Fits (length w) t p (length es))
     (here : getD ls (p .faces) noListing ≡ listingOf (p .runs) (runOf (p .start) es)) (points : (k : ℕ) → k < length es → getD es k 0 < t .spots) where
-  start-old : (j : ℕ) → j < suc (p .faces) → startIn w′ t j ≡ startIn w t j
-  unfolding startIn
-  start-old j h = A .starts .old .at j h
-
-  start-new : startIn w′ t (suc (p .faces)) ≡ p .corner .0 + length es
-  unfolding startIn
-  start-new = one-more (A .starts)
+  abbrev w′ : List ℕ
+  w′ = faceAdded t p es w
 
   start-here : startIn w′ t (p .faces) ≡ p .corner .0
-  start-here = start-old (p .faces) (omega arith) ∙ M .last
-
-  number-old : (j : ℕ) → j < p .faces → numberIn w′ t j ≡ numberIn w t j
-  unfolding numberIn
-  number-old j h = A .numbers .old .at j h
-
-  number-new : numberIn w′ t (p .faces) ≡ p .runs
-  unfolding numberIn
-  number-new = one-more (A .numbers)
-
-  point-old : (k : ℕ) → k < p .corner .0 → pointIn w′ t k ≡ pointIn w t k
-  unfolding pointIn
-  point-old k h = A .points .old .at k h
-
-  point-new : (i : ℕ) → i < length es → pointIn w′ t (p .corner .0 + i) ≡ getD es i 0
-  unfolding pointIn
-  point-new i h = more-at (A .points) i h
-
-  place-old : (k : ℕ) → k < p .corner .0 → placeIn w′ t k ≡ placeIn w t k
-  unfolding placeIn
-  place-old k h = A .places .old .at k h
-
-  place-new : (i : ℕ) → i < length es → placeIn w′ t (p .corner .0 + i) ≡ p .start + i
-  unfolding placeIn
-  place-new i h = more-at (A .places) i h
+  start-here = start-old t p es w F (p .faces) (omega arith) ∙ M .last
 
   uses-here : usesAt ls (p .faces) ≡ mapN useOf (p .start) es
   uses-here = ap (λ (l : Listing). l .uses) here
@@ -92,12 +63,12 @@ module _ {t : Plan} {p : Progress} {es w w′ : List ℕ} {ls : List Listing} (M
   point-within k h = go (ltb k (p .corner .0)) refl
     where
       go : (b : Bool) → ltb k (p .corner .0) ≡ b → pointIn w′ t k < t .spots
-      go true q = let l = ltb-true k (p .corner .0) q in rw (point-old k l) (M .within k l)
+      go true q = let l = ltb-true k (p .corner .0) q in rw (point-old t p es w F k l) (M .within k l)
       go false q =
           let l = ltb-false k (p .corner .0) q in
           let b : k - p .corner .0 < length es = omega arith in
           let e : p .corner .0 + (k - p .corner .0) ≡ k = omega arith in
-          subst (λ (m : ℕ). m < t .spots) (sym (point-new (k - p .corner .0) b) ∙ ap (pointIn w′ t) e) (points (k - p .corner .0) b)
+          subst (λ (m : ℕ). m < t .spots) (sym (point-new t p es w F (k - p .corner .0) b) ∙ ap (pointIn w′ t) e) (points (k - p .corner .0) b)
 
   -- a table of the corners: as it is read, in w and in w′, and the part of a use that it holds
   values-more : (read read′ : ℕ → ℕ) (value : Use → ℕ)
@@ -107,22 +78,22 @@ module _ {t : Plan} {p : Progress} {es w w′ : List ℕ} {ls : List Listing} (M
       → (j i : ℕ) → j < p .faces + 1 → i < length (usesAt ls j) → read′ (startIn w′ t j + i) ≡ value (getD (usesAt ls j) i noUse)
   values-more read read′ value old new all j i h b =
       below-more (λ (j : ℕ). (i : ℕ) → i < length (usesAt ls j) → read′ (startIn w′ t j + i) ≡ value (getD (usesAt ls j) i noUse)) (p .faces)
-      (λ j h i b. ap (λ (a : ℕ). read′ (a + i)) (start-old j (omega arith)) ∙ old (startIn w t j + i) (corner-below M j i h b) ∙ all j i h b)
+      (λ j h i b. ap (λ (a : ℕ). read′ (a + i)) (start-old t p es w F j (omega arith)) ∙ old (startIn w t j + i) (corner-below M j i h b) ∙ all j i h b)
       (λ i b.
       let q : i < length es = omega (arith, count-here) in
       ap (λ (a : ℕ). read′ (a + i)) start-here ∙ new i q ∙ sym (ap value (use-here i q))) j h i b
 
   listed-more : ListedTo w′ t ls (p .faces + 1) (p .corner .0 + length es)
   listed-more = record {
-    first = start-old 0 (omega arith) ∙ M .first;
+    first = start-old t p es w F 0 (omega arith) ∙ M .first;
     starts = below-more _ (p .faces)
-        (λ j h. start-old (suc j) (omega arith) ∙ M .starts j h ∙ ap (λ (a : ℕ). a + length (usesAt ls j)) (sym (start-old j (omega arith))))
-        (start-new ∙ omega (arith, start-here, count-here));
-    last = rw add-one start-new;
+        (λ j h. start-old t p es w F (suc j) (omega arith) ∙ M .starts j h ∙ ap (λ (a : ℕ). a + length (usesAt ls j)) (sym (start-old t p es w F j (omega arith))))
+        (start-new t p es w F ∙ omega (arith, start-here, count-here));
+    last = rw add-one (start-new t p es w F);
     within = point-within;
-    numbers = below-more _ (p .faces) (λ j h. number-old j h ∙ M .numbers j h) (number-new ∙ sym (ap (λ (l : Listing). l .number) here));
-    points = values-more (pointIn w t) (pointIn w′ t) (λ (u : Use). u .point) point-old point-new (M .points);
-    places = values-more (placeIn w t) (placeIn w′ t) (λ (u : Use). u .place) place-old place-new (M .places);
+    numbers = below-more _ (p .faces) (λ j h. number-old t p es w F j h ∙ M .numbers j h) (number-new t p es w F ∙ sym (ap (λ (l : Listing). l .number) here));
+    points = values-more (pointIn w t) (pointIn w′ t) (λ (u : Use). u .point) (point-old t p es w F) (point-new t p es w F) (M .points);
+    places = values-more (placeIn w t) (placeIn w′ t) (λ (u : Use). u .place) (place-old t p es w F) (place-new t p es w F) (M .places);
   }
 
 -- ---- one run more
@@ -177,7 +148,7 @@ module _ {points : ℕ} {bs w : List ℕ} {t : Plan} {p : Progress} (L : Planned
     left-cons = drop-cons (listingsOf points (entries bs)) (p .faces) noListing
         (omega (arith, ap length left-kept, length-drop (p .faces) (listingsOf points (entries bs))))
 
-    pub turn-kept : {w′ : List ℕ} → FaceAdded t p (entries r) w w′
+    pub turn-kept : {w′ : List ℕ} → w′ ≡ faceAdded t p (entries r) w
         → Turned points bs w w′ t p (record { start = n; runs = p .runs + 1; faces = p .faces + 1; corner = record { 0 = p .corner .0 + length r / 4 } })
     turn-kept A =
         let f = face-kept points (entries r) e in
@@ -186,18 +157,19 @@ module _ {points : ℕ} {bs w : List ℕ} {t : Plan} {p : Progress} (L : Planned
         let u = U .runs in
         let k = left-kept in
         let d = left-cons in
-        record {
-          beside = A .beside;
+        let Q : Fits (length w) t p (length (entries r)) = rw l turn-fits in
+        rw A (record {
+          beside = face-beside t p (entries r) w Q;
           underway = record {
             start = omega arith;
             runs = omega arith;
             faces = omega (arith, f .0, faces-turn, U .faces);
             corners = omega (arith, f .1, corners-turn, U .corners);
             left = rw (add-one (p .faces), add-one (p .runs)) (cc);
-            made = rw l at (listed-more (U .made) A (cc) (λ i c. rw (L .spots) (kept-below points (entries r) e i c)));
+            made = rw l at (listed-more (entries r) (U .made) Q (cc) (λ i c. rw (L .spots) (kept-below points (entries r) e i c)));
           };
           later = omega arith;
-        }
+        })
 
 -- ---- all runs
 
@@ -205,8 +177,7 @@ module _ {points : ℕ} {bs : List ℕ} (w : List ℕ) {t : Plan} (L : Planned p
   pub first-beside : Beside t w (set w (t .starts) 0)
   first-beside =
       let R = L .room in
-      let W = written-one w (t .starts) 0 (omega arith) in
-      beside-starts 1 (W .kept) (W .above) (omega arith) (omega arith)
+      beside-starts w (t .starts) _ (set-is w (t .starts) 0 (omega arith)) refl (omega arith) (omega arith) (omega arith)
 
   pub planned-beside : {w′ : List ℕ} → Beside t w w′ → Planned points bs (length w′) t
   planned-beside B = rw (B .len) L

@@ -1,106 +1,142 @@
--- Words written to a part of the tables, and what other parts keep.
-use mathlib.Core.Path.{_≡_, sym, ap, _∙_}
+-- Words written to a part of the tables, and what other parts keep: one face more.
+use mathlib.Core.Path.{_≡_, refl, ap, _∙_}
 use mathlib.Core.Logic.{inl, inr}
 use mathlib.Core.List.{List}
-use Prim.Native.Nat.{ℕ, suc, _+_, _/_, _≤_, _<_}
-use native.Mathlib.Nat.{add-zero}
+use Prim.Native.Nat.{ℕ, suc, _+_, _≤_, _<_}
 use native.Mathlib.Numerals.{add-one}
 use native.Mathlib.Omega.{arith}
-use lib.ListN.{length, getD, set, take}
-use lib.Seq.{length-take-le, getD-take, ext-getD}
-use Rattle.bits.specs.Bits.{entries}
-use Rattle.bits.proofs.Entries.{entries-length}
+use lib.ListN.{length, getD, set, take, length-set}
+use lib.Seq.{length-take-le}
+use Rattle.lists.specs.Loops.{tab}
+use Rattle.lists.specs.Parts.{spliced, Out}
+use Rattle.lists.proofs.Keep.{set-hit, set-miss}
+use Rattle.lists.proofs.Tabs.{length-tab, tab-at}
+use Rattle.lists.proofs.Splices.{set-is, put-size, put-above, put-at, put-out, put-kept, put-seg}
 use Rattle.tables.specs.declared.layout.Plan.{Plan}
-use Rattle.lists.specs.Parts.{seg, Written}
-use Rattle.lists.proofs.Keep.{length-seg, seg-at}
-use Rattle.lists.proofs.Written.{written-one}
-use Rattle.tables.proofs.Besides.{out-same, beside-then, beside-corners, beside-starts, beside-places, beside-numbers}
+use Rattle.tables.specs.Soups.{pointIn, startIn, numberIn, placeIn}
+use Rattle.tables.specs.Listed.{Beside}
+use Rattle.tables.proofs.Besides.{beside-then, beside-corners, beside-starts, beside-places, beside-numbers}
 use Rattle.faceset.specs.declared.listing.Progress.{Progress}
-use Rattle.faceset.specs.Written.{Copied, Alike, More}
-use Rattle.faceset.specs.Passing.{Fits, FaceAdded}
+use Rattle.faceset.specs.Written.{Copied}
+use Rattle.faceset.specs.Passing.{Fits, faceAdded}
 
--- ---- words copied are words written
-
-module _ {a n : ℕ} {xs w w′ : List ℕ} where
-  pub copied-of : a + n ≤ length w → n ≤ length xs → Written a n (λ i. getD xs i 0) w w′ → Copied a n xs w w′
-  copied-of l h W =
-      let k = W .kept .len in
-      let s = length-seg w′ a n (omega arith) in
-      record {
-        kept = W .kept;
-        words = ext-getD 0 (seg w′ a n) (take n xs) (s ∙ sym (length-take-le n xs h)) (λ i b.
-            let q : i < n = omega arith in
-            seg-at w′ a n i q ∙ W .words .at i q ∙ sym (getD-take n xs i 0 q));
-        above = W .above;
-      }
-
--- ---- the tables below and above
-
-module _ {b k : ℕ} {f : ℕ → ℕ} {w w′ : List ℕ} (W : Written b k f w w′) where
-  pub below : (a n : ℕ) → a + n ≤ b → Alike w w′ a n
-  below a n h = record { at = λ j q. out-same k (W .kept) (W .above) (a + j) (inl (omega arith)) }
-
-  pub beyond : (a n : ℕ) → b + k ≤ a → Alike w w′ a n
-  beyond a n h = record { at = λ j q. out-same k (W .kept) (W .above) (a + j) (inr (omega arith)) }
-
--- ---- a table with more words, and what is written elsewhere before and after
-
-pub more-of : {a m n : ℕ} {f : ℕ → ℕ} {w w′ : List ℕ} → Written (a + m) n f w w′ → More w w′ a m n f
-more-of {a} {m} W = record { old = below W a m (omega arith); new = W .words }
-
-module _ {a m n : ℕ} {f : ℕ → ℕ} {u v w : List ℕ} where
-  pub more-after : Alike u v a m → More v w a m n f → More u w a m n f
-  more-after A M = record { old = record { at = λ j q. M .old .at j q ∙ A .at j q }; new = M .new }
-
-  pub more-before : More u v a m n f → Alike v w a (m + n) → More u w a m n f
-  more-before M A = record {
-    old = record { at = λ j q. A .at j (omega arith) ∙ M .old .at j q };
-    new = record {
-      at = λ j q.
-          let e : a + m + j ≡ a + (m + j) = omega arith in
-          ap (λ (i : ℕ). getD w i 0) e ∙ A .at (m + j) (omega arith) ∙ ap (λ (i : ℕ). getD v i 0) (sym e) ∙ M .new .at j q;
-    };
-  }
-
--- how it is read
-module _ {a m n : ℕ} {f : ℕ → ℕ} {w w′ : List ℕ} where
-  pub more-at : More w w′ a m n f → (j : ℕ) → j < n → getD w′ (a + (m + j)) 0 ≡ f j
-  more-at M j h = let e : a + (m + j) ≡ a + m + j = omega arith in ap (λ (i : ℕ). getD w′ i 0) e ∙ M .new .at j h
-
-pub one-more : {a m : ℕ} {f : ℕ → ℕ} {w w′ : List ℕ} → More w w′ a m 1 f → getD w′ (a + m) 0 ≡ f 0
-one-more {a} {m} {f} {w} {w′} M = ap (λ (i : ℕ). getD w′ (a + i) 0) (sym (add-zero m)) ∙ more-at M 0 (omega arith)
+pub copied-of : {a n : ℕ} {xs w w′ : List ℕ} → a + n ≤ length w → n ≤ length xs → w′ ≡ spliced w a (take n xs) → Copied a n xs w w′
+copied-of {a} {n} {xs} {w} h l e =
+    let s = length-take-le n xs l in
+    record { kept = put-kept w a (take n xs) e s h; words = put-seg w a (take n xs) e s h; above = put-above w a (take n xs) e s h }
 
 -- ---- one face: its points, its places, its number, and the first corner after it
 
-module _ (t : Plan) (p : Progress) (r : List ℕ) {u v w : List ℕ} (F : Fits (length u) t p (length r / 4))
-    (W : Written (t .corners + p .corner .0) (length r / 4) (λ i. getD (entries r) i 0) u v)
-    (P : Written (t .places + p .corner .0) (length r / 4) (λ i. p .start + i) v w) where
-  row-added : FaceAdded t p (entries r) u (set (set w (t .numbers + p .faces) (p .runs)) (t .starts + suc (p .faces)) (p .corner .0 + length r / 4))
-  row-added =
+module _ (t : Plan) (p : Progress) (es w : List ℕ) (F : Fits (length w) t p (length es)) where
+  abbrev ps : List ℕ
+  ps = tab (λ i. p .start + i) (length es) 0
+
+  abbrev w₁ : List ℕ
+  w₁ = spliced w (t .corners + p .corner .0) es
+
+  abbrev w₂ : List ℕ
+  w₂ = spliced w₁ (t .places + p .corner .0) ps
+
+  abbrev w₃ : List ℕ
+  w₃ = set w₂ (t .numbers + p .faces) (p .runs)
+
+  room₁ : t .corners + p .corner .0 + length es ≤ length w
+  room₁ = let R = F .room in omega (arith, F .corners)
+
+  size₁ : length w₁ ≡ length w
+  size₁ = put-size w (t .corners + p .corner .0) es refl refl room₁
+
+  room₂ : t .places + p .corner .0 + length es ≤ length w₁
+  room₂ = let R = F .room in omega (arith, F .corners, size₁)
+
+  long : length ps ≡ length es
+  long = length-tab (λ i. p .start + i) (length es) 0
+
+  size₂ : length w₂ ≡ length w
+  size₂ = put-size w₁ (t .places + p .corner .0) ps refl long room₂ ∙ size₁
+
+  room₃ : t .numbers + p .faces < length w₂
+  room₃ = let R = F .room in omega (arith, F .face, size₂)
+
+  room₄ : t .starts + suc (p .faces) < length w₃
+  room₄ = let R = F .room in omega (arith, F .face, size₂, length-set w₂ (t .numbers + p .faces) (p .runs))
+
+  pub face-beside : Beside t w (faceAdded t p es w)
+  unfolding faceAdded
+  face-beside =
       let R = F .room in
       let fc = F .corners in
       let ff = F .face in
-      let n = length r / 4 in
-      let l : length (entries r) ≡ n = entries-length r in
-      let lv = W .kept .len in
-      let lw = P .kept .len in
-      let N = written-one w (t .numbers + p .faces) (p .runs) (omega arith) in
-      let ln = N .kept .len in
-      let S = written-one (set w (t .numbers + p .faces) (p .runs)) (t .starts + suc (p .faces)) (p .corner .0 + n) (omega arith) in
-      record {
-        beside = beside-then (beside-corners n (W .kept) (W .above) (omega arith) (omega arith))
-            (beside-then (beside-places n (P .kept) (P .above) (omega arith) (omega arith))
-            (beside-then (beside-numbers 1 (N .kept) (N .above) (omega arith) (omega arith))
-            (beside-starts 1 (S .kept) (S .above) (omega arith) (omega arith))));
-        points = rw l (more-before (more-before (more-before (more-of W) (below P (t .corners) (p .corner .0 + n) (omega arith)))
-            (below N (t .corners) (p .corner .0 + n) (omega arith))) (below S (t .corners) (p .corner .0 + n) (omega arith)));
-        places = rw l (more-after (beyond W (t .places) (p .corner .0) (omega arith)) (more-before (more-before (more-of P)
-            (below N (t .places) (p .corner .0 + n) (omega arith))) (beyond S (t .places) (p .corner .0 + n) (omega arith))));
-        numbers = more-after (beyond W (t .numbers) (p .faces) (omega arith)) (more-after (beyond P (t .numbers) (p .faces) (omega arith))
-            (more-before (more-of N) (beyond S (t .numbers) (p .faces + 1) (omega arith))));
-        starts = rw l (more-after (beyond W (t .starts) (suc (p .faces)) (omega arith)) (more-after (below P (t .starts) (suc (p .faces)) (omega arith))
-            (more-after (below N (t .starts) (suc (p .faces)) (omega arith)) (more-of S))));
-      }
+      beside-then (beside-corners w (t .corners + p .corner .0) es refl refl room₁ (omega arith) (omega arith))
+      (beside-then (beside-places w₁ (t .places + p .corner .0) ps refl long room₂ (omega arith) (omega arith))
+      (beside-then (beside-numbers w₂ (t .numbers + p .faces) _ (set-is w₂ (t .numbers + p .faces) (p .runs) room₃) refl (omega (arith, room₃)) (omega arith) (omega arith))
+      (beside-starts w₃ (t .starts + suc (p .faces)) _ (set-is w₃ (t .starts + suc (p .faces)) (p .corner .0 + length es) room₄) refl (omega (arith, room₄)) (omega arith) (omega arith))))
 
-  pub face-added : {x : List ℕ} → x ≡ set (set w (t .numbers + p .faces) (p .runs)) (t .starts + (p .faces + 1)) (p .corner .0 + length r / 4) → FaceAdded t p (entries r) u x
-  face-added q = rw (q, add-one) row-added
+  -- a place that is none of these
+  face-out : (i : ℕ) → Out (t .corners + p .corner .0) (length es) i → Out (t .places + p .corner .0) (length es) i → (i ≡ t .numbers + p .faces → ⊥) → (i ≡ t .starts + suc (p .faces) → ⊥)
+      → getD (faceAdded t p es w) i 0 ≡ getD w i 0
+  unfolding faceAdded
+  face-out i a b d e =
+      set-miss w₃ (t .starts + suc (p .faces)) (p .corner .0 + length es) i e ∙ set-miss w₂ (t .numbers + p .faces) (p .runs) i d
+      ∙ put-out w₁ (t .places + p .corner .0) ps refl long room₂ 0 i b ∙ put-out w (t .corners + p .corner .0) es refl refl room₁ 0 i a
+
+  pub start-old : (j : ℕ) → j < suc (p .faces) → startIn (faceAdded t p es w) t j ≡ startIn w t j
+  unfolding startIn
+  start-old j h = let R = F .room in let f = F .face in face-out (t .starts + j) (inr (omega (arith, F .corners))) (inl (omega arith)) (λ e. omega arith) (λ e. omega arith)
+
+  pub number-old : (j : ℕ) → j < p .faces → numberIn (faceAdded t p es w) t j ≡ numberIn w t j
+  unfolding numberIn
+  number-old j h = let R = F .room in let f = F .face in let k = F .corners in face-out (t .numbers + j) (inr (omega arith)) (inr (omega arith)) (λ e. omega arith) (λ e. omega arith)
+
+  pub point-old : (k : ℕ) → k < p .corner .0 → pointIn (faceAdded t p es w) t k ≡ pointIn w t k
+  unfolding pointIn
+  point-old k h = let R = F .room in let f = F .corners in face-out (t .corners + k) (inl (omega arith)) (inl (omega arith)) (λ e. omega arith) (λ e. omega arith)
+
+  pub place-old : (k : ℕ) → k < p .corner .0 → placeIn (faceAdded t p es w) t k ≡ placeIn w t k
+  unfolding placeIn
+  place-old k h = let R = F .room in let f = F .corners in let g = F .face in face-out (t .places + k) (inr (omega arith)) (inl (omega arith)) (λ e. omega arith) (λ e. omega arith)
+
+  pub start-new : startIn (faceAdded t p es w) t (suc (p .faces)) ≡ p .corner .0 + length es
+  unfolding startIn faceAdded
+  start-new = set-hit w₃ (t .starts + suc (p .faces)) (p .corner .0 + length es) (t .starts + suc (p .faces)) room₄ refl
+
+  pub number-new : numberIn (faceAdded t p es w) t (p .faces) ≡ p .runs
+  unfolding numberIn faceAdded
+  number-new =
+      let R = F .room in
+      let f = F .face in
+      set-miss w₃ (t .starts + suc (p .faces)) (p .corner .0 + length es) (t .numbers + p .faces) (λ e. omega arith)
+      ∙ set-hit w₂ (t .numbers + p .faces) (p .runs) (t .numbers + p .faces) room₃ refl
+
+  -- what was put below the numbers
+  face-put : (a i : ℕ) → a + (p .corner .0 + i) < t .numbers → (a + (p .corner .0 + i) ≡ t .starts + suc (p .faces) → ⊥) → getD (faceAdded t p es w) (a + (p .corner .0 + i)) 0 ≡ getD w₂ (a + p .corner .0 + i) 0
+  unfolding faceAdded
+  face-put a i h n =
+      let s : a + (p .corner .0 + i) ≡ a + p .corner .0 + i = omega arith in
+      set-miss w₃ (t .starts + suc (p .faces)) (p .corner .0 + length es) (a + (p .corner .0 + i)) n
+      ∙ set-miss w₂ (t .numbers + p .faces) (p .runs) (a + (p .corner .0 + i)) (λ e. omega arith) ∙ ap (λ (k : ℕ). getD w₂ k 0) s
+
+  pub point-new : (i : ℕ) → i < length es → pointIn (faceAdded t p es w) t (p .corner .0 + i) ≡ getD es i 0
+  unfolding pointIn
+  point-new i h =
+      let R = F .room in
+      let f = F .corners in
+      face-put (t .corners) i (omega arith) (λ e. omega arith)
+      ∙ put-out w₁ (t .places + p .corner .0) ps refl long room₂ 0 (t .corners + p .corner .0 + i) (inl (omega arith))
+      ∙ put-at w (t .corners + p .corner .0) es refl refl room₁ 0 i h
+
+  pub place-new : (i : ℕ) → i < length es → placeIn (faceAdded t p es w) t (p .corner .0 + i) ≡ p .start + i
+  unfolding placeIn
+  place-new i h =
+      let R = F .room in
+      let f = F .corners in
+      let g = F .face in
+      face-put (t .places) i (omega arith) (λ e. omega arith)
+      ∙ put-at w₁ (t .places + p .corner .0) ps refl long room₂ 0 i h ∙ tab-at (λ k. p .start + k) (length es) i 0 h
+
+-- as the functions leave it
+pub face-added : (t : Plan) (p : Progress) (es u : List ℕ) {n : ℕ} {v w x : List ℕ} → length es ≡ n
+    → v ≡ spliced u (t .corners + p .corner .0) es → w ≡ spliced v (t .places + p .corner .0) (tab (λ i. p .start + i) n 0)
+    → x ≡ set (set w (t .numbers + p .faces) (p .runs)) (t .starts + (p .faces + 1)) (p .corner .0 + n) → x ≡ faceAdded t p es u
+unfolding faceAdded
+face-added t p es u l ev ew ex = rw (ex, ew, ev, ← l, add-one) refl

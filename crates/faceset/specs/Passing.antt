@@ -2,17 +2,18 @@
 use mathlib.Core.Path.{_≡_}
 use mathlib.Core.List.{List}
 use Prim.Native.Nat.{ℕ, suc, _+_, _/_, _≤_, _<_}
-use lib.ListN.{length, getD, drop}
+use lib.ListN.{length, getD, set, drop}
 use Rattle.bits.specs.Bits.{entries}
 use Rattle.block.specs.Runs.{runs, runsLeft, faces, corners, sumOver}
+use Rattle.lists.specs.Loops.{tab}
 use Rattle.lists.specs.Lists.{joinN}
+use Rattle.lists.specs.Parts.{spliced}
 use Rattle.tables.specs.declared.layout.Plan.{Plan}
 use Rattle.tables.specs.Layout.{most, Room}
 use Rattle.tables.specs.Soups.{pointIn, startIn, numberIn, placeIn}
 use Rattle.tables.specs.Listed.{noUse, noListing, Listing, usesAt, Beside, Listed}
 use Rattle.faceset.specs.declared.listing.Progress.{Progress}
 use Rattle.faceset.specs.Listings.{listed, listingsOf}
-use Rattle.faceset.specs.Written.{More}
 
 -- the plan is that of the kept faces of coordIndex, whose bytes are bs, in len words (FORMAT 3: no list has more than 8,192 entries)
 pub record Planned (points : ℕ) (bs : List ℕ) (len : ℕ) (t : Plan) : Type 0 where
@@ -31,13 +32,12 @@ pub record Fits (len : ℕ) (t : Plan) (p : Progress) (n : ℕ) : Type 0 where
   pub places : p .start + n ≤ most
   pub number : p .runs ≤ most
 
--- one more face, of the entries es: each table has its words more
-pub record FaceAdded (t : Plan) (p : Progress) (es w w′ : List ℕ) : Type 0 where
-  pub beside : Beside t w w′
-  pub points : More w w′ (t .corners) (p .corner .0) (length es) (λ i. getD es i 0)
-  pub places : More w w′ (t .places) (p .corner .0) (length es) (λ i. p .start + i)
-  pub numbers : More w w′ (t .numbers) (p .faces) 1 (λ i. p .runs)
-  pub starts : More w w′ (t .starts) (suc (p .faces)) 1 (λ i. p .corner .0 + length es)
+-- one more face, of the entries es: the points and the places of its corners, its number, and the first corner after it
+unfoldable pub faceAdded : Plan → Progress → List ℕ → List ℕ → List ℕ
+faceAdded t p es w =
+    let c = p .corner .0 in
+    let placed = spliced (spliced w (t .corners + c) es) (t .places + c) (tab (λ i. p .start + i) (length es) 0) in
+    set (set placed (t .numbers + p .faces) (p .runs)) (t .starts + suc (p .faces)) (c + length es)
 
 -- the first g of the faces ls are listed, with their c corners: Listed, as far as it has come
 pub record ListedTo (w : List ℕ) (t : Plan) (ls : List Listing) (g c : ℕ) : Type 0 where

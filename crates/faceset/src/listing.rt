@@ -2,12 +2,13 @@
 ghost use mathlib.Core.Path.{_≡_};
 ghost use mathlib.Core.Bool.{true};
 ghost use Prim.Native.Nat.{_+_, _/_, _≤_, _<_};
-ghost use lib.ListN.{length, getD, set};
+ghost use lib.ListN.{length, set};
 ghost use Rattle.bits.specs.Bits.{entries};
 ghost use Rattle.block.specs.Runs.{kept};
 ghost use Rattle.tables.specs.Layout.{most, Room};
-ghost use Rattle.lists.specs.Parts.{Written};
-ghost use Rattle.faceset.specs.Passing.{Fits, FaceAdded, Planned, Underway, Turned, FacesListed};
+ghost use Rattle.lists.specs.Loops.{tab};
+ghost use Rattle.lists.specs.Parts.{spliced};
+ghost use Rattle.faceset.specs.Passing.{Fits, faceAdded, Planned, Underway, Turned, FacesListed};
 use block::CornerNumber;
 use block::is_kept;
 use block::next_start;
@@ -27,7 +28,7 @@ pub struct Progress {
 // The points that a kept run names, of the corners from `from` on.
 fn put_corners(run: &[u8], work: &mut [u32], t: Plan, from: CornerNumber)
     requires { ⌜ Room (length (now work)) t × (from .0 + length (now run) / 4 ≤ t .count) × (kept (t .spots) (entries (now run)) ≡ true) ⌝ }
-    ensures { λ _. ⌜ Written (t .corners + from .0) (length (now (run .entry)) / 4) (λ i. getD (entries (now (run .entry))) i 0) (now (work .entry)) (now (work .exit)) ⌝ }
+    ensures { λ _. ⌜ now (work .exit) ≡ spliced (now (work .entry)) (t .corners + from .0) (entries (now (run .entry))) ⌝ }
 {
     let n = run.len() / 4;
     let at = t.corners + from.0;
@@ -42,7 +43,7 @@ fn put_corners(run: &[u8], work: &mut [u32], t: Plan, from: CornerNumber)
 // The n places from `start` on, of the corners from `from` on.
 fn put_places(work: &mut [u32], t: Plan, from: CornerNumber, start: usize, n: usize)
     requires { ⌜ Room (length (now work)) t × (from .0 + n ≤ t .count) × (start + n ≤ most) ⌝ }
-    ensures { λ _. ⌜ Written (t .places + from .0) n (λ i. start + i) (now (work .entry)) (now (work .exit)) ⌝ }
+    ensures { λ _. ⌜ now (work .exit) ≡ spliced (now (work .entry)) (t .places + from .0) (tab (λ i. start + i) n 0) ⌝ }
 {
     let at = t.places + from.0;
     let mut i = 0;
@@ -64,7 +65,7 @@ fn put_row(work: &mut [u32], t: Plan, face: usize, number: usize, next: CornerNu
 // A kept run, listed as the next face.
 fn put_face(run: &[u8], work: &mut [u32], t: Plan, p: Progress)
     requires { ⌜ Fits (length (now work)) t p (length (now run) / 4) × (kept (t .spots) (entries (now run)) ≡ true) ⌝ }
-    ensures { λ _. ⌜ FaceAdded t p (entries (now (run .entry))) (now (work .entry)) (now (work .exit)) ⌝ }
+    ensures { λ _. ⌜ now (work .exit) ≡ faceAdded t p (entries (now (run .entry))) (now (work .entry)) ⌝ }
 {
     let n = run.len() / 4;
     let from = p.corner;

@@ -5,13 +5,15 @@ use Prim.Native.Nat.{ℕ, suc, _+_, _-_, _*_, _/_, _%_, _≤_, _<_}
 use native.Mathlib.Nat.{one-mul}
 use native.Mathlib.Omega.{arith}
 use lib.ListN.{length, getD}
+use Rattle.lists.specs.Loops.{tab}
+use Rattle.lists.proofs.Splices.{put-kept, put-table}
 use Rattle.lists.proofs.Tabs.{length-tab, tab-at}
 use Rattle.block.specs.declared.header.Header.{Header}
 use Rattle.mesh.specs.Quads.{quad}
 use Rattle.mesh.specs.Grid.{xDimension, zDimension}
 use Rattle.lists.proofs.Lists.{getD-map-lt}
 use Rattle.tables.specs.declared.layout.Plan.{Plan}
-use Rattle.lists.specs.Parts.{Kept, TableOf, Written}
+use Rattle.lists.specs.Parts.{spliced, Kept, TableOf}
 use Rattle.tables.specs.Layout.{most}
 use Rattle.tables.specs.Soups.{pointIn, startIn, numberIn, placeIn}
 use Rattle.tables.specs.Listed.{Use, noUse, Listing, noListing, usesAt, Beside, Listed}
@@ -91,22 +93,33 @@ corners-asked h len room t xd a P e l =
 
 -- one table after another
 pub tables-written : (h : Header) (t : Plan) (xd : ℕ) (w₀ w₁ w₂ w₃ w₄ : List ℕ) → Planned h (length w₀) t → xd ≡ xDimension h
-    → Written (t .corners) (t .count) (cornerPoint xd) w₀ w₁ → Written (t .starts) (t .faces + 1) (λ (j : ℕ). 4 * j) w₁ w₂
-    → Written (t .places) (t .count) (cornerPoint xd) w₂ w₃ → Written (t .numbers) (t .faces) (λ (j : ℕ). 1 * j) w₃ w₄
+    → w₁ ≡ spliced w₀ (t .corners) (tab (cornerPoint xd) (t .count) 0) → w₂ ≡ spliced w₁ (t .starts) (tab (λ (j : ℕ). 4 * j) (t .faces + 1) 0)
+    → w₃ ≡ spliced w₂ (t .places) (tab (cornerPoint xd) (t .count) 0) → w₄ ≡ spliced w₃ (t .numbers) (tab (λ (j : ℕ). 1 * j) (t .faces) 0)
     → Beside t w₀ w₄ × Listed w₄ t (gridListings (xDimension h) (zDimension h))
 tables-written h t xd w₀ w₁ w₂ w₃ w₄ P e A B C D =
     let R = P .room in
-    let s : Kept (t .starts) w₁ w₄ = kept-then (B .kept) (kept-then (C .kept) (D .kept) (omega arith)) (omega arith) in
-    let p : Kept (t .places) w₂ w₄ = kept-then (C .kept) (D .kept) (omega arith) in
+    let ra : t .corners + t .count ≤ length w₀ = omega arith in
+    let K = put-kept w₀ (t .corners) _ A (length-tab _ _ 0) ra in
+    let la = K .len in
+    let rb : t .starts + (t .faces + 1) ≤ length w₁ = omega arith in
+    let L = put-kept w₁ (t .starts) _ B (length-tab _ _ 0) rb in
+    let lb = L .len in
+    let rc : t .places + t .count ≤ length w₂ = omega arith in
+    let M = put-kept w₂ (t .places) _ C (length-tab _ _ 0) rc in
+    let lc = M .len in
+    let rd : t .numbers + t .faces ≤ length w₃ = omega arith in
+    let N = put-kept w₃ (t .numbers) _ D (length-tab _ _ 0) rd in
+    let p : Kept (t .places) w₂ w₄ = kept-then M N (omega arith) in
+    let s : Kept (t .starts) w₁ w₄ = kept-then L p (omega arith) in
     let T : Tabled xd w₄ t = record {
-      corners = table-kept (t .corners) (t .count) s (omega arith) (A .words);
-      starts = table-kept (t .starts) (t .faces + 1) p (omega arith) (B .words);
-      places = table-kept (t .places) (t .count) (D .kept) (omega arith) (C .words);
-      numbers = D .words;
+      corners = table-kept (t .corners) (t .count) s (omega arith) (put-table w₀ _ ra A);
+      starts = table-kept (t .starts) (t .faces + 1) p (omega arith) (put-table w₁ _ rb B);
+      places = table-kept (t .places) (t .count) N (omega arith) (put-table w₂ _ rc C);
+      numbers = put-table w₃ _ rd D;
     } in
-    let b : Beside t w₀ w₄ = beside-then (beside-corners (t .count) (A .kept) (A .above) (omega arith) (omega arith))
-    (beside-then (beside-starts (t .faces + 1) (B .kept) (B .above) (omega arith) (omega arith))
-    (beside-then (beside-places (t .count) (C .kept) (C .above) (omega arith) (omega arith))
-    (beside-numbers (t .faces) (D .kept) (D .above) (omega arith) (omega arith)))) in
+    let b : Beside t w₀ w₄ = beside-then (beside-corners w₀ (t .corners) _ A (length-tab _ _ 0) ra (omega arith) (omega arith))
+    (beside-then (beside-starts w₁ (t .starts) _ B (length-tab _ _ 0) rb (omega arith) (omega arith))
+    (beside-then (beside-places w₂ (t .places) _ C (length-tab _ _ 0) rc (omega arith) (omega arith))
+    (beside-numbers w₃ (t .numbers) _ D (length-tab _ _ 0) rd (omega arith) (omega arith)))) in
     let n : Planned h (length w₄) t = rw (b .len) P in
     (b, tables-held h w₄ t n (rw e at T))

@@ -1,13 +1,13 @@
 -- The numbers of a grid's quads and points.
-use mathlib.Core.Path.{_≡_, refl, _∙_}
+use mathlib.Core.Path.{_≡_, refl}
 use Prim.Native.Nat.{ℕ, zero, suc, _+_, _-_, _*_, _/_, _%_, _≤_, _<_}
-use native.Mathlib.Nat.{mod-lt, mod-le, div-le-self, div-lt-iff-lt-mul, mul-le-mul, mul-le-mul-left, mul-le-mul-right, suc-mul, mul-suc, mul-comm, add-mul-div-right, add-mul-mod-self-right, div-eq-of-lt, mod-eq-of-lt}
+use native.Mathlib.Nat.{mod-lt, mod-le, div-le-self, div-lt-iff-lt-mul, mul-le-mul, mul-le-mul-left, mul-suc, mul-comm}
 use native.Mathlib.Omega.{arith}
 use lib.ListN.{getD}
+use Rattle.lists.proofs.Numbers.{cell}
 use Rattle.block.specs.declared.header.Header.{Header}
 use Rattle.mesh.specs.Quads.{quad}
 use Rattle.mesh.specs.Grid.{xDimension, zDimension}
-use Rattle.mesh.proofs.Within.{cell}
 use Rattle.tables.specs.Layout.{most}
 use Rattle.grid.specs.Sides.{Sides}
 use Rattle.grid.specs.Listings.{quadOf, cornerPoint}
@@ -15,16 +15,6 @@ use Rattle.grid.specs.Listings.{quadOf, cornerPoint}
 -- the point (i, j) is one of the grid's
 inside : (xd zd i j : ℕ) → i < xd → j < zd → i + j * xd < xd * zd
 inside xd zd i j h k = omega (arith, cell i j xd zd h k, mul-comm zd xd)
-
--- the column and the row of the point (i, j)
-pub column-of : (xd i j : ℕ) → i < xd → (i + j * xd) % xd ≡ i
-column-of xd i j h = add-mul-mod-self-right i j xd ∙ mod-eq-of-lt h
-
-pub row-of : (xd i j : ℕ) → i < xd → (i + j * xd) / xd ≡ j
-row-of xd i j h =
-    let d : (i + j * xd) / xd ≡ i / xd + j = add-mul-div-right i j {z = xd} (omega arith) in
-    let e : i / xd ≡ 0 = div-eq-of-lt h in
-    omega arith
 
 -- a quad lies within the grid
 module _ (xd zd q : ℕ) (wide : 2 ≤ xd) (h : q < (zd - 1) * (xd - 1)) where

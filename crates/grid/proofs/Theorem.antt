@@ -6,6 +6,7 @@ use Prim.Native.Nat.{ℕ, _+_, _-_, _*_, _/_, _%_, _≤_, _<_}
 use native.Mathlib.Nat.{mul-comm}
 use native.Mathlib.Omega.{arith}
 use lib.ListN.{length, getD}
+use Rattle.lists.proofs.Numbers.{column-of, row-of}
 use Rattle.lists.proofs.Tabs.{tab-same, map-tab}
 use Rattle.bits.specs.declared.Words4.{Words4}
 use Rattle.block.specs.declared.header.Header.{Header}
@@ -24,7 +25,7 @@ use Rattle.tables.specs.Listed.{Use, noUse, Listing, facesWith}
 use Rattle.texture.proofs.Streams.{texture-grid}
 use Rattle.grid.specs.Listings.{quadOf, useOf, gridListing, gridListings, gridUse}
 use Rattle.grid.specs.Textures.{gridTexture}
-use Rattle.grid.proofs.Numbers.{column-of, row-of, column, quad-below}
+use Rattle.grid.proofs.Numbers.{column, quad-below}
 
 -- the use of the point (i, j) makes the grid's corner there
 corner-used : (missing : Words4) (G : Rest) (num i j : ℕ) → i < xDimension (G .head) → gridCorner missing G num i j ≡ gridUse missing G num (useOf (i + j * xDimension (G .head)))

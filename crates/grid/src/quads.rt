@@ -3,7 +3,8 @@ ghost use mathlib.Core.Path.{_≡_};
 ghost use Prim.Native.Nat.{ℕ, _+_, _-_, _*_, _≤_, _<_};
 ghost use lib.ListN.{length};
 ghost use Rattle.mesh.specs.Grid.{xDimension, zDimension};
-ghost use Rattle.lists.specs.Parts.{Written};
+ghost use Rattle.lists.specs.Loops.{tab};
+ghost use Rattle.lists.specs.Parts.{spliced};
 ghost use Rattle.tables.specs.Layout.{most};
 ghost use Rattle.tables.specs.Listed.{Beside, Listed};
 ghost use Rattle.grid.specs.Sides.{Planned};
@@ -47,7 +48,7 @@ fn corner_point(xd: usize, c: CornerNumber) -> PointNumber
 // The points of n corners, from place a on.
 fn put_corners(work: &mut [u32], a: usize, n: usize, xd: usize)
     requires { ⌜ (2 ≤ xd) × (xd ≤ most) × (n ≤ most) × ((c : ℕ) → c < n → cornerPoint xd c ≤ most) × (a + n ≤ length (now work)) ⌝ }
-    ensures { λ _. ⌜ Written a n (cornerPoint xd) (now (work .entry)) (now (work .exit)) ⌝ }
+    ensures { λ _. ⌜ now (work .exit) ≡ spliced (now (work .entry)) a (tab (cornerPoint xd) n 0) ⌝ }
 {
     let mut c = 0;
     while c < n {
@@ -60,7 +61,7 @@ fn put_corners(work: &mut [u32], a: usize, n: usize, xd: usize)
 // 0, by, 2 * by, ..: n of them, from place a on.
 fn put_multiples(work: &mut [u32], a: usize, n: usize, by: usize)
     requires { ⌜ (by * n ≤ most + by) × (a + n ≤ length (now work)) ⌝ }
-    ensures { λ _. ⌜ Written a n (λ (j : ℕ). by * j) (now (work .entry)) (now (work .exit)) ⌝ }
+    ensures { λ _. ⌜ now (work .exit) ≡ spliced (now (work .entry)) a (tab (λ (j : ℕ). by * j) n 0) ⌝ }
 {
     let mut j = 0;
     while j < n {

@@ -9,7 +9,8 @@ use lib.Dec.{ltb}
 use lib.ListN.{length, getD, drop, drop-of-length-le}
 use Rattle.mesh.specs.Sizes.{named, linesAfter}
 use Rattle.lines.specs.Totals.{Counted}
-use Rattle.lines.proofs.Passes.{drop-next, carry}
+use Rattle.lists.proofs.Lists.{drop-next}
+use Rattle.lists.proofs.Numbers.{carry}
 
 -- the first k entries are counted; `after` says whether the last of them names a point
 pub record Counting (p : ℕ) (es : List ℕ) (k : ℕ) (after : Bool) (c n : ℕ) : Type 0 where
@@ -29,7 +30,7 @@ module _ {p : ℕ} {es : List ℕ} where
     counting-next corners′ lines′ h ec el =
         let b = ltb (getD es k 0) p in
         let r = drop (k + 1) es in
-        let d : drop k es ≡ getD es k 0 ∷ r = drop-next es k h in
+        let d : drop k es ≡ getD es k 0 ∷ r = drop-next 0 es k h in
         let x : cond b (suc (named p r)) (named p r) ≡ named p (drop k es) = sym (ap (named p) d) in
         let y : cond after (cond b (suc (linesAfter p b r)) (linesAfter p b r)) (linesAfter p b r) ≡ linesAfter p after (drop k es)
         = sym (ap (linesAfter p after) d) in

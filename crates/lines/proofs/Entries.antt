@@ -12,16 +12,16 @@ use Rattle.block.proofs.RunLaws.{runs-turn, runs-over}
 use Rattle.lists.specs.Lists.{mapN, joinN}
 use Rattle.mesh.specs.Lines.{these, somes}
 use Rattle.mesh.specs.Sizes.{named}
-use Rattle.lists.proofs.Lists.{All-getD}
+use Rattle.lists.proofs.Lists.{All-getD, head-left}
 use Rattle.lists.specs.Parts.{Kept, TableOf}
 use Rattle.lists.proofs.Keep.{kept-all, kept-set, set-miss, table-none, table-more}
 use Rattle.corners.specs.declared.laid.CornerTables.{CornerTables}
 use Rattle.corners.specs.Laid.{Laid}
 use Rattle.corners.specs.Corner.{pointAt, placeAt, numberAt}
 use Rattle.lines.specs.Uses.{LineUse, noUse, useOf, runUses, lineUses, listedAt, listed, Listed}
-use Rattle.lines.specs.Added.{Added}
-use Rattle.lines.proofs.Passes.{drop-next, head-left}
-use Rattle.lines.proofs.Putting.{Split, Way, Left, left-all, left-here, left-next, left-end}
+use Rattle.lists.specs.Parts.{Added}
+use Rattle.lists.proofs.Lists.{drop-next}
+use Rattle.lists.proofs.Putting.{Split, Way, Left, left-all, left-here, left-next, left-end}
 use Rattle.lines.proofs.Usage.{use-here, length-uses, uses-below}
 
 -- ---- corners listed one after another
@@ -59,7 +59,7 @@ module _ {p num s : ℕ} {es : List ℕ} {t : CornerTables} {c₀ : ℕ} {w₀ :
     next-entry =
         let e : suc (s + k) ≡ s + (k + 1) = omega arith in
         record {
-          is = ap (λ (l : List ℕ). somes (mapN (useOf p num) (s + k) l)) (drop-next es k h)
+          is = ap (λ (l : List ℕ). somes (mapN (useOf p num) (s + k) l)) (drop-next 0 es k h)
               ∙ ap (λ (n : ℕ). these (useOf p num (s + k) (getD es k 0)) ++ somes (mapN (useOf p num) n (drop (k + 1) es))) e;
         }
 

@@ -11,13 +11,13 @@ use Rattle.bits.specs.Bits.{entries}
 use Rattle.bits.specs.declared.Words4.{Words4}
 use Rattle.block.specs.Runs.{Run, runs}
 use Rattle.lists.specs.Lists.{mapN, joinN, place}
+use Rattle.lists.proofs.Lists.{head-left}
 use Rattle.mesh.specs.Words.{no2, no3}
 use Rattle.mesh.specs.Vertices.{Key, sameKey}
 use Rattle.mesh.specs.FaceSet.{Rest, pointCount, colourOf}
 use Rattle.mesh.specs.Lines.{these, somes, line, joined, itemOf, itemsOf, lineKeys, lineEnds, lineIndices}
 use Rattle.mesh.specs.Sizes.{named}
 use Rattle.lines.specs.Steps.{vertexAt, cornerAfter, pairs, runPairs}
-use Rattle.lines.proofs.Passes.{head-left}
 
 through : (Key → ℕ) → Option Key → Option ℕ
 through f none = none

@@ -1,8 +1,6 @@
 -- The laws and proofs of the crate.
-mod Passes
 mod Counting
 pub mod Usage
-mod Putting
 mod Entries
 pub mod Lengths
 mod Pairs

@@ -9,25 +9,20 @@ use native.Mathlib.Numerals.{add-one}
 use native.Mathlib.Omega.{arith}
 use borrow.Author.Tests.{lt-ltb, le-ltb}
 use lib.Dec.{ltb}
-use lib.ListN.{length, getD, set, take, drop, drop-of-length-le}
-use lib.Seq.{sets, sets-eq, length-sets}
+use lib.ListN.{length, getD, set, drop, drop-of-length-le}
+use lib.Seq.{sets, sets-eq}
 use Rattle.bits.specs.Bits.{entries}
 use Rattle.block.specs.Runs.{runs, runsLeft, RunPart, nextStart, sumOver}
 use Rattle.block.proofs.RunLaws.{runs-turn, runs-over, sum-turn}
 use Rattle.mesh.specs.Lines.{line}
 use Rattle.mesh.specs.Sizes.{named, linesAfter}
-use Rattle.lists.proofs.Lists.{sets-append}
-use Rattle.lists.specs.Parts.{seg}
 use Rattle.lines.specs.declared.pairing.Progress.{Progress}
-use Rattle.lines.specs.Added.{Added}
+use Rattle.lists.specs.Parts.{Added}
 use Rattle.lines.specs.Steps.{lastOf, vertexAt, cornerAfter, pairs, runPairs, Stepped, RunPut, Put}
-use Rattle.lines.proofs.Passes.{drop-next, carry}
+use Rattle.lists.proofs.Lists.{drop-next}
+use Rattle.lists.proofs.Numbers.{carry}
 use Rattle.lines.proofs.Lengths.{length-lines}
-use Rattle.lines.proofs.Putting.{Split, Way, Left, left-here, left-next, left-end}
-
--- words put one after another
-stores : Way sets
-stores = record { none = λ o a. refl; joins = λ o a xs ys. sets-append xs ys o a; keeps = length-sets }
+use Rattle.lists.proofs.Putting.{Split, stores, Left, left-here, left-next, left-end}
 
 -- ---- one line
 
@@ -70,11 +65,6 @@ module _ (p c : ℕ) {e : ℕ} where
 
 -- ---- the entries of a run
 
--- the vertex numbers, as they are lent
-pub part-is : (w : List ℕ) (a n : ℕ) → take (a + n - a) (drop a w) ≡ seg w a n
-unfolding seg
-part-is w a n = let e : a + n - a ≡ n = omega arith in ap (λ (k : ℕ). take k (drop a w)) e
-
 -- the first k entries of the run es are passed, since the progress was f and the indices were o₀
 pub record Pairing (p : ℕ) (es numbers : List ℕ) (f : Progress) (o₀ : List ℕ) (k : ℕ) (w : Progress) (o : List ℕ) : Type 0 where
   pub fits : w .last .0 < 2 ^ 32
@@ -87,12 +77,12 @@ module _ {p : ℕ} {es numbers : List ℕ} {f : Progress} {o₀ : List ℕ} {k :
         (line (lastOf (w .after) (w .last .0)) (vertexAt p numbers (w .corner .0) (getD es k 0)))
         (pairs p numbers (cornerAfter p (w .corner .0) (getD es k 0)) (vertexAt p numbers (w .corner .0) (getD es k 0)) (drop (k + 1) es))
     unfolding pairs
-    next-line = record { is = ap (pairs p numbers (w .corner .0) (lastOf (w .after) (w .last .0))) (drop-next es k h) }
+    next-line = record { is = ap (pairs p numbers (w .corner .0) (lastOf (w .after) (w .last .0))) (drop-next 0 es k h) }
 
     corners-next : cornerAfter p (w .corner .0) (getD es k 0) + named p (drop (k + 1) es) ≡ f .corner .0 + named p es
     unfolding cornerAfter named
     corners-next =
-        carry (ltb (getD es k 0) p) (w .corner .0) (named p (drop (k + 1) es)) ∙ ap (λ (l : List ℕ). w .corner .0 + named p l) (sym (drop-next es k h)) ∙ P .corners
+        carry (ltb (getD es k 0) p) (w .corner .0) (named p (drop (k + 1) es)) ∙ ap (λ (l : List ℕ). w .corner .0 + named p l) (sym (drop-next 0 es k h)) ∙ P .corners
 
     -- there is a number for an entry that names a point, and room for the line to it
     pub pairing-here : f .corner .0 + named p es ≤ length numbers → getD es k 0 < p → w .corner .0 < length numbers

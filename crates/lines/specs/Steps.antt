@@ -10,7 +10,7 @@ use lib.Seq.{sets}
 use Rattle.block.specs.Runs.{Run}
 use Rattle.mesh.specs.Lines.{line}
 use Rattle.mesh.specs.Sizes.{named}
-use Rattle.lines.specs.Added.{Added}
+use Rattle.lists.specs.Parts.{Added}
 use Rattle.lines.specs.declared.pairing.Progress.{Progress}
 
 -- FORMAT 6.3, indexed_line_set (prev): the vertex of the entry before, where that names a point

@@ -7,7 +7,7 @@ ghost use Rattle.block.specs.Runs.{runOf, runs, sumOver};
 ghost use Rattle.mesh.specs.Lines.{these};
 ghost use Rattle.mesh.specs.Sizes as sizes;
 ghost use Rattle.corners.specs.Laid.{Laid};
-ghost use Rattle.lines.specs.Added.{Added};
+ghost use Rattle.lists.specs.Parts.{Added};
 ghost use Rattle.lines.specs.Uses.{useOf, runUses, listedAt, listed, Listed};
 use block::CornerNumber;
 use block::PointNumber;

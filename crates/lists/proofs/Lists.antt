@@ -3,14 +3,15 @@ use mathlib.Core.Path.{_≡_, refl, sym, ap, _∙_, subst}
 use mathlib.Core.Bool.{Bool, true, false, _||_, cond, true≢false}
 use mathlib.Core.List.{List, [], _∷_, _++_, map, append-assoc}
 use Prim.Native.Nat.{ℕ, zero, suc, _+_, _*_, _-_, _≤_, _<_, suc-le-suc}
-use native.Mathlib.Nat.{mul-zero, mul-suc, add-comm, le-of-suc-le-suc, not-suc-le-zero, suc-add, add-suc, add-zero, zero-lt-suc, suc-ne-zero, suc-inj, sub-zero, zero-sub, suc-sub-suc}
+use native.Mathlib.Nat.{mul-zero, mul-suc, add-comm, le-of-suc-le-suc, not-suc-le-zero, suc-add, add-suc, add-zero, zero-lt-suc, suc-ne-zero, suc-inj, zero-add, sub-zero, zero-sub, suc-sub-suc}
+use native.Mathlib.Numerals.{add-one}
 use native.Mathlib.Omega.{arith}
 use borrow.Author.Tests.{ltb-true, ltb-false}
 use lib.Dec.{T, eqb, ltb, eqb→eq, eqb-refl}
 use lib.Ieee.Fits.{and-i, and-l, and-r}
-use lib.ListN.{length, getD, set, take, drop, length-append, length-drop, length-map, List·getD-append}
-use lib.Seq.{sets, take-append-le, drop-append-le, take-at, drop-append-add, getD-at, take-nil, take-take, drop-drop}
-use Rattle.lists.specs.Loops.{All}
+use lib.ListN.{length, getD, take, drop, length-append, length-map, List·getD-append}
+use lib.Seq.{take-at, drop-append-add, getD-at, take-nil, take-take, drop-drop, drop-cons}
+use Rattle.lists.specs.Loops.{tab, All}
 use Rattle.lists.specs.Lists.{mapN, joinN, total, has, place, meet, firsts, sameWords, flat}
 
 -- ---- a fact of each element
@@ -43,9 +44,38 @@ module _ {A : Type 0} where
   getD-map-lt f (x ∷ xs) zero d e b = refl
   getD-map-lt f (x ∷ xs) (suc i) d e b = getD-map-lt f xs i d e (le-of-suc-le-suc b)
 
+-- whatever is read beyond the last
+pub getD-any : {A : Type 0} (l : List A) (i : ℕ) (d e : A) → i < length l → getD l i d ≡ getD l i e
+getD-any [] i d e b = absurd (not-suc-le-zero b)
+getD-any (x ∷ l) zero d e b = refl
+getD-any (x ∷ l) (suc i) d e b = getD-any l i d e (le-of-suc-le-suc b)
+
 pub All-of-map : {A B : Type 0} (P : B → Type 0) (f : A → B) (l : List A) → All (λ (x : A). P (f x)) l → All P (map f l)
 All-of-map P f [] h = tt
 All-of-map P f (x ∷ xs) h = (h .0, All-of-map P f xs (h .1))
+
+module _ {A : Type 0} (Q : A → Type 0) where
+  pub All-tab : (f : ℕ → A) (k i : ℕ) → ((t : ℕ) → t < k → Q (f (i + t))) → All Q (tab f k i)
+  unfolding tab
+  All-tab f zero i h = tt
+  All-tab f (suc k) i h = (
+    subst (λ (t : ℕ). Q (f t)) (add-zero i) (h 0 (omega arith)),
+    All-tab f k (suc i) (λ t l. subst (λ (s : ℕ). Q (f s)) (add-suc i t ∙ sym (suc-add i t)) (h (suc t) (omega arith))),
+  )
+
+  -- from place 0
+  pub All-by : (f : ℕ → A) (k : ℕ) → ((t : ℕ) → t < k → Q (f t)) → All Q (tab f k 0)
+  All-by f k h = All-tab f k 0 (λ t l. subst (λ (s : ℕ). Q (f s)) (sym (zero-add t)) (h t l))
+
+  pub All-flat : (l : List (List A)) → All (λ (x : List A). All Q x) l → All Q (flat l)
+  unfolding flat
+  All-flat [] h = tt
+  All-flat (x ∷ xs) h = All-append Q x (flat xs) (h .0) (All-flat xs (h .1))
+
+pub All-mapN : {A B : Type 0} (Q : B → Type 0) (g : ℕ → A → B) → ((n : ℕ) (x : A) → Q (g n x)) → (n : ℕ) (l : List A) → All Q (mapN g n l)
+unfolding mapN
+All-mapN Q g h n [] = tt
+All-mapN Q g h n (x ∷ xs) = (h n x, All-mapN Q g h (suc n) xs)
 
 -- ---- fronts, backs and parts
 
@@ -55,6 +85,28 @@ module _ {A : Type 0} where
   drop-take (suc k) zero l = sym (ap (λ (m : ℕ). take m (drop (suc k) l)) (zero-sub (suc k)))
   drop-take (suc k) (suc n) [] = sym (take-nil (suc n - suc k))
   drop-take (suc k) (suc n) (x ∷ xs) = drop-take k n xs ∙ ap (λ (m : ℕ). take m (drop k xs)) (sym (suc-sub-suc n k))
+
+  pub drop-next : (d : A) (l : List A) (k : ℕ) → k < length l → drop k l ≡ getD l k d ∷ drop (k + 1) l
+  drop-next d l k h = drop-cons l k d h ∙ ap (λ (j : ℕ). getD l k d ∷ drop j l) (sym (add-one k))
+
+  -- the head of what is left, and the rest
+  pub head-left : (l : List A) (c : ℕ) (x : A) (r : List A) (d : A) → drop c l ≡ x ∷ r → (getD l c d ≡ x) × (drop (suc c) l ≡ r)
+  head-left [] zero x r d h = let z : _≡_ {A = ℕ} 0 1 = cc in absurd (omega arith)
+  head-left [] (suc c) x r d h = let z : _≡_ {A = ℕ} 0 1 = cc in absurd (omega arith)
+  head-left (y ∷ l) zero x r d h = (cc, cc)
+  head-left (y ∷ l) (suc c) x r d h = head-left l c x r d h
+
+  -- three of them
+  pub drop-three : (d : A) (l : List A) (k : ℕ) → k + 3 ≤ length l → drop k l ≡ getD l k d ∷ getD l (k + 1) d ∷ getD l (k + 2) d ∷ drop (k + 3) l
+  drop-three d l k h =
+      let e1 : suc k ≡ k + 1 = omega arith in
+      let e2 : suc (k + 1) ≡ k + 2 = omega arith in
+      let e3 : suc (k + 2) ≡ k + 3 = omega arith in
+      drop-cons l k d (omega arith)
+      ∙ ap (λ (r : List A). getD l k d ∷ r)
+      (ap (λ (j : ℕ). drop j l) e1 ∙ drop-cons l (k + 1) d (omega arith)
+      ∙ ap (λ (r : List A). getD l (k + 1) d ∷ r)
+      (ap (λ (j : ℕ). drop j l) e2 ∙ drop-cons l (k + 2) d (omega arith) ∙ ap (λ (j : ℕ). getD l (k + 2) d ∷ drop j l) e3))
 
   -- two lists with the same front have the same shorter fronts
   pub front : (k n : ℕ) (l m : List A) → k ≤ n → take n l ≡ take n m → take k l ≡ take k m
@@ -71,11 +123,6 @@ module _ {A : Type 0} where
   middle a k n l m h e =
       let f : (a + k) - a ≡ k = omega arith in
       ap (λ (i : ℕ). take i (drop a l)) (sym f) ∙ sym (drop-take a (a + k) l) ∙ ap (drop a) (front (a + k) n l m h e) ∙ drop-take a (a + k) m ∙ ap (λ (i : ℕ). take i (drop a m)) f
-
-  -- a part that lies in the first of two lists
-  pub part-left : (k n : ℕ) (l m : List A) → k + n ≤ length l → take n (drop k (l ++ m)) ≡ take n (drop k l)
-  part-left k n l m h =
-      ap (take n) (drop-append-le k l m (omega arith)) ∙ take-append-le n (drop k l) m (omega (arith, length-drop k l))
 
 -- ---- numbered: each element with its number, counted from n
 
@@ -106,6 +153,13 @@ module _ {A B : Type 0} where
       let rest : mapN g (suc n) xs ≡ mapN h (suc n) xs =
       mapN-same g h (suc n) xs (λ j b y. subst (λ (k : ℕ). g k y ≡ h k y) (add-suc n j ∙ sym (suc-add n j)) (same (suc j) (omega arith) y)) in
       λ i. first i ∷ rest i
+
+  pub mapN-append : (g : ℕ → A → B) (n : ℕ) (x y : List A) → mapN g n (x ++ y) ≡ mapN g n x ++ mapN g (n + length x) y
+  unfolding mapN
+  mapN-append g n [] y = let e : n ≡ n + 0 = omega arith in ap (λ (k : ℕ). mapN g k y) e
+  mapN-append g n (a ∷ x) y =
+      let e : suc n + length x ≡ n + suc (length x) = omega arith in
+      ap (λ (r : List B). g n a ∷ r) (mapN-append g (suc n) x y ∙ ap (λ (k : ℕ). mapN g (suc n) x ++ mapN g k y) e)
 
   pub joinN-append : (g : ℕ → A → List B) (n : ℕ) (l m : List A) → joinN g n (l ++ m) ≡ joinN g n l ++ joinN g (n + length l) m
   unfolding joinN
@@ -189,6 +243,10 @@ module _ {A : Type 0} (w : A → List ℕ) (n : ℕ) (wide : (x : A) → length 
 
 -- ---- tests
 
+pub or-right : (a b : Bool) → b ≡ true → (a || b) ≡ true
+or-right true b e = refl
+or-right false b e = e
+
 T-or-left : (a b : Bool) → T a → T (a || b)
 T-or-left true b t = tt
 T-or-left false b t = absurd t
@@ -196,10 +254,6 @@ T-or-left false b t = absurd t
 T-or-right : (a b : Bool) → T b → T (a || b)
 T-or-right true b t = tt
 T-or-right false b t = t
-
-pub or-right : (a b : Bool) → b ≡ true → (a || b) ≡ true
-or-right true b e = refl
-or-right false b e = e
 
 pub T-true : (b : Bool) → T b → b ≡ true
 T-true true t = refl
@@ -314,17 +368,6 @@ module _ {K : Type 0} (same : K → K → Bool) where
       let b : length (meet same vs k) ≤ suc (length vs) = length-meet k vs in
       omega arith
 
-  -- the search has gone past the first i and stands at one that is the same
-  pub place-found : (k : K) (vs : List K) (i : ℕ) (d : K) → i < length vs → has same k (take i vs) ≡ false → T (same k (getD vs i d)) → place same k vs ≡ i
-  unfolding has place
-  place-found k [] i d b n t = absurd (not-suc-le-zero b)
-  place-found k (v ∷ vs) zero d b n t = ap (λ (c : Bool). cond c zero (suc (place same k vs))) (T-true (same k v) t)
-  place-found k (v ∷ vs) (suc i) d b n t = go (same k v) n (λ (m : has same k (take i vs) ≡ false). place-found k vs i d (le-of-suc-le-suc b) m t)
-    where
-      go : (c : Bool) → (c || has same k (take i vs)) ≡ false → (has same k (take i vs) ≡ false → place same k vs ≡ i) → cond c zero (suc (place same k vs)) ≡ suc i
-      go true n below = absurd (true≢false n)
-      go false n below = ap suc (below n)
-
   -- the search has found none: the new one's number is the length
   pub place-none : (k : K) (vs : List K) → has same k vs ≡ false → place same k vs ≡ length vs
   unfolding has place
@@ -430,11 +473,3 @@ pub sameWords-self : (a : List ℕ) → T (sameWords a a)
 unfolding sameWords
 sameWords-self [] = tt
 sameWords-self (x ∷ xs) = and-i (eqb x x) (sameWords xs xs) (eqb-refl x) (sameWords-self xs)
-
--- ---- stores, one list after another
-
-pub sets-append : (xs ys l : List ℕ) (i : ℕ) → sets l i (xs ++ ys) ≡ sets (sets l i xs) (i + length xs) ys
-sets-append [] ys l i = ap (λ (j : ℕ). sets l j ys) (sym (add-zero i))
-sets-append (x ∷ xs) ys l i =
-    sets-append xs ys (set l i x) (suc i)
-    ∙ ap (λ (j : ℕ). sets (sets (set l i x) (suc i) xs) j ys) (suc-add i (length xs) ∙ sym (add-suc i (length xs)))

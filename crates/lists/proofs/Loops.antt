@@ -1,6 +1,6 @@
--- One turn, and the end, of each loop of the definitions, as a `while i < n` has it: n - i turns are left at i. And laws of tests and of places around a ring.
-use mathlib.Core.Path.{_≡_, refl, sym, ap, _∙_}
-use mathlib.Core.Bool.{Bool, true, false, _&&_}
+-- One turn, and the end, of each loop of the definitions, as a `while i < n` has it: n - i turns are left at i. And laws of places around a ring.
+use mathlib.Core.Path.{_≡_, sym, ap, _∙_}
+use mathlib.Core.Bool.{Bool, true, false}
 use mathlib.Core.List.{List}
 use Prim.Native.Nat.{ℕ, suc, _+_, _-_, _%_, _≤_, _<_}
 use native.Mathlib.Nat.{mod-eq-of-lt, add-mod-right, mod-self}
@@ -57,21 +57,6 @@ module _ {A : Type 0} (f : ℕ → A) (n i : ℕ) (l : List A) where
   pub tab-end : n ≤ i → sets l i (tab f (n - i) i) ≡ l
   unfolding tab
   tab-end h = ap (λ (k : ℕ). sets l i (tab f k i)) (left-none n i h)
-
--- ---- Bool
-
-pub and-left : (a b : Bool) → (a && b) ≡ true → a ≡ true
-and-left true b e = refl
-and-left false b e = e
-
-pub and-right : (a b : Bool) → (a && b) ≡ true → b ≡ true
-and-right true b e = e
-and-right false true e = refl
-and-right false false e = e
-
-pub and-no : (b : Bool) → (b && false) ≡ false
-and-no true = refl
-and-no false = refl
 
 -- ---- the places before and after place i of m, around
 

@@ -1,14 +1,17 @@
 -- A part of a list replaced: by a part that was lent, by stores, and at the end of what is made so far; and what is there then.
-use mathlib.Core.Path.{_≡_, refl, sym, ap, _∙_}
+use mathlib.Core.Path.{_≡_, sym, ap, _∙_}
+use mathlib.Core.Logic.{⊎-elim}
 use mathlib.Core.List.{List, [], _∷_, _++_, append-assoc, append-nil}
 use Prim.Native.Nat.{ℕ, suc, _+_, _-_, _≤_, _<_}
 use native.Mathlib.Nat.{add-zero, add-assoc}
 use native.Mathlib.Numerals.{add-one}
 use native.Mathlib.Omega.{arith}
-use lib.ListN.{length, set, take, drop, length-append, length-take, length-drop, take-append-drop}
-use lib.Seq.{take-at, drop-at, drop-append-add, drop-drop, length-take-le, set-split, sets-eq, append-snoc, take-append-seam}
+use lib.ListN.{length, getD, set, take, drop, replicate, length-append, length-take, length-drop, drop-of-length-le, length-replicate, getD-replicate, take-append-drop}
+use lib.Seq.{take-at, drop-at, drop-append-add, drop-drop, length-take-le, sets, sets-eq, getD-take, getD-drop}
 use borrow.Rule.Slice.PartMut.{putMid, post-is}
-use Rattle.lists.specs.Parts.{seg, spliced, Kept}
+use Rattle.lists.specs.Loops.{tab}
+use Rattle.lists.specs.Parts.{seg, spliced, Kept, Out, TableOf, Written}
+use Rattle.lists.proofs.Tabs.{length-tab, tab-at}
 
 module _ {A : Type 0} where
   -- a part that was lent and came back as ys
@@ -30,6 +33,11 @@ module _ {A : Type 0} where
   unfolding spliced
   splice-start l a = rw (add-zero, append-nil (take a l)) (sym (take-append-drop a l))
 
+  -- all replaced
+  pub splice-whole : (l p : List A) → length p ≡ length l → spliced l 0 p ≡ p
+  unfolding spliced
+  splice-whole l p e = ap (λ (r : List A). p ++ r) (drop-of-length-le l {i = 0 + length p} (omega arith)) ∙ append-nil p
+
   -- a part, and one behind it
   pub splice-more : (l : List A) (a b : ℕ) (p q : List A) → b ≡ a + length p → a + length p + length q ≤ length l → spliced (spliced l a p) b q ≡ spliced l a (p ++ q)
   unfolding spliced
@@ -44,26 +52,26 @@ module _ {A : Type 0} where
 
   -- ---- stores
 
-  pub set-is : (l : List A) (a : ℕ) (x : A) → a < length l → set l a x ≡ spliced l a (x ∷ [])
+  pub sets-spliced : (l : List A) (i : ℕ) (vs : List A) → i + length vs ≤ length l → sets l i vs ≡ spliced l i vs
   unfolding spliced
-  set-is l a x h = set-split l a x h ∙ rw add-one (sym (append-snoc (take a l) x (drop (suc a) l)))
+  sets-spliced l i vs h = sets-eq vs l i h
+
+  pub set-is : (l : List A) (a : ℕ) (x : A) → a < length l → set l a x ≡ spliced l a (x ∷ [])
+  set-is l a x h = sets-spliced l a (x ∷ []) (omega arith)
 
   pub put-two : (l : List A) (a : ℕ) (x y : A) → a + 2 ≤ length l → set (set l a x) (a + 1) y ≡ spliced l a (x ∷ y ∷ [])
-  unfolding spliced
-  put-two l a x y h = rw add-one (sets-eq (x ∷ y ∷ []) l a h)
+  put-two l a x y h = rw add-one (sets-spliced l a (x ∷ y ∷ []) h)
 
   pub put-three : (l : List A) (a : ℕ) (x y z : A) → a + 3 ≤ length l → set (set (set l a x) (a + 1) y) (a + 2) z ≡ spliced l a (x ∷ y ∷ z ∷ [])
-  unfolding spliced
   put-three l a x y z h =
       let e : a + 2 ≡ suc (suc a) = omega arith in
-      rw (e, add-one) (sets-eq (x ∷ y ∷ z ∷ []) l a h)
+      rw (e, add-one) (sets-spliced l a (x ∷ y ∷ z ∷ []) h)
 
   pub put-four : (l : List A) (a : ℕ) (w x y z : A) → a + 4 ≤ length l → set (set (set (set l a w) (a + 1) x) (a + 2) y) (a + 3) z ≡ spliced l a (w ∷ x ∷ y ∷ z ∷ [])
-  unfolding spliced
   put-four l a w x y z h =
       let e : a + 3 ≡ suc (suc (suc a)) = omega arith in
       let f : a + 2 ≡ suc (suc a) = omega arith in
-      rw (e, f, add-one) (sets-eq (w ∷ x ∷ y ∷ z ∷ []) l a h)
+      rw (e, f, add-one) (sets-spliced l a (w ∷ x ∷ y ∷ z ∷ []) h)
 
   -- ---- what is there then
 
@@ -72,32 +80,61 @@ module _ {A : Type 0} where
   spliced-front l a p h =
       rw (append-assoc (take a l) p (drop (a + length p) l)) (take-at (take a l) (p ++ drop (a + length p) l) a (length-take-le a l h))
 
-  module _ (l : List A) (a : ℕ) (p : List A) (h : a + length p ≤ length l) where
-    pub length-splice : length (spliced l a p) ≡ length l
+  module _ (l : List A) (a : ℕ) (p : List A) {m : List A} {n : ℕ} (e : m ≡ spliced l a p) (s : length p ≡ n) (h : a + n ≤ length l) where
+    low : length (take a l) ≡ a
+    low = length-take-le a l (omega arith)
+
+    joined : m ≡ take a l ++ (p ++ drop (a + length p) l)
     unfolding spliced
-    length-splice = simp (length-append, length-take, length-drop, length-take-le a l (omega arith)) (omega arith)
+    joined = e ∙ append-assoc (take a l) p (drop (a + length p) l)
 
-    from : drop a (spliced l a p) ≡ p ++ drop (a + length p) l
+    from : drop a m ≡ p ++ drop (a + length p) l
+    from = ap (drop a) joined ∙ drop-at (take a l) (p ++ drop (a + length p) l) a low
+
+    pub put-size : length m ≡ length l
     unfolding spliced
-    from = rw (append-assoc (take a l) p (drop (a + length p) l)) (drop-at (take a l) (p ++ drop (a + length p) l) a (length-take-le a l (omega arith)))
+    put-size = ap length e ∙ simp (length-append, length-take, length-drop) (omega arith)
 
-    pub spliced-part : take (length p) (drop a (spliced l a p)) ≡ p
-    spliced-part = rw from (take-append-seam p (drop (a + length p) l))
+    pub put-front : take a m ≡ take a l
+    put-front = ap (take a) e ∙ spliced-front l a p (omega arith)
 
-    pub spliced-above : drop (a + length p) (spliced l a p) ≡ drop (a + length p) l
-    spliced-above = sym (drop-drop (length p) a (spliced l a p)) ∙ ap (drop (length p)) from ∙ drop-at p (drop (a + length p) l) (length p) refl
+    pub put-part : take n (drop a m) ≡ p
+    put-part = ap (take n) from ∙ take-at p (drop (a + length p) l) n s
+
+    pub put-above : drop (a + n) m ≡ drop (a + n) l
+    put-above = sym (drop-drop n a m) ∙ ap (drop n) from ∙ drop-at p (drop (a + length p) l) n s ∙ ap (λ (k : ℕ). drop (a + k) l) s
+
+    -- by number
+    pub put-at : (d : A) (j : ℕ) → j < n → getD m (a + j) d ≡ getD p j d
+    put-at d j b = sym (getD-drop a m j d) ∙ sym (getD-take n (drop a m) j d b) ∙ ap (λ (r : List A). getD r j d) put-part
+
+    pub put-out : (d : A) (i : ℕ) → Out a n i → getD m i d ≡ getD l i d
+    put-out d i o = ⊎-elim
+        (λ (b : i < a). sym (getD-take a m i d b) ∙ ap (λ (r : List A). getD r i d) put-front ∙ getD-take a l i d b)
+        (λ (b : a + n ≤ i).
+        let q : a + n + (i - (a + n)) ≡ i = omega arith in
+        ap (λ (k : ℕ). getD m k d) (sym q) ∙ sym (getD-drop (a + n) m (i - (a + n)) d) ∙ ap (λ (r : List A). getD r (i - (a + n)) d) put-above
+        ∙ getD-drop (a + n) l (i - (a + n)) d ∙ ap (λ (k : ℕ). getD l k d) q) o
 
 -- words
-module _ (l : List ℕ) (a : ℕ) (p : List ℕ) (h : a + length p ≤ length l) where
-  pub kept-spliced : Kept a l (spliced l a p)
-  kept-spliced = record { len = length-splice l a p h; front = spliced-front l a p (omega arith) }
+module _ (l : List ℕ) (a : ℕ) (p : List ℕ) {m : List ℕ} {n : ℕ} (e : m ≡ spliced l a p) (s : length p ≡ n) (h : a + n ≤ length l) where
+  pub put-kept : Kept a l m
+  put-kept = record { len = put-size l a p e s h; front = put-front l a p e s h }
 
-  pub seg-spliced : seg (spliced l a p) a (length p) ≡ p
+  pub put-seg : seg m a n ≡ p
   unfolding seg
-  seg-spliced = spliced-part l a p h
+  put-seg = put-part l a p e s h
 
--- what n words that were put leave
+-- both, of n words p
 pub put-gives : {l m : List ℕ} {a n : ℕ} (p : List ℕ) → m ≡ spliced l a p → length p ≡ n → a + n ≤ length l → Kept a l m × (seg m a n ≡ p)
-put-gives {l} {m} {a} {n} p e s h =
-    let r : a + length p ≤ length l = omega arith in
-    (rw e (kept-spliced l a p r), rw (e, ← s) (seg-spliced l a p r))
+put-gives {l} {a = a} p e s h = (put-kept l a p e s h, put-seg l a p e s h)
+
+-- a table that was put
+pub put-table : (l : List ℕ) (f : ℕ → ℕ) {m : List ℕ} {a n : ℕ} → a + n ≤ length l → m ≡ spliced l a (tab f n 0) → TableOf m a n f
+put-table l f {a = a} {n = n} h e = record { at = λ j b. put-at l a (tab f n 0) e (length-tab f n 0) h 0 j b ∙ tab-at f n j 0 b }
+
+pub put-same : (l : List ℕ) (v : ℕ) {m : List ℕ} {a n : ℕ} → a + n ≤ length l → m ≡ spliced l a (replicate n v) → TableOf m a n (λ j. v)
+put-same l v {a = a} {n = n} h e = record { at = λ j b. put-at l a (replicate n v) e (length-replicate n v) h 0 j b ∙ getD-replicate n j v 0 b }
+
+pub put-written : (l : List ℕ) (f : ℕ → ℕ) {m : List ℕ} {a n : ℕ} → a + n ≤ length l → m ≡ spliced l a (tab f n 0) → Written a n f l m
+put-written l f {a = a} {n = n} h e = record { kept = put-kept l a (tab f n 0) e (length-tab f n 0) h; words = put-table l f h e; above = put-above l a (tab f n 0) e (length-tab f n 0) h }

@@ -1,12 +1,12 @@
 -- Lists made by number: their length, their elements, parts joined.
 use mathlib.Core.Path.{_≡_, refl, sym, ap, ap₂, _∙_}
-use mathlib.Core.List.{List, _∷_, _++_, map}
+use mathlib.Core.List.{List, [], _∷_, _++_, map}
 use Prim.Native.Nat.{ℕ, zero, suc, _+_, _<_, _≤_}
 use native.Mathlib.Nat.{not-suc-le-zero, le-of-suc-le-suc, zero-add, add-zero, add-suc, suc-add}
 use native.Mathlib.Omega.{arith}
-use lib.ListN.{length, getD}
+use lib.ListN.{length, getD, take, replicate}
 use Rattle.lists.specs.Loops.{tab}
-use lib.Seq.{ext-getD}
+use lib.Seq.{ext-getD, getD-take, length-take-le, take-all}
 use Rattle.lists.specs.Parts.{seg}
 use Rattle.lists.proofs.Keep.{length-seg, seg-at}
 
@@ -42,10 +42,31 @@ module _ {A : Type 0} where
   tab-add f zero b i = rw (zero-add, add-zero) refl
   tab-add f (suc a) b i = rw (suc-add) (ap (λ (l : List A). f i ∷ l) (tab-add f a b (suc i) ∙ ap (λ (j : ℕ). tab f a (suc i) ++ tab f b j) (suc-add i a ∙ sym (add-suc i a))))
 
+  -- one more
+  pub tab-snoc : (f : ℕ → A) (i : ℕ) → tab f (i + 1) 0 ≡ tab f i 0 ++ (f i ∷ [])
+  unfolding tab
+  tab-snoc f i = tab-add f i 1 0 ∙ ap (λ (j : ℕ). tab f i 0 ++ (f j ∷ [])) (zero-add i)
+
   pub map-tab : {B : Type 0} (f : ℕ → A) (h : A → B) (k i : ℕ) → map h (tab f k i) ≡ tab (λ (j : ℕ). h (f j)) k i
   unfolding tab
   map-tab {B} f h zero i = refl
   map-tab {B} f h (suc k) i = ap (λ (l : List B). h (f i) ∷ l) (map-tab f h k (suc i))
+
+pub tab-replicate : {A : Type 0} (v : A) (k i : ℕ) → tab (λ j. v) k i ≡ replicate k v
+unfolding tab
+tab-replicate v zero i = refl
+tab-replicate {A} v (suc k) i = ap (λ (l : List A). v ∷ l) (tab-replicate v k (suc i))
+
+-- the first n elements of a list
+pub tab-take : {A : Type 0} (d : A) (l : List A) (n : ℕ) → n ≤ length l → tab (λ i. getD l i d) n 0 ≡ take n l
+tab-take d l n h =
+    let s = length-take-le n l h in
+    let t = length-tab (λ i. getD l i d) n 0 in
+    ext-getD d (tab (λ i. getD l i d) n 0) (take n l) (t ∙ sym s)
+    (λ i b. let q : i < n = omega arith in tab-at (λ i. getD l i d) n i d q ∙ sym (getD-take n l i d q))
+
+pub tab-list : {A : Type 0} (d : A) (l : List A) (n : ℕ) → length l ≡ n → tab (λ i. getD l i d) n 0 ≡ l
+tab-list d l n e = tab-take d l n (omega arith) ∙ take-all n l (omega arith)
 
 pub seg-tab : (w : List ℕ) (a n i : ℕ) → a + i + n ≤ length w → seg w (a + i) n ≡ tab (λ (j : ℕ). getD w (a + j) 0) n i
 seg-tab w a n i h =

@@ -1,11 +1,12 @@
 -- Laws of lists made by number, and of sizes added up over them.
 use mathlib.Core.Path.{_≡_, refl, sym, ap, ap₂, _∙_}
 use mathlib.Core.List.{List, [], _∷_, _++_, reverse, reverse-append}
-use Prim.Native.Nat.{ℕ, zero, suc, _+_, _-_, _*_, _<_}
-use native.Mathlib.Nat.{not-suc-le-zero, le-of-suc-le-suc, zero-add, suc-mul, zero-mul}
+use Prim.Native.Nat.{ℕ, zero, suc, _+_, _-_, _*_, _≤_, _<_}
+use native.Mathlib.Nat.{not-suc-le-zero, le-of-suc-le-suc, zero-add, add-assoc, suc-mul, zero-mul, mul-zero, mul-add}
 use native.Mathlib.Numerals.{add-one}
 use native.Mathlib.Omega.{arith}
-use lib.ListN.{length, getD, take, length-append}
+use lib.ListN.{length, getD, take, length-append, List·getD-append}
+use lib.Seq.{getD-append-add}
 use Rattle.lists.specs.Loops.{tab}
 use Rattle.lists.proofs.Tabs.{tab-shift, tab-add}
 use Rattle.lists.specs.Lists.{mapN, total, flat}
@@ -43,6 +44,14 @@ module _ {A : Type 0} where
   flat-total [] = refl
   flat-total (x ∷ xs) = length-append x (flat xs) ∙ ap (λ (k : ℕ). length x + k) (flat-total xs)
 
+  -- element i of list j, among all
+  pub flat-place : (l : List (List A)) (j i : ℕ) (d : A) → j < length l → i < length (getD l j []) → getD (flat l) (total length (take j l) + i) d ≡ getD (getD l j []) i d
+  unfolding total flat
+  flat-place [] j i d h b = absurd (not-suc-le-zero h)
+  flat-place (x ∷ l) zero i d h b = rw (zero-add i) (List·getD-append x (flat l) d i b)
+  flat-place (x ∷ l) (suc j) i d h b =
+      rw (add-assoc (length x) (total length (take j l)) i) (getD-append-add x (flat l) (total length (take j l) + i) d ∙ flat-place l j i d (le-of-suc-le-suc h) b)
+
 -- each size decided by the element alone
 pub total-mapN : {A B : Type 0} (size : B → ℕ) (by : A → ℕ) (g : ℕ → A → B) → ((n : ℕ) (x : A) → size (g n x) ≡ by x) → (n : ℕ) (l : List A) → total size (mapN g n l) ≡ total by l
 unfolding total mapN
@@ -53,6 +62,26 @@ pub mapN-tab : {A B : Type 0} (g : ℕ → A → B) (f : ℕ → A) (k i : ℕ) 
 unfolding mapN tab
 mapN-tab g f zero i = refl
 mapN-tab {B = B} g f (suc k) i = ap (λ (r : List B). g i (f i) ∷ r) (mapN-tab g f k (suc i))
+
+-- elements of at most c times a size each add up to at most c times all sizes
+pub total-within : {A : Type 0} (f size : A → ℕ) (c : ℕ) → ((x : A) → f x ≤ c * size x) → (l : List A) → total f l ≤ c * total size l
+unfolding total
+total-within f size c h [] = omega arith
+total-within f size c h (x ∷ xs) =
+    let a = h x in
+    let b = total-within f size c h xs in
+    let e = mul-add c (size x) (total size xs) in
+    omega arith
+
+pub total-ones : {A : Type 0} (l : List A) → total (λ (x : A). 1) l ≡ length l
+unfolding total
+total-ones [] = refl
+total-ones (x ∷ xs) = let e = total-ones xs in omega arith
+
+pub times-total : {A : Type 0} (c : ℕ) (f : A → ℕ) (l : List A) → total (λ (x : A). c * f x) l ≡ c * total f l
+unfolding total
+times-total c f [] = sym (mul-zero c)
+times-total c f (x ∷ xs) = ap (λ (k : ℕ). c * f x + k) (times-total c f xs) ∙ sym (mul-add c (f x) (total f xs))
 
 -- the sizes before the next one
 pub total-suc : {A : Type 0} (l : List (List A)) (j : ℕ) → j < length l → total length (take (suc j) l) ≡ total length (take j l) + length (getD l j [])

@@ -1,35 +1,15 @@
--- A slice that is rewritten in its place, three words a turn: start, one turn and end. And a run of stores, read again.
+-- A slice that is rewritten in its place, three words a turn: start, one turn and end.
 use mathlib.Core.Path.{_≡_, refl, sym, ap, _∙_}
-use mathlib.Core.List.{List, [], _∷_, _++_}
-use Prim.Native.Nat.{ℕ, zero, suc, _+_, _-_, _*_, _≤_, _<_}
-use native.Mathlib.Nat.{add-zero, sub-zero, add-suc, suc-add}
+use mathlib.Core.List.{List, _++_}
+use Prim.Native.Nat.{ℕ, suc, _+_, _-_, _*_, _≤_, _<_}
+use native.Mathlib.Nat.{sub-zero}
 use native.Mathlib.Numerals.{add-one}
 use native.Mathlib.Omega.{arith}
-use lib.ListN.{length, getD, set, length-set}
-use lib.Seq.{sets, getD-set-same, getD-set-other}
+use lib.ListN.{length, getD}
+use lib.Seq.{sets}
 use Rattle.lists.specs.Loops.{tab}
 use Rattle.lists.specs.Lists.{flat}
-use Rattle.lists.proofs.Lists.{sets-append}
-
--- ---- a run of stores
-
--- elsewhere
-pub sets-other : (xs l : List ℕ) (i j : ℕ) → ((k : ℕ) → k < length xs → j ≡ i + k → ⊥) → getD (sets l i xs) j 0 ≡ getD l j 0
-sets-other [] l i j h = refl
-sets-other (x ∷ xs) l i j h =
-    sets-other xs (set l i x) (suc i) j (λ k b e. h (suc k) (omega arith) (omega arith))
-    ∙ getD-set-other l i j x 0 (λ e. h 0 (omega arith) (omega arith))
-
--- among them
-pub sets-at : (xs l : List ℕ) (i j : ℕ) → j < length xs → i + length xs ≤ length l → getD (sets l i xs) (i + j) 0 ≡ getD xs j 0
-sets-at [] l i j h b = let z : ⊥ = omega arith in absurd z
-sets-at (x ∷ xs) l i zero h b =
-    ap (λ (k : ℕ). getD (sets (set l i x) (suc i) xs) k 0) (add-zero i)
-    ∙ sets-other xs (set l i x) (suc i) i (λ k g e. let z : ⊥ = omega arith in z)
-    ∙ getD-set-same l i x 0 (omega arith)
-sets-at (x ∷ xs) l i (suc j) h b =
-    ap (λ (k : ℕ). getD (sets (set l i x) (suc i) xs) k 0) (add-suc i j ∙ sym (suc-add i j))
-    ∙ sets-at xs (set l i x) (suc i) j (omega arith) (omega (arith, length-set l i x))
+use Rattle.lists.proofs.Stores.{sets-append, sets-other}
 
 -- ---- turn by turn
 
@@ -63,7 +43,7 @@ module _ (g : ℕ → List ℕ) (three : (v : ℕ) → length (g v) ≡ 3) (at c
         long = el ∙ M .long;
         past = λ j b.
             ap (λ (m : List ℕ). getD m j 0) es
-            ∙ sets-other (g v) l (at + v * 3) j (λ k q r. let z : ⊥ = omega (arith, three v) in z)
+            ∙ sets-other 0 (g v) l (at + v * 3) j (λ k q r. let z : ⊥ = omega (arith, three v) in z)
             ∙ M .past j (omega arith);
         rest =
             ap (λ (m : List ℕ). sets m (at + (v + 1) * 3) next) es

@@ -1,32 +1,18 @@
 -- FORMAT 10.2: C corners ask for at most C each, so that as many as edition 1 allows never use up the budget.
-use mathlib.Core.Path.{_≡_, refl, sym, subst}
+use mathlib.Core.Path.{sym, subst}
 use mathlib.Core.Bool.{Bool, true, false, cond}
 use mathlib.Core.List.{List, [], _∷_}
 use Prim.Native.Nat.{ℕ, suc, _*_, _≤_}
-use native.Mathlib.Nat.{le-trans, mul-add, mul-one, mul-le-mul}
+use native.Mathlib.Nat.{le-trans, mul-one, mul-le-mul}
 use native.Mathlib.Omega.{arith}
 use lib.Dec.{eqb}
 use lib.ListN.{length, length-append}
 use Rattle.block.specs.Edition.{edition1}
 use Rattle.lists.specs.Lists.{joinN, total}
+use Rattle.lists.proofs.Totals.{total-within, total-ones}
 use Rattle.mesh.specs.Soup.{Corner, Face, Frame}
 use Rattle.mesh.specs.Normals.{facing, Hit, hits, hitsOf, incident}
 use Rattle.mesh.specs.Budget.{creaseBudget, asked, askedBy, askedInAll}
-
--- elements of at most c times a size each add up to at most c times all sizes
-total-within : {A : Type 0} (f size : A → ℕ) (c : ℕ) → ((x : A) → f x ≤ c * size x) → (l : List A) → total f l ≤ c * total size l
-unfolding total
-total-within f size c h [] = omega arith
-total-within f size c h (x ∷ xs) =
-    let a = h x in
-    let b = total-within f size c h xs in
-    let e = mul-add c (size x) (total size xs) in
-    omega arith
-
-total-ones : {A : Type 0} (l : List A) → total (λ (x : A). 1) l ≡ length l
-unfolding total
-total-ones [] = refl
-total-ones (x ∷ xs) = let e = total-ones xs in omega arith
 
 hits-within : (p : ℕ) (h : Hit) (g : Face) → length (hits p h g) ≤ length g
 unfolding hits

@@ -4,7 +4,7 @@ use mathlib.Core.Bool.{Bool, true, false, cond}
 use mathlib.Core.Option.{Option, none, some}
 use mathlib.Core.List.{List, [], _∷_, _++_, map, reverse}
 use Prim.Native.Nat.{ℕ, suc, _+_, _-_, _*_}
-use native.Mathlib.Nat.{mul-zero, mul-add, mul-assoc, mul-comm}
+use native.Mathlib.Nat.{mul-assoc, mul-comm}
 use native.Mathlib.Omega.{arith}
 use lib.Dec.{ltb}
 use lib.ListN.{length, length-map, length-reverse}
@@ -27,7 +27,7 @@ use Rattle.mesh.specs.Grid.{xDimension, zDimension, gridPoint, gridPoint
 use Rattle.mesh.specs.Extrusion.{Extrusion, extrusionOf, sectionOf, spineCount, sectionCount, rowWords, rowAt, extrusionPoints, sideCorner, sides, capLength, capCorner, capFace, faceIf, hasCap, caps, extrusionFaces}
 use Rattle.mesh.specs.Sizes.{named, linesAfter, lineSetSizes, quadCount, gridSizes, one, capCount, extrusionSizes}
 use Rattle.lists.proofs.Lists.{length-joinN, length-words}
-use Rattle.lists.proofs.Totals.{flat-total, total-append, total-tab, total-mapN}
+use Rattle.lists.proofs.Totals.{flat-total, total-append, total-tab, total-mapN, times-total}
 use Rattle.mesh.proofs.Tabs.{total-tabs}
 
 -- what each run gives, added up
@@ -35,11 +35,6 @@ sum-total : (f : List ℕ → ℕ) (rs : List Run) → total (λ (r : Run). f (r
 unfolding total sumOver
 sum-total f [] = refl
 sum-total f (r ∷ rs) = ap (λ (k : ℕ). f (r .items) + k) (sum-total f rs)
-
-times-total : {A : Type 0} (c : ℕ) (f : A → ℕ) (l : List A) → total (λ (x : A). c * f x) l ≡ c * total f l
-unfolding total
-times-total c f [] = sym (mul-zero c)
-times-total c f (x ∷ xs) = ap (λ (k : ℕ). c * f x + k) (times-total c f xs) ∙ sym (mul-add c (f x) (total f xs))
 
 -- ---- line set
 

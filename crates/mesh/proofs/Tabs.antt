@@ -1,11 +1,10 @@
 -- Rows of one length, made by number.
 use mathlib.Core.Path.{_≡_, refl, sym, ap, ap₂, _∙_}
-use mathlib.Core.List.{List, [], _++_}
+use mathlib.Core.List.{List, _++_}
 use Prim.Native.Nat.{ℕ, zero, suc, _+_, _-_, _*_, _/_, _%_, _<_}
-use native.Mathlib.Nat.{zero-add, suc-mul, zero-mul, div-eq-of-lt, mod-eq-of-lt, add-mul-div-right, add-mul-mod-self-right, add-comm}
-use native.Mathlib.Omega.{arith}
-use lib.ListN.{length}
+use native.Mathlib.Nat.{zero-add, suc-mul, zero-mul, add-comm}
 use Rattle.lists.specs.Loops.{tab}
+use Rattle.lists.proofs.Numbers.{column-of, row-of}
 use Rattle.lists.proofs.Tabs.{tab-shift, tab-add}
 use Rattle.lists.specs.Lists.{total, flat}
 use Rattle.mesh.specs.Quads.{tabs}
@@ -18,13 +17,7 @@ module _ {A : Type 0} where
   tabs-tab f n m h = go n 0 ∙ ap (λ (s : ℕ). tab (λ k. f (k / m) (k % m)) (n * m) s) (zero-mul m)
     where
       at : (i t : ℕ) → t < m → f i t ≡ f ((i * m + t) / m) ((i * m + t) % m)
-      at i t l =
-          let d : (t + i * m) / m ≡ t / m + i = add-mul-div-right t i h in
-          let e : t / m ≡ 0 = div-eq-of-lt l in
-          let p : (t + i * m) % m ≡ t % m = add-mul-mod-self-right t i m in
-          let q : t % m ≡ t = mod-eq-of-lt l in
-          let x : (t + i * m) / m ≡ i = omega arith in
-          rw (add-comm (i * m) t, x, p, q) refl
+      at i t l = rw (add-comm (i * m) t, row-of m t i l, column-of m t i l) refl
 
       go : (n i : ℕ) → flat (tab (λ i. tab (f i) m 0) n i) ≡ tab (λ k. f (k / m) (k % m)) (n * m) (i * m)
       go zero i = rw zero-mul refl

@@ -1,10 +1,10 @@
 -- FORMAT 8: the corners of every kind name points below P, and gather under points below P; what an extrusion reads at a number.
-use Prim.Native.Nat.{ℕ, zero, suc, _+_, _-_, _*_, _≤_, _<_}
-use mathlib.Core.Path.{_≡_, refl, sym, _∙_, subst}
+use Prim.Native.Nat.{ℕ, suc, _+_, _-_, _*_, _≤_, _<_}
+use mathlib.Core.Path.{_≡_, refl, sym, subst}
 use mathlib.Core.Bool.{Bool, true, false, _&&_, cond, true≢false}
 use mathlib.Core.Option.{none, some}
 use mathlib.Core.List.{List, [], _∷_, _++_, map, reverse}
-use native.Mathlib.Nat.{add-zero, add-suc, suc-add, zero-add, suc-mul, mul-comm, mul-le-mul-right}
+use native.Mathlib.Nat.{mul-comm}
 use native.Mathlib.Omega.{arith}
 use borrow.Author.Tests.{ltb-true}
 use lib.Dec.{ltb, leb}
@@ -18,7 +18,7 @@ use Rattle.block.specs.Value.{words2, words3}
 use Rattle.block.specs.Texture.{pairOf}
 use Rattle.lists.specs.Loops.{tab, All}
 use Rattle.lists.proofs.Tabs.{tab-at}
-use Rattle.lists.specs.Lists.{mapN, flat}
+use Rattle.lists.specs.Lists.{mapN}
 use Rattle.mesh.specs.Words.{no2, no3, floats}
 use Rattle.mesh.specs.Soup.{Corner, Face}
 use Rattle.mesh.specs.Vertices.{Key}
@@ -29,43 +29,17 @@ use Rattle.mesh.specs.Frames.{at}
 use Rattle.mesh.specs.Arcs.{at2}
 use Rattle.mesh.specs.Extrusion.{Extrusion, extrusionOf, sectionOf, spineCount, sectionCount, pointNumber, cornerAt, sideCorner, capCorner, sides, closes, capLength, capFace, faceIf, hasCap, caps, extrusionFaces}
 use Rattle.mesh.specs.Lines.{these, somes, itemOf, itemsOf, lineKeys, cornerFor, lineFaces}
-use Rattle.lists.proofs.Lists.{All-append}
+use Rattle.lists.proofs.Lists.{All-append, All-by, All-flat, All-mapN}
+use Rattle.lists.proofs.Numbers.{cell}
 use Rattle.lists.proofs.Totals.{tab-reverse}
 
 -- a face whose corners are within n points
 abbrev pub Within : ℕ → Face → Type 0
 Within n f = All (λ (c : Corner). (c .point < n) × (c .gather < n)) f
 
-module _ {A : Type 0} (Q : A → Type 0) where
-  pub All-tab : (f : ℕ → A) (k i : ℕ) → ((t : ℕ) → t < k → Q (f (i + t))) → All Q (tab f k i)
-  unfolding tab
-  All-tab f zero i h = tt
-  All-tab f (suc k) i h = (
-    subst (λ (t : ℕ). Q (f t)) (add-zero i) (h 0 (omega arith)),
-    All-tab f k (suc i) (λ t l. subst (λ (s : ℕ). Q (f s)) (add-suc i t ∙ sym (suc-add i t)) (h (suc t) (omega arith))),
-  )
-
-  -- from place 0
-  pub All-by : (f : ℕ → A) (k : ℕ) → ((t : ℕ) → t < k → Q (f t)) → All Q (tab f k 0)
-  All-by f k h = All-tab f k 0 (λ t l. subst (λ (s : ℕ). Q (f s)) (sym (zero-add t)) (h t l))
-
-  pub All-flat : (l : List (List A)) → All (λ (x : List A). All Q x) l → All Q (flat l)
-  unfolding flat
-  All-flat [] h = tt
-  All-flat (x ∷ xs) h = All-append Q x (flat xs) (h .0) (All-flat xs (h .1))
-
 pub All-tabs : {A : Type 0} (Q : A → Type 0) (f : ℕ → ℕ → A) (n m : ℕ) → ((i j : ℕ) → i < n → j < m → Q (f i j)) → All Q (tabs f n m)
 unfolding tabs
 All-tabs Q f n m h = All-flat Q _ (All-by (λ (x : List _). All Q x) (λ i. tab (f i) m 0) n (λ i l. All-by Q (f i) m (λ j k. h i j l k)))
-
-All-mapN : {A B : Type 0} (Q : B → Type 0) (g : ℕ → A → B) → ((n : ℕ) (x : A) → Q (g n x)) → (n : ℕ) (l : List A) → All Q (mapN g n l)
-unfolding mapN
-All-mapN Q g h n [] = tt
-All-mapN Q g h n (x ∷ xs) = (h n x, All-mapN Q g h (suc n) xs)
-
--- column a of row b, in rows of x
-pub cell : (a b x z : ℕ) → a < x → b < z → a + b * x < z * x
-cell a b x z h k = let e : suc b * x ≤ z * x = mul-le-mul-right x k in omega (arith, suc-mul b x)
 
 quad-within : (n : ℕ) (f : ℕ → ℕ → Corner) (a b : ℕ) → ((i j : ℕ) → i < a → j < b → (f i j .point < n) × (f i j .gather < n))
     → (i j : ℕ) → i + 1 < a → j + 1 < b → Within n (quad f i j)

@@ -2,26 +2,23 @@
 use mathlib.Core.Path.{_≡_, refl}
 use mathlib.Core.Bool.{Bool, true, false}
 use mathlib.Core.List.{List, [], _∷_, map}
-use Prim.Native.Nat.{ℕ, zero, suc, _+_, _*_, _<_}
+use Prim.Native.Nat.{ℕ, zero, suc, _*_, _<_}
 use native.Mathlib.Nat.{mod-lt}
 use native.Mathlib.Omega.{arith}
 use lib.ListN.{length, getD}
 use lib.Ieee.{nan}
-use Rattle.lists.specs.Loops.{pick, tab, All}
+use Rattle.lists.specs.Loops.{pick, All}
+use Rattle.lists.proofs.Lists.{All-getD, All-by}
 use Rattle.polygon.specs.Ears.{Pt, Tri, remove, fanFrom, fan, goes, firstEar, corner, clip, place, order, isReversed, turn, earClipBy, earClip, outline, flat}
 use Rattle.polygon.specs.Edges.{Within}
 use Rattle.polygon.specs.Face.{faceTris}
+use Rattle.polygon.proofs.Keep.{place-in}
 use Rattle.polygon.proofs.Count.{goes-ear, either}
 
 abbrev Each : (ℕ → Type 0) → List Tri → Type 0
 Each Q ts = All (λ (t : Tri). Q (t .a) × Q (t .b) × Q (t .c)) ts
 
 module _ (Q : ℕ → Type 0) where
-  all-at : (l : List ℕ) (k : ℕ) → k < length l → All Q l → Q (getD l k 0)
-  all-at [] k h a = let z : ⊥ = omega arith in absurd z
-  all-at (x ∷ l) zero h a = a .0
-  all-at (x ∷ l) (suc k) h a = all-at l k (omega arith) (a .1)
-
   all-remove : (i : ℕ) (l : List ℕ) → All Q l → All Q (remove i l)
   unfolding remove
   all-remove i [] a = tt
@@ -48,7 +45,7 @@ module _ (Q : ℕ → Type 0) where
           → Each Q (pick b (corner l (firstEar P l) ∷ clip P k (remove (firstEar P l) l)) (fan l))
       go true e ih =
           let i : firstEar P l < length l = goes-ear P l e in
-          ((all-at l _ (mod-lt _ (omega arith)) a, all-at l (firstEar P l) i a, all-at l _ (mod-lt _ (omega arith)) a), ih)
+          ((All-getD Q l a 0 _ (mod-lt _ (omega arith)), All-getD Q l a 0 (firstEar P l) i, All-getD Q l a 0 _ (mod-lt _ (omega arith))), ih)
       go false e ih = each-fan l a
 
   each-turn : (rev : Bool) (ts : List Tri) → Each Q ts → Each Q (map (turn rev) ts)
@@ -62,19 +59,9 @@ module _ (Q : ℕ → Type 0) where
   all-flat [] a = tt
   all-flat (t ∷ ts) a = (a .0 .0, (a .0 .1, (a .0 .2, all-flat ts (a .1))))
 
-all-tab : (Q : ℕ → Type 0) (f : ℕ → ℕ) (k i : ℕ) → ((j : ℕ) → j < i + k → Q (f j)) → All Q (tab f k i)
-unfolding tab
-all-tab Q f zero i h = tt
-all-tab Q f (suc k) i h = (h i (omega arith), all-tab Q f k (suc i) (λ j b. h j (omega arith)))
-
-place-below : (rev : Bool) (n j : ℕ) → j < 0 + n → place rev n j < n
-unfolding place
-place-below true n j b = omega arith
-place-below false n j b = omega arith
-
 all-order : (rev : Bool) (n : ℕ) → All (λ j. j < n) (order rev n)
 unfolding order
-all-order rev n = all-tab (λ j. j < n) (place rev n) n 0 (place-below rev n)
+all-order rev n = All-by (λ j. j < n) (place rev n) n (place-in rev n)
 
 ears-within : (pts : List Pt) → All (Within (length pts)) (earClip pts)
 unfolding earClip earClipBy
@@ -86,7 +73,7 @@ ears-within pts =
 
 all-outline : (n : ℕ) → All (λ j. j < n) (outline n)
 unfolding outline
-all-outline n = all-tab (λ j. j < n) (λ i. i) n 0 (λ j b. omega arith)
+all-outline n = All-by (λ j. j < n) (λ i. i) n (λ j b. b)
 
 pub face-within : (convex : Bool) (pts : List Pt) → All (Within (length pts)) (faceTris convex pts)
 face-within convex pts =
@@ -94,4 +81,4 @@ face-within convex pts =
 
 -- the same of the numbers that are written
 pub below : (n : ℕ) (ts : List Tri) (k : ℕ) → All (Within n) ts → k < length (flat ts) → getD (flat ts) k 0 < n
-below n ts k w h = all-at (λ j. j < n) (flat ts) k h (all-flat (λ j. j < n) ts w)
+below n ts k w h = All-getD (λ j. j < n) (flat ts) (all-flat (λ j. j < n) ts w) 0 k h

@@ -11,8 +11,8 @@ use lib.Ieee.{nan}
 use Rattle.lists.specs.Loops.{pick, tab}
 use Rattle.polygon.specs.Ears.{Pt, Tri, triple, remove, fanFrom, fan, goes, firstEar, corner, clip, place, order, isReversed, turn, earClipBy, earClip, outline}
 use Rattle.polygon.specs.Face.{earClipMax, faceTris}
-use Rattle.lists.proofs.Loops.{and-left, and-right}
 use Rattle.lists.proofs.Tabs.{length-tab}
+use Rattle.lists.proofs.Tests.{and-left, and-right}
 
 pub length-remove : (i : ℕ) (l : List ℕ) → i < length l → length (remove i l) ≡ length l - 1
 unfolding remove

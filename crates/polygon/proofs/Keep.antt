@@ -4,8 +4,7 @@ use mathlib.Core.Bool.{Bool, true, false, not, _&&_}
 use mathlib.Core.List.{List, [], _∷_}
 use mathlib.Core.Logic.{⊎-elim}
 use Prim.Native.Nat.{ℕ, zero, suc, _+_, _-_, _*_, _≤_, _<_}
-use native.Mathlib.Nat.{eq-or-lt-of-le, sub-zero}
-use native.Mathlib.Numerals.{add-one}
+use native.Mathlib.Nat.{eq-or-lt-of-le}
 use native.Mathlib.Omega.{arith}
 use borrow.Author.Tests.{ltb-true, ltb-false, eqb-true, eqb-false, lt-ltb, le-ltb, eq-eqb, ne-eqb}
 use lib.Dec.{ltb, eqb}
@@ -15,95 +14,12 @@ use lib.Ieee.{le}
 use Rattle.lists.specs.Loops.{pick, any, tab, first}
 use Rattle.polygon.specs.Ears.{Pt, +0, cross2, blocks, isEar, before, here, after, remove, place, order}
 use Rattle.polygon.specs.Memo.{hits, hit, Tells, Once, earOf, Known, Sound, entry, Full}
-use Rattle.lists.proofs.Loops.{first-go, and-right, and-no}
-
--- ---- Bool
-
-both : (a b : Bool) → (a ≡ true → b ≡ true) → (b ≡ true → a ≡ true) → a ≡ b
-both true b f g = sym (f refl)
-both false true f g = g refl
-both false false f g = refl
-
-never : (b : Bool) → (b ≡ true → ⊥) → b ≡ false
-never true f = absurd (f refl)
-never false f = refl
-
-and-yes : (a b : Bool) → a ≡ true → b ≡ true → (a && b) ≡ true
-and-yes a b e f = rw (e, f)
-
-and-over : (a b c : Bool) → ((not a && b) && c) ≡ (b && (not a && c))
-and-over true true c = refl
-and-over true false c = refl
-and-over false b c = refl
-
-and-drop : (a b c : Bool) → (b && c) ≡ false → ((a && b) && c) ≡ false
-and-drop true b c e = e
-and-drop false b c e = refl
-
-none-head : (b r : Bool) → pick b true r ≡ false → b ≡ false
-none-head true r e = e
-none-head false r e = refl
-
-none-tail : (b r : Bool) → pick b true r ≡ false → r ≡ false
-none-tail true true e = e
-none-tail true false e = refl
-none-tail false r e = e
-
--- ---- a search by number
-
-module _ (f : ℕ → Bool) where
-  pub first-has : (k i j : ℕ) → i ≤ j → j < i + k → f j ≡ true → first f k i < i + k
-  unfolding first
-  first-has zero i j h b e = let z : ⊥ = omega arith in absurd z
-  first-has (suc k) i j h b e = go (f i) refl (λ (w : i < j). first-has k (suc i) j w (omega arith) e)
-    where
-      no : (b : Bool) → b ≡ true → b ≡ false → ⊥
-      no true p q = let z : _≡_ {A = ℕ} 0 1 = cc in omega arith
-      no false p q = let z : _≡_ {A = ℕ} 0 1 = cc in omega arith
-
-      go : (q : Bool) → f i ≡ q → (i < j → first f k (suc i) < suc i + k) → pick q i (first f k (suc i)) < i + suc k
-      go true p r = omega arith
-      go false p r =
-          ⊎-elim (λ (w : i ≡ j). let z : ⊥ = no (f j) e (ap f (sym w) ∙ p) in absurd z)
-          (λ (w : i < j). let q : first f k (suc i) < suc i + k = r w in omega arith)
-          (eq-or-lt-of-le h)
-
-  pub first-find : (k i : ℕ) → first f k i < i + k → f (first f k i) ≡ true
-  unfolding first
-  first-find zero i h = let z : ⊥ = omega arith in absurd z
-  first-find (suc k) i h = go (f i) refl h (first-find k (suc i))
-    where
-      go : (q : Bool) → f i ≡ q → pick q i (first f k (suc i)) < i + suc k → (first f k (suc i) < suc i + k → f (first f k (suc i)) ≡ true)
-          → f (pick q i (first f k (suc i))) ≡ true
-      go true p b r = p
-      go false p b r = r (omega arith)
-
-  pub first-below : (k i j : ℕ) → i ≤ j → j < first f k i → f j ≡ false
-  unfolding first
-  first-below zero i j h b = let z : ⊥ = omega arith in absurd z
-  first-below (suc k) i j h b = go (f i) refl b (first-below k (suc i) j)
-    where
-      go : (q : Bool) → f i ≡ q → j < pick q i (first f k (suc i)) → (suc i ≤ j → j < first f k (suc i) → f j ≡ false) → f j ≡ false
-      go true p w r = let z : ⊥ = omega arith in absurd z
-      go false p w r = ⊎-elim (λ (e : i ≡ j). ap f (sym e) ∙ p) (λ (e : i < j). r e w) (eq-or-lt-of-le h)
-
-  -- a search that starts behind what is known to fail
-  pub first-from : (n k : ℕ) → ((j : ℕ) → j < k → f j ≡ false) → k ≤ n → first f (n - k) k ≡ first f n 0
-  first-from n zero h b = ap (λ (m : ℕ). first f m 0) (sub-zero n)
-  first-from n (suc k) h b =
-      ap (λ (m : ℕ). first f (n - m) m) (sym (add-one k))
-      ∙ sym (first-go f n k (omega arith) (h k (omega arith)))
-      ∙ first-from n k (λ (j : ℕ) (q : j < k). h j (omega arith)) (omega arith)
+use Rattle.lists.proofs.Tests.{both, never, and-yes, and-right, and-no, and-over, and-drop, none-head, none-tail}
+use Rattle.lists.proofs.Searches.{first-has, first-find, first-below, any-at, Found, any-tab-find, any-tab-has}
 
 -- ---- a search in a list
 
 module _ (f : ℕ → Bool) where
-  any-at : (l : List ℕ) (i : ℕ) → any f l ≡ false → i < length l → f (getD l i 0) ≡ false
-  unfolding any
-  any-at [] i e h = let z : ⊥ = omega arith in absurd z
-  any-at (x ∷ l) zero e h = none-head (f x) (any f l) e
-  any-at (x ∷ l) (suc i) e h = any-at l i (none-tail (f x) (any f l) e) (omega arith)
-
   any-remove-none : (i : ℕ) (l : List ℕ) → any f l ≡ false → any f (remove i l) ≡ false
   unfolding any remove
   any-remove-none i [] e = e
@@ -195,39 +111,7 @@ module _ (P : ℕ → Pt) (left : List ℕ) (x : ℕ) where
 
 -- ---- at the start
 
-record Found (g : ℕ → Bool) (f : ℕ → ℕ) (k i : ℕ) : Type 0 where
-  at : ℕ
-  low : i ≤ at
-  high : at < i + k
-  yes : g (f at) ≡ true
-
-module _ (g : ℕ → Bool) (f : ℕ → ℕ) where
-  any-tab-find : (k i : ℕ) → any g (tab f k i) ≡ true → Found g f k i
-  unfolding any tab
-  any-tab-find zero i e = let z : _≡_ {A = ℕ} 0 1 = cc in let w : ⊥ = omega arith in absurd w
-  any-tab-find (suc k) i e = go (g (f i)) refl e (any-tab-find k (suc i))
-    where
-      go : (q : Bool) → g (f i) ≡ q → pick q true (any g (tab f k (suc i))) ≡ true → (any g (tab f k (suc i)) ≡ true → Found g f k (suc i)) → Found g f (suc k) i
-      go true p w r = record { at = i; low = omega arith; high = omega arith; yes = p }
-      go false p w r =
-          let d = r w in
-          let l : suc i ≤ d .at = d .low in
-          let h : d .at < suc i + k = d .high in
-          record { at = d .at; low = omega arith; high = omega arith; yes = d .yes }
-
-  any-tab-has : (k i j : ℕ) → i ≤ j → j < i + k → g (f j) ≡ true → any g (tab f k i) ≡ true
-  unfolding any tab
-  any-tab-has zero i j l h e = let z : ⊥ = omega arith in absurd z
-  any-tab-has (suc k) i j l h e =
-      ⊎-elim (λ (w : i ≡ j). ap (λ (b : Bool). pick b true (any g (tab f k (suc i)))) (ap (λ (m : ℕ). g (f m)) w ∙ e))
-      (λ (w : i < j). ap (λ (b : Bool). pick (g (f i)) true b) (any-tab-has k (suc i) j w (omega arith) e) ∙ or-yes (g (f i)))
-      (eq-or-lt-of-le l)
-    where
-      or-yes : (b : Bool) → pick b true true ≡ true
-      or-yes true = refl
-      or-yes false = refl
-
-place-in : (rev : Bool) (n j : ℕ) → j < n → place rev n j < n
+pub place-in : (rev : Bool) (n j : ℕ) → j < n → place rev n j < n
 unfolding place
 place-in true n j h = omega arith
 place-in false n j h = omega arith

@@ -9,16 +9,10 @@ use native.Mathlib.Omega.{arith}
 use borrow.Author.Tests.{le-ltb, lt-ltb}
 use lib.Dec.{ltb}
 use lib.ListN.{length, getD, take, drop, set, length-drop}
-use lib.Seq.{drop-cons, sets, sets-eq, take-at}
+use lib.Seq.{drop-cons, sets}
 use Rattle.lists.specs.Loops.{pick}
+use Rattle.lists.proofs.Tests.{and-no}
 use Rattle.polygon.specs.Ears.{Pt, Tri, triple, flat, turn, remove, fan, fanFrom, clip, goes, firstEar, corner}
-use Rattle.lists.proofs.Loops.{and-no}
-
--- ---- a list whose front is filled
-
-pub take-sets : (l vs : List ℕ) (n : ℕ) → length vs ≡ n → n ≤ length l → take n (sets l 0 vs) ≡ vs
-take-sets l vs n e h =
-    ap (λ (r : List ℕ). take n r) (sets-eq vs l 0 (omega arith)) ∙ take-at vs (drop (0 + length vs) l) n e
 
 -- ---- a removal by shifting: f elements from i on take their next one's value
 

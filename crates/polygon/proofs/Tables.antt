@@ -1,49 +1,15 @@
 -- The tables of the working slice: what a store in one of them leaves of the others, and what each holds after it.
 use mathlib.Core.Path.{_≡_, refl, sym, ap, _∙_, subst}
-use mathlib.Core.List.{List, [], _∷_, _++_, append-nil}
+use mathlib.Core.List.{List, [], _∷_}
 use Prim.Native.Nat.{ℕ, suc, _+_, _-_, _*_, _≤_, _<_}
-use native.Mathlib.Nat.{add-suc, min-le-left}
+use native.Mathlib.Nat.{min-le-left}
 use native.Mathlib.Omega.{arith}
 use borrow.Author.Tests.{eq-eqb, ne-eqb}
-use lib.ListN.{length, getD, take, drop, set, length-drop, length-take, drop-of-length-le}
-use lib.Seq.{sets, length-take-le, take-set-le, take-set-lt, drop-set-lt, drop-set-add, take-at, drop-at, drop-drop, getD-take, getD-drop, drop-append-add}
-use borrow.Rule.Slice.PartMut.{putMid}
+use lib.ListN.{length, getD, take, drop, set, length-drop, length-take}
+use lib.Seq.{sets, length-take-le, take-set-le, take-set-lt, drop-set-lt, drop-set-add, getD-take, getD-drop}
+use Rattle.lists.proofs.Stores.{take-sets-le, sets-drop}
 use Rattle.polygon.specs.Ears.{Pt}
 use Rattle.polygon.specs.Memo.{entry, Sound, flags, kept, Searched}
-
--- ---- stores behind the front k of a list
-
-module _ {A : Type 0} (k : ℕ) where
-  pub sets-take : (l vs : List A) (i : ℕ) → take k (sets l (k + i) vs) ≡ take k l
-  sets-take l [] i = refl
-  sets-take l (v ∷ vs) i =
-      ap (λ (j : ℕ). take k (sets (set l (k + i) v) j vs)) (sym (add-suc k i)) ∙ sets-take (set l (k + i) v) vs (suc i) ∙ take-set-le k l (k + i) v (omega arith)
-
-  pub sets-drop : (l vs : List A) (i : ℕ) → drop k (sets l (k + i) vs) ≡ sets (drop k l) i vs
-  sets-drop l [] i = refl
-  sets-drop l (v ∷ vs) i =
-      ap (λ (j : ℕ). drop k (sets (set l (k + i) v) j vs)) (sym (add-suc k i)) ∙ sets-drop (set l (k + i) v) vs (suc i) ∙ ap (λ (r : List A). sets r (suc i) vs) (drop-set-add k l i v)
-
--- ---- a part that was lent and filled
-
--- `last` in place of what is behind the front k, in the words of the rule for `&mut w[k..]`
-module _ (w last : List ℕ) (k : ℕ) (h : k ≤ length w) where
-  pub tail-take : take k (putMid k (length w - k) w last) ≡ take k w
-  tail-take = take-at (take k w) (last ++ drop (length w - k) (drop k w)) k (length-take-le k w h)
-
-  pub tail-drop : drop k (putMid k (length w - k) w last) ≡ last
-  tail-drop =
-      let l : length (drop k w) ≡ length w - k = length-drop k w in
-      drop-at (take k w) (last ++ drop (length w - k) (drop k w)) k (length-take-le k w h)
-      ∙ ap (λ (r : List ℕ). last ++ r) (let z : length (drop k w) ≤ length w - k = omega arith in drop-of-length-le (drop k w) z)
-      ∙ append-nil last
-
--- `last` in place of the front m, behind which nothing changes
-pub front-drop : (w last : List ℕ) (m k : ℕ) → length last ≡ m → m ≤ k → drop k (last ++ drop m w) ≡ drop k w
-front-drop w last m k e h =
-    let q : length last + (k - m) ≡ k = omega arith in
-    let r : m + (k - m) ≡ k = omega arith in
-    ap (λ (j : ℕ). drop j (last ++ drop m w)) (sym q) ∙ drop-append-add last (drop m w) (k - m) ∙ drop-drop (k - m) m w ∙ ap (λ (j : ℕ). drop j w) r
 
 -- ---- the tables
 
@@ -109,11 +75,11 @@ module _ (n : ℕ) (w : List ℕ) where
   -- a store in what is kept
   module _ (vs w′ : List ℕ) (i : ℕ) (e : w′ ≡ sets w (n + (n + i)) vs) where
     kept-order : take n w′ ≡ take n w
-    kept-order = ap (take n) e ∙ sets-take n w vs (n + i)
+    kept-order = ap (take n) e ∙ take-sets-le vs w (n + (n + i)) n (omega arith)
 
     kept-flags : flags n w′ ≡ flags n w
     unfolding flags
-    kept-flags = ap (λ (l : List ℕ). take n (drop n l)) e ∙ ap (take n) (sets-drop n w vs (n + i)) ∙ sets-take n (drop n w) vs i
+    kept-flags = ap (λ (l : List ℕ). take n (drop n l)) e ∙ ap (take n) (sets-drop n w vs (n + i)) ∙ take-sets-le vs (drop n w) (n + i) n (omega arith)
 
     kept-set : kept n w′ ≡ sets (kept n w) i vs
     unfolding kept

@@ -1,13 +1,11 @@
 -- From what the code leaves in a slice to the definition on a list of points.
-use mathlib.Core.Path.{_≡_, refl, sym, ap, _∙_, fun-ext}
+use mathlib.Core.Path.{_≡_, refl, ap, _∙_, fun-ext}
 use mathlib.Core.Bool.{Bool, false}
-use mathlib.Core.List.{List, [], _∷_, _++_, map, append-nil}
-use Prim.Native.Nat.{ℕ, zero, suc, _+_, _-_, _*_, _≤_}
-use native.Mathlib.Nat.{zero-add, suc-add, add-zero}
+use mathlib.Core.List.{List, [], _∷_, map}
+use Prim.Native.Nat.{ℕ, zero, suc, _+_, _-_, _*_}
 use native.Mathlib.Omega.{arith}
-use lib.ListN.{length, getD, take, drop, set, length-drop, drop-of-length-le, take-append-drop}
-use lib.Seq.{sets, take-all, length-take-le}
-use borrow.Rule.Slice.PartMut.{putMid, midOf}
+use lib.ListN.{length, getD, take}
+use lib.Seq.{sets}
 use lib.Ieee.{Float, nan}
 use Rattle.polygon.specs.Ears.{Pt, Tri, flat, turn, clip, order, isReversed, earClip, earClipBy}
 use Rattle.polygon.specs.Memo.{xy}
@@ -58,27 +56,3 @@ pub map-same : (ts : List Tri) → map (turn false) ts ≡ ts
 unfolding turn
 map-same [] = refl
 map-same (t ∷ ts) = ap (λ (r : List Tri). t ∷ r) (map-same ts)
-
--- ---- a part of a slice
-
-sets-cons : {A : Type 0} (x : A) (l vs : List A) (i : ℕ) → sets (x ∷ l) (suc i) vs ≡ x ∷ sets l i vs
-sets-cons x l [] i = refl
-sets-cons x l (v ∷ vs) i = sets-cons x (set l i v) vs (suc i)
-
--- stores behind the front of a list
-pub sets-behind : {A : Type 0} (front l vs : List A) (i : ℕ) → sets (front ++ l) (length front + i) vs ≡ front ++ sets l i vs
-sets-behind [] l vs i = ap (λ (k : ℕ). sets l k vs) (zero-add i)
-sets-behind (x ∷ front) l vs i =
-    ap (λ (k : ℕ). sets (x ∷ front ++ l) k vs) (suc-add (length front) i) ∙ sets-cons x (front ++ l) vs (length front + i) ∙ ap (λ (r : List _). x ∷ r) (sets-behind front l vs i)
-
--- stores in the part from `at` on, which leave `last` there: in the words of the rule for `&mut out[at..]`
-pub tail-sets : (vs o last : List ℕ) (at : ℕ) → at ≤ length o → last ≡ sets (midOf at (length o - at) o) 0 vs → putMid at (length o - at) o last ≡ sets o at vs
-tail-sets vs o last at h w =
-    let l : length (drop at o) ≡ length o - at = length-drop at o in
-    let z : length (drop at o) ≤ length o - at = omega arith in
-    let f : length (take at o) ≡ at = length-take-le at o h in
-    ap (λ (r : List ℕ). take at o ++ (last ++ r)) (drop-of-length-le (drop at o) z)
-    ∙ ap (λ (r : List ℕ). take at o ++ r) (append-nil last ∙ w ∙ ap (λ (r : List ℕ). sets r 0 vs) (take-all (length o - at) (drop at o) z))
-    ∙ sym (sets-behind (take at o) (drop at o) vs 0)
-    ∙ ap (λ (r : List ℕ). sets r (length (take at o) + 0) vs) (take-append-drop at o)
-    ∙ ap (λ (k : ℕ). sets o k vs) (add-zero (length (take at o)) ∙ f)

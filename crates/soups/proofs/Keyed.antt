@@ -2,9 +2,9 @@
 use mathlib.Core.Path.{_≡_, refl, sym, ap, ap₂, _∙_, subst}
 use mathlib.Core.Bool.{Bool, true, false, cond}
 use mathlib.Core.Logic.{_⊎_, inl, inr, ⊎-elim}
-use mathlib.Core.List.{List, [], _∷_, _++_, map}
-use Prim.Native.Nat.{ℕ, zero, suc, _+_, _*_, _-_, _≤_, _<_}
-use native.Mathlib.Nat.{add-zero, add-suc, suc-add, zero-add}
+use mathlib.Core.List.{List, [], _++_, map}
+use Prim.Native.Nat.{ℕ, suc, _+_, _-_, _≤_, _<_}
+use native.Mathlib.Nat.{add-zero, zero-add}
 use native.Mathlib.Omega.{arith}
 use lib.ListN.{length, getD, take, drop, length-map}
 use lib.Seq.{ext-getD, getD-take, getD-drop}
@@ -13,10 +13,9 @@ use Rattle.bits.specs.declared.Words2.{Words2}
 use Rattle.bits.specs.declared.Words3.{Words3}
 use Rattle.bits.specs.declared.Words4.{Words4}
 use Rattle.math.specs.Vector.{zeroF}
-use Rattle.block.specs.declared.crease.CreaseRule.{CreaseRule}
 use Rattle.block.specs.Stream.{get3At, get4At}
 use Rattle.lists.specs.Loops.{tab}
-use Rattle.lists.proofs.Tabs.{length-tab, getD-tab, tab-add}
+use Rattle.lists.proofs.Tabs.{length-tab, getD-tab}
 use Rattle.lists.specs.Lists.{joinN}
 use Rattle.mesh.specs.Words.{words2, words3, words4, no2, no3, no4, bits}
 use Rattle.mesh.specs.Soup.{Corner, noCorner, Face, Frame}
@@ -26,48 +25,17 @@ use Rattle.lists.proofs.Lists.{getD-map-lt}
 use Rattle.mesh.proofs.Corners.{length-keys, getD-keys}
 use Rattle.tables.specs.declared.layout.Plan.{Plan}
 use Rattle.lists.specs.Parts.{seg}
-use Rattle.tables.specs.Soups.{pointIn, placeIn, ownerIn, numberIn, startIn, Holds, Spread}
+use Rattle.lists.proofs.Pieces.{join-tab}
+use Rattle.tables.specs.Soups.{pointIn, placeIn, ownerIn, startIn, Holds}
 use Rattle.tables.specs.Listed.{Use, Listing, noUse, noListing, facesWith, usesAt, Listed}
-use Rattle.tables.proofs.Stays.{start-le, rise}
 use Rattle.tables.proofs.Held.{faces-held, start-held}
-use Rattle.tables.proofs.Listings.{listed-sound, listed-long, listed-corner}
+use Rattle.tables.proofs.Listings.{listed-long, listed-corner}
 use Rattle.vertices.specs.declared.places.Widths.{Widths}
 use Rattle.vertices.specs.Search.{two, three, four, cornerKey}
-use Rattle.normals.specs.Written.{Generated}
-use Rattle.normals.proofs.Joined.{corner-written}
 use Rattle.corners.specs.declared.attributes.Attributes.{Attributes}
-use Rattle.corners.specs.declared.laid.CornerTables.{CornerTables}
 use Rattle.corners.specs.Laid.{tablesAt, tablesOf}
 use Rattle.corners.specs.Corner.{Lent, pointAt, placeAt, numberAt, textureAt, generatedAt, normalAt, colourAt, wordsAt, keyIn}
-use Rattle.soups.specs.Keyed.{Reads, Textured, Textures}
-
--- pieces that are the parts of one table
-join-tab : {A B : Type 0} (g : ℕ → A → List B) (k : ℕ → B) (start : ℕ → ℕ) (d : A) (n : ℕ) (l : List A)
-    → ((j : ℕ) → j < length l → start (n + j) ≤ start (suc (n + j)))
-    → ((j : ℕ) → j < length l → g (n + j) (getD l j d) ≡ tab k (start (suc (n + j)) - start (n + j)) (start (n + j)))
-    → (start n ≤ start (n + length l)) × (joinN g n l ≡ tab k (start (n + length l) - start n) (start n))
-unfolding joinN tab
-join-tab {A} {B} g k start d n [] rises same =
-    let e : start (n + 0) ≡ start n = ap start (add-zero n) in
-    let z : start (n + 0) - start n ≡ 0 = omega arith in
-    (omega arith, rw z refl)
-join-tab {A} {B} g k start d n (x ∷ l) rises same =
-    let up : (j : ℕ) → suc n + j ≡ n + suc j = λ j. suc-add n j ∙ sym (add-suc n j) in
-    let r = join-tab g k start d (suc n) l
-    (λ j b. subst (λ (m : ℕ). start m ≤ start (suc m)) (sym (up j)) (rises (suc j) (omega arith)))
-    (λ j b. subst (λ (m : ℕ). g m (getD l j d) ≡ tab k (start (suc m) - start m) (start m)) (sym (up j)) (same (suc j) (omega arith))) in
-    let e : n + 0 ≡ n = add-zero n in
-    let p : start n ≤ start (suc n) = subst (λ (m : ℕ). start m ≤ start (suc m)) e (rises 0 (omega arith)) in
-    let q : g n x ≡ tab k (start (suc n) - start n) (start n) = subst (λ (m : ℕ). g m x ≡ tab k (start (suc m) - start m) (start m)) e (same 0 (omega arith)) in
-    let u : suc n + length l ≡ n + suc (length l) = up (length l) in
-    let v : start (suc n) ≤ start (n + suc (length l)) = subst (λ (m : ℕ). start (suc n) ≤ start m) u (r .0) in
-    let w : joinN g (suc n) l ≡ tab k (start (n + suc (length l)) - start (suc n)) (start (suc n)) = subst (λ (m : ℕ). joinN g (suc n) l ≡ tab k (start m - start (suc n)) (start (suc n))) u (r .1) in
-    let s : start n + (start (suc n) - start n) ≡ start (suc n) = omega arith in
-    let z : start (suc n) - start n + (start (n + suc (length l)) - start (suc n)) ≡ start (n + suc (length l)) - start n = omega arith in (
-      omega arith,
-      (λ i. q i ++ w i) ∙ ap (λ (m : ℕ). tab k (start (suc n) - start n) (start n) ++ tab k (start (n + suc (length l)) - start (suc n)) m) (sym s)
-          ∙ sym (tab-add k (start (suc n) - start n) (start (n + suc (length l)) - start (suc n)) (start n)) ∙ ap (λ (m : ℕ). tab k m (start n)) z,
-    )
+use Rattle.soups.specs.Keyed.{Reads, Textures}
 
 -- a soup that the tables hold, and a key for each corner
 module _ {w : List ℕ} {t : Plan} {F : Frame} {fs : List Face} (H : Holds w t F fs) (k : ℕ → Key)

@@ -1,9 +1,9 @@
 -- FORMAT 6.2, 8: the kept faces as they are listed: each face's number and its corners' points and places; and what it means that the tables hold them.
 use mathlib.Core.Path.{_≡_}
-use mathlib.Core.Logic.{_⊎_}
 use mathlib.Core.List.{List, [], map}
-use Prim.Native.Nat.{ℕ, suc, _+_, _≤_, _<_}
+use Prim.Native.Nat.{ℕ, suc, _+_, _<_}
 use lib.ListN.{length, getD}
+use Rattle.lists.specs.Parts.{Out}
 use Rattle.mesh.specs.Soup.{Corner, Face}
 use Rattle.tables.specs.declared.layout.Plan.{Plan}
 use Rattle.tables.specs.Layout.{Room}
@@ -33,10 +33,6 @@ facesWith corner ls = map (λ (l : Listing). map (corner (l .number)) (l .uses))
 -- the uses of kept face j
 abbrev pub usesAt : List Listing → ℕ → List Use
 usesAt ls j = getD ls j noListing .uses
-
--- the place i is not among the n from a
-abbrev pub Out : ℕ → ℕ → ℕ → Type 0
-Out a n i = (i < a) ⊎ (a + n ≤ i)
 
 -- FORMAT 4, 8: w′ has the words of w outside the tables that list faces: of the corners' points, the first corners, the places and the faces' numbers
 pub record Beside (t : Plan) (w w′ : List ℕ) : Type 0 where

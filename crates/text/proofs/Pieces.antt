@@ -1,15 +1,16 @@
 -- Texts put one after the other, and a loop of texts.
-use Prim.Native.Nat.{ℕ, suc, _+_, _-_, _*_, _≤_, _<_}
+use Prim.Native.Nat.{ℕ, _+_, _-_, _*_, _≤_, _<_}
 use mathlib.Core.Path.{_≡_, refl, sym, ap, _∙_, subst}
-use mathlib.Core.List.{List, [], _∷_, _++_}
+use mathlib.Core.List.{List, [], _++_}
 use native.Mathlib.Omega.{arith}
 use native.Mathlib.Nat.{add-zero, zero-add, sub-zero}
-use native.Mathlib.Numerals.{add-one}
 use lib.ListN.{length, drop, length-append}
 use lib.Seq.{sets, sets-eq}
 use Rattle.lists.specs.Loops.{tab}
 use Rattle.lists.specs.Lists.{flat}
-use Rattle.lists.proofs.Lists.{sets-append}
+use Rattle.lists.proofs.Stores.{sets-append}
+use Rattle.lists.proofs.Pieces.{flat-go, flat-end}
+use Rattle.lists.proofs.Putting.{Split, stores, Left, left-all, left-next, left-end}
 use Rattle.text.specs.Wrote.{Wrote, Printed}
 
 -- one text after another
@@ -36,61 +37,28 @@ looser k h x = record { bytes = x .bytes; next = x .next; near = let p = x .near
 -- ---- a loop: i of n texts are put
 
 pub record Going (f : ℕ → List ℕ) (k n : ℕ) (l₀ : List ℕ) (at : ℕ) (l : List ℕ) (p i : ℕ) : Type 0 where
-  pub bytes : sets l p (flat (tab f (n - i) i)) ≡ sets l₀ at (flat (tab f n 0))
-  pub next : p + length (flat (tab f (n - i) i)) ≡ at + length (flat (tab f n 0))
+  pub left : Left sets (flat (tab f n 0)) at l₀ (flat (tab f (n - i) i)) p l
   pub near : p ≤ at + k * i
   pub most : i ≤ n
-  pub kept : length l ≡ length l₀
-
-texts-go : (f : ℕ → List ℕ) (n i : ℕ) → i < n → flat (tab f (n - i) i) ≡ f i ++ flat (tab f (n - (i + 1)) (i + 1))
-unfolding tab flat
-texts-go f n i h =
-    let e : n - i ≡ suc (n - (i + 1)) = omega arith in
-    ap (λ (k : ℕ). flat (tab f k i)) e ∙ ap (λ (j : ℕ). f i ++ flat (tab f (n - (i + 1)) j)) (sym (add-one i))
-
-texts-end : (f : ℕ → List ℕ) (n i : ℕ) → n ≤ i → flat (tab f (n - i) i) ≡ []
-unfolding tab flat
-texts-end f n i h = let e : n - i ≡ 0 = omega arith in ap (λ (k : ℕ). flat (tab f k i)) e
 
 pub going-start : (f : ℕ → List ℕ) (k n : ℕ) (l : List ℕ) (at : ℕ) → Going f k n l at l at 0
-going-start f k n l at =
-    record { bytes = rw sub-zero; next = rw sub-zero; near = omega arith; most = omega arith; kept = refl }
+going-start f k n l at = record { left = rw sub-zero (left-all sets); near = omega arith; most = omega arith }
 
-pub going-step : {f : ℕ → List ℕ} {k n : ℕ} {l₀ l m : List ℕ} {at p r i : ℕ} → Going f k n l₀ at l p i → i < n → length m ≡ length l
-    → Wrote l p (f i) k m r → Going f k n l₀ at m r (i + 1)
-going-step {f} {k} {n} {l₀} {l} {m} {at} {p} {r} {i} g h e w =
-    let rest = flat (tab f (n - (i + 1)) (i + 1)) in
-    let go : flat (tab f (n - i) i) ≡ f i ++ rest = texts-go f n i h in
-    let b : p + length (flat (tab f (n - i) i)) ≡ at + length (flat (tab f n 0)) = g .next in
-    let b2 : length (flat (tab f (n - i) i)) ≡ length (f i ++ rest) = ap length go in
-    let b3 : length (f i ++ rest) ≡ length (f i) + length rest = length-append (f i) rest in
-    let b4 : r ≡ p + length (f i) = w .next in
-    let b5 : r ≤ p + k = w .near in
-    let b6 : p ≤ at + k * i = g .near in
-    let b7 : k * (i + 1) ≡ k * i + k = omega arith in
+pub going-step : {f : ℕ → List ℕ} {k n : ℕ} {l₀ l m : List ℕ} {at p r i : ℕ} → Going f k n l₀ at l p i → i < n → Wrote l p (f i) k m r → Going f k n l₀ at m r (i + 1)
+going-step {f} {k} {n} {i = i} g h w =
+    let b : k * (i + 1) ≡ k * i + k = omega arith in
+    let S : Split (flat (tab f (n - i) i)) (f i) (flat (tab f (n - (i + 1)) (i + 1))) = record { is = flat-go f n i h } in
     record {
-      bytes =
-          ap (λ (q : List ℕ). sets q r rest) (w .bytes) ∙ ap (λ (q : ℕ). sets (sets l p (f i)) q rest) (w .next)
-          ∙ sym (sets-append (f i) rest l p)
-          ∙ ap (λ (q : List ℕ). sets l p q) (sym go)
-          ∙ g .bytes;
-      next = omega arith;
-      near = omega arith;
+      left = left-next (g .left) S stores (record { next = w .next; made = w .bytes });
+      near = omega (arith, w .near, g .near);
       most = omega arith;
-      kept = e ∙ g .kept;
     }
 
 pub going-end : {f : ℕ → List ℕ} {k n : ℕ} {l₀ l : List ℕ} {at p i : ℕ} → Going f k n l₀ at l p i → n ≤ i → Wrote l₀ at (flat (tab f n 0)) (k * n) l p
-going-end {f} {k} {n} {l₀} {l} {at} {p} {i} g h =
-    let z : flat (tab f (n - i) i) ≡ [] = texts-end f n i h in
+going-end {f} {k} {n} {at = at} {p = p} {i = i} g h =
+    let A = left-end (g .left) stores (flat-end f n i h) in
     let e : i ≡ n = (let q : i ≤ n = g .most in omega arith) in
-    let a : p + length (flat (tab f (n - i) i)) ≡ at + length (flat (tab f n 0)) = g .next in
-    let b : length (flat (tab f (n - i) i)) ≡ 0 = ap length z in
-    record {
-      bytes = sym (ap (λ (q : List ℕ). sets l p q) z) ∙ g .bytes;
-      next = omega arith;
-      near = subst (λ (q : ℕ). p ≤ at + k * q) e (g .near);
-    }
+    record { bytes = A .made; next = A .next; near = subst (λ (q : ℕ). p ≤ at + k * q) e (g .near) }
 
 -- ---- a whole text
 

@@ -1,13 +1,13 @@
 -- FORMAT 14: the most bytes that an answer's text has.
-use Prim.Native.Nat.{ℕ, zero, suc, _+_, _*_, _/_, _^_, _≤_, _<_}
-use mathlib.Core.Path.{sym, _∙_}
+use Prim.Native.Nat.{ℕ, suc, _+_, _*_, _/_, _^_, _≤_, _<_}
 use mathlib.Core.Bool.{Bool, true, false}
 use mathlib.Core.List.{List, [], _∷_, _++_}
-use native.Mathlib.Nat.{add-zero, add-suc, suc-add, zero-add, mul-suc, le-trans, mul-le-mul-left}
+use native.Mathlib.Nat.{zero-add, le-trans, mul-le-mul-left}
 use native.Mathlib.Omega.{arith}
 use lib.ListN.{length, getD, length-append}
 use Rattle.lists.specs.Loops.{tab}
 use Rattle.lists.specs.Lists.{flat}
+use Rattle.lists.proofs.Pieces.{flat-most}
 use Rattle.mesh.specs.Mesh.{Slices}
 use Rattle.text.specs.declared.answer.Head.{Head}
 use Rattle.text.specs.declared.lines.Parts.{Parts}
@@ -21,16 +21,6 @@ use Rattle.text.proofs.ReadBack.{digits-most, digits-short}
 
 join-most : (x y : List ℕ) {j k : ℕ} → length x ≤ j → length y ≤ k → length (x ++ y) ≤ j + k
 join-most x y {j} {k} p q = omega (arith, length-append x y, p, q)
-
-texts-most : (f : ℕ → List ℕ) (k n i : ℕ) → ((j : ℕ) → j < n → length (f (i + j)) ≤ k) → length (flat (tab f n i)) ≤ k * n
-unfolding tab flat
-texts-most f k zero i h = omega arith
-texts-most f k (suc n) i h =
-    let a : length (f i) ≤ k = rw add-zero at (h 0 (omega arith)) in
-    let b : length (flat (tab f n (suc i))) ≤ k * n =
-    texts-most f k n (suc i) (λ j l. rw (add-suc i j ∙ sym (suc-add i j)) at (h (suc j) (omega arith))) in
-    let c : length (f i ++ flat (tab f n (suc i))) ≤ k + k * n = join-most (f i) (flat (tab f n (suc i))) a b in
-    omega (arith, mul-suc k n, c)
 
 word-most : (n : ℕ) → length (wordField n) ≤ 9
 unfolding wordField hexadecimal
@@ -47,12 +37,12 @@ number-any n = omega (arith, digits-most true 10 10 n)
 
 words-most : (l : List ℕ) (a m : ℕ) → length (fields wordField l a m) ≤ 9 * m
 unfolding fields
-words-most l a m = texts-most (λ (j : ℕ). wordField (getD l (a + j) 0)) 9 m 0 (λ j _. word-most (getD l (a + (0 + j)) 0))
+words-most l a m = flat-most (λ (j : ℕ). wordField (getD l (a + j) 0)) 9 m 0 (λ j _. word-most (getD l (a + (0 + j)) 0))
 
 -- m numbers, each of at most w bytes with its space
 numbers-most : (w : ℕ) (l : List ℕ) (a m : ℕ) → ((j : ℕ) → j < m → length (numberField (getD l (a + j) 0)) ≤ w) → length (fields numberField l a m) ≤ w * m
 unfolding fields
-numbers-most w l a m h = texts-most (λ (j : ℕ). numberField (getD l (a + j) 0)) w m 0 (λ j b. rw zero-add (h j b))
+numbers-most w l a m h = flat-most (λ (j : ℕ). numberField (getD l (a + j) 0)) w m 0 (λ j b. rw zero-add (h j b))
 
 attribute-most : (made : Bool) (c : ℕ) (l : List ℕ) (a m : ℕ) → length (attribute made c l a m) ≤ 2 + 9 * m
 unfolding attribute
@@ -94,13 +84,13 @@ elements-most : (w : ℕ) (lines : Bool) (n : ℕ) (l : List ℕ) → n ≤ 768 
 unfolding elementLines
 elements-most w true n l b h =
     le-trans
-    (texts-most (elementLine 108 2 l) (2 + w * 2) (n / 2) 0 (λ i q. element-most w 108 2 l (0 + i) (λ j r. h (2 * (0 + i) + j) (omega arith))))
+    (flat-most (elementLine 108 2 l) (2 + w * 2) (n / 2) 0 (λ i q. element-most w 108 2 l (0 + i) (λ j r. h (2 * (0 + i) + j) (omega arith))))
     (mul-le-mul-left (2 + w * 2) (omega arith))
 elements-most w false n l b h =
     let few : (2 + w * 3) * (n / 3) ≤ (2 + w * 3) * 256 = mul-le-mul-left (2 + w * 3) (omega arith) in
     let all : (2 + w * 3) * 256 ≤ (2 + w * 2) * 384 = omega arith in
     le-trans
-    (texts-most (elementLine 116 3 l) (2 + w * 3) (n / 3) 0 (λ i q. element-most w 116 3 l (0 + i) (λ j r. h (3 * (0 + i) + j) (omega arith))))
+    (flat-most (elementLine 116 3 l) (2 + w * 3) (n / 3) 0 (λ i q. element-most w 116 3 l (0 + i) (λ j r. h (3 * (0 + i) + j) (omega arith))))
     (le-trans few all)
 
 flag-most : (b : Bool) → length (numberField (oneIf b)) ≤ 2
@@ -131,7 +121,7 @@ module _ (head : Head) (parts : Parts) (S : Slices) (fewVertices : head .vertice
       let line = vertexLine parts (S .sources) (S .positions) (S .normals) (S .colours) (S .textures) in
       let lines = flat (tab line (head .vertices) 0) in
       let a : length lines ≤ (w + 116) * head .vertices =
-      texts-most line (w + 116) (head .vertices) 0
+      flat-most line (w + 116) (head .vertices) 0
       (λ j l. vertex-most parts (S .sources) (S .positions) (S .normals) (S .colours) (S .textures) (0 + j) w (rw zero-add (s j l))) in
       let rest = elementLines (parts .lines) (head .indices) (S .indices) in
       let b : length rest ≤ (2 + w * 2) * 384 = elements-most w (parts .lines) (head .indices) (S .indices) fewIndices x in

@@ -16,7 +16,7 @@ use Rattle.mesh.specs.Texture.{defaultAt}
 use Rattle.mesh.specs.Words.{words2}
 use Rattle.lists.specs.Parts.{seg, spliced, Kept}
 use Rattle.lists.proofs.Keep.{kept-all, kept-then, kept-at, kept-seg, seg-at}
-use Rattle.lists.proofs.Splices.{spliced-above, put-gives}
+use Rattle.lists.proofs.Splices.{put-above, put-gives}
 use Rattle.texture.specs.Corner.{textureIn}
 use Rattle.texture.specs.Textured.{pairAt, Textured, setTexture, Fitted}
 
@@ -50,7 +50,7 @@ textured-more a n f w₀ w w′ v T e r q =
           let same : pairAt w′ (a + 2 * c) ≡ pairAt w (a + 2 * c) = λ i. record { s = x i; t = y i } in
           same ∙ T .at c z)
           (eq-or-lt-of-le (le-of-suc-le-suc (rw add-one at h)));
-      above = rw s (ap (drop (a + 2 * n + 2)) q ∙ spliced-above w (a + 2 * n) (words2 v) b
+      above = rw s (put-above w (a + 2 * n) (words2 v) q refl b
           ∙ sym (drop-drop 2 (a + 2 * n) w) ∙ ap (drop 2) (T .above) ∙ drop-drop 2 (a + 2 * n) w₀);
     }
 

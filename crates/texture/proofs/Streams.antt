@@ -2,7 +2,7 @@
 use mathlib.Core.Path.{_≡_, refl, sym, ap₂}
 use mathlib.Core.Bool.{true, false, cond}
 use mathlib.Core.List.{List}
-use Prim.Native.Nat.{ℕ, _+_, _*_, _≤_, _<_}
+use Prim.Native.Nat.{ℕ, _+_, _*_}
 use lib.ListN.{getD}
 use Rattle.bits.specs.declared.Words2.{Words2}
 use Rattle.bits.specs.declared.Words4.{Words4}

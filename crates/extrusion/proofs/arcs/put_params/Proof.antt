@@ -1,6 +1,6 @@
 use Prim.Native.Nat.{_-_, _<_}
 use Rattle.extrusion.proofs.Lengths.{length-start, length-step, param-is, paramAt, params-all}
-use Rattle.lists.proofs.Pieces.{Pieces, pieces-none, single, single-more}
+use Rattle.lists.proofs.Pieces.{Singles, singles-none, singles-more}
 use Rattle.extrusion.specs.Steps.{stepOf}
 use Rattle.mesh.specs.Arcs.{lengthTo}
 use borrow.Author.Needs.{needs}
@@ -11,7 +11,7 @@ use Rattle.extrusion.proofs.arcs.put_params.Statement.{statement}
 use Rattle.extrusion.proofs.arcs.put_params.Tie as tie
 
 abbrev Inv-loop : tie.InvT-loop
-Inv-loop spine b n floats₀ k t x₀ j₀ floats x j = (j < n) × (x ≡ lengthTo (stepOf spine b n) j) × Pieces (single (paramAt (stepOf spine b n) n)) floats₀ k j floats
+Inv-loop spine b n floats₀ k t x₀ j₀ floats x j = (j < n) × (x ≡ lengthTo (stepOf spine b n) j) × Singles (paramAt (stepOf spine b n) n) n floats₀ k j floats
 
 abbrev μ-loop : tie.MeasureT-loop
 μ-loop spine b n floats₀ k t x₀ j₀ floats x j = n - j
@@ -20,7 +20,7 @@ arc-total-requires : tie.Need-arc-total-requires Inv-loop μ-loop
 arc-total-requires c κs = (c .before .before .pre .0, c .before .before .pre .1, c .before .before .pre .2)
 
 loop-holds : tie.Need-loop-holds Inv-loop μ-loop
-loop-holds c = (omega arith, length-start _, pieces-none _ _ _)
+loop-holds c = (omega arith, length-start _, singles-none)
 
 add-loop : tie.Need-add-loop Inv-loop μ-loop
 add-loop c = search needs
@@ -59,7 +59,7 @@ loop-again c =
     let c8 = c4 .before .before .before .before in (
       omega arith,
       length-step _ _ _ _ _ (c4 .loop .inv .1) (c .before .step-of .ensures) (c .counted .ensures),
-      single-more _ (c8 .args .floats .now) _ (c8 .args .k) (c4 .loop .j) _ (omega arith) (c4 .loop .inv .2) (param-is _ _ _ _ _ _ (c4 .before .arc-total .ensures) (c4 .loop .inv .1) (c2 .share .ensures)),
+      singles-more _ (c8 .pre .3) (c4 .loop .inv .2) (omega arith) (param-is _ _ _ _ _ _ (c4 .before .arc-total .ensures) (c4 .loop .inv .1) (c2 .share .ensures)),
     )
 
 sub-share-2 : tie.Need-sub-share-2 Inv-loop μ-loop
@@ -84,7 +84,7 @@ returns : tie.Need-returns Inv-loop μ-loop
 returns c =
     let c2 = c .before .before in
     let c6 = c2 .before .before .before .before in
-    params-all _ _ _ _ _ _ (single-more _ (c6 .args .floats .now) _ (c6 .args .k) (c2 .loop .j) _ (omega arith) (c2 .loop .inv .2) (param-is _ _ _ _ _ _ (c2 .before .arc-total .ensures) (c2 .loop .inv .1) (c .share2 .ensures))) (omega arith)
+    params-all _ _ _ _ _ _ (singles-more _ (c6 .pre .3) (c2 .loop .inv .2) (c2 .loop .inv .0) (param-is _ _ _ _ _ _ (c2 .before .arc-total .ensures) (c2 .loop .inv .1) (c .share2 .ensures))) (omega arith)
 
 pub put-params-spec : {M : Type 1} → statement M
 put-params-spec =

@@ -1,5 +1,5 @@
-use Prim.Native.Nat.{_-_, _≤_}
-use Rattle.lists.proofs.Pieces.{Pieces, pieces-none, single, single-more, singles-all}
+use Prim.Native.Nat.{_-_}
+use Rattle.lists.proofs.Pieces.{Singles, singles-none, singles-more, singles-all}
 use mathlib.Core.Path.{refl}
 use native.Mathlib.Omega.{arith}
 use borrow.Author.Needs.{needs}
@@ -7,13 +7,13 @@ use Rattle.extrusion.proofs.faces.put_down.Statement.{statement}
 use Rattle.extrusion.proofs.faces.put_down.Tie as tie
 
 abbrev Inv-loop : tie.InvT-loop
-Inv-loop work₀ k cap j₀ work j = (j ≤ cap) × Pieces (single (λ j. cap - 1 - j)) work₀ k j work
+Inv-loop work₀ k cap j₀ work j = Singles (λ j. cap - 1 - j) cap work₀ k j work
 
 abbrev μ-loop : tie.MeasureT-loop
 μ-loop work₀ k cap j₀ work j = cap - j
 
 loop-holds : tie.Need-loop-holds Inv-loop μ-loop
-loop-holds c = (omega arith, pieces-none _ _ _)
+loop-holds c = singles-none
 
 add-put-point-number : tie.Need-add-put-point-number Inv-loop μ-loop
 add-put-point-number c = search needs
@@ -25,7 +25,7 @@ sub-t11 : tie.Need-sub-t11 Inv-loop μ-loop
 sub-t11 c = search needs
 
 put-point-number-requires : tie.Need-put-point-number-requires Inv-loop μ-loop
-put-point-number-requires c κs = (omega (arith, c .before .before .loop .inv .1 .size), omega arith)
+put-point-number-requires c κs = (omega (arith, c .before .before .loop .inv .size), omega arith)
 
 add-j : tie.Need-add-j Inv-loop μ-loop
 add-j c = search needs
@@ -39,13 +39,13 @@ loop-again c =
     let c4 = c2 .before .before in
     let c5 = c4 .before in
     let c7 = c5 .before .before in
-    (omega arith, rw (c2 .put-point-number .ensures) (single-more _ (c7 .args .work .now) _ (c7 .args .k) (c5 .loop .j) _ (omega (arith, c4 .loop-test .taken, c7 .pre .1)) (c5 .loop .inv .1) refl))
+    rw (c2 .put-point-number .ensures) (singles-more _ (c7 .pre .1) (c5 .loop .inv) (c4 .loop-test .taken) refl)
 
 same-length : tie.Need-same-length Inv-loop μ-loop
-same-length c = c .before .loop .inv .1 .size
+same-length c = c .before .loop .inv .size
 
 returns : tie.Need-returns Inv-loop μ-loop
-returns c = singles-all _ _ _ _ _ _ (c .before .loop .inv .1) (omega (arith, c .before .loop .inv .0))
+returns c = singles-all (c .before .loop .inv) (c .loop-test .left)
 
 pub put-down-spec : {M : Type 1} → statement M
 put-down-spec =

@@ -1,6 +1,6 @@
-use Prim.Native.Nat.{_-_, _≤_}
+use Prim.Native.Nat.{_-_}
 use Rattle.lists.proofs.Pieces.{Pieces, pieces-all, pieces-more, pieces-none}
-use Rattle.extrusion.proofs.Sides.{quad-length, quad-room}
+use Rattle.extrusion.proofs.Sides.{quad-length}
 use Rattle.extrusion.specs.Listings.{spot}
 use Rattle.mesh.specs.Quads.{quad}
 use borrow.Author.Needs.{needs}
@@ -10,13 +10,13 @@ use Rattle.extrusion.proofs.faces.put_quad_row.Statement.{statement}
 use Rattle.extrusion.proofs.faces.put_quad_row.Tie as tie
 
 abbrev Inv-loop : tie.InvT-loop
-Inv-loop work₀ k m i j₀ work j = (j ≤ m - 1) × Pieces (quad (spot m) i) work₀ k j work
+Inv-loop work₀ k m i j₀ work j = Pieces (quad (spot m) i) (m - 1) work₀ k j work
 
 abbrev μ-loop : tie.MeasureT-loop
 μ-loop work₀ k m i j₀ work j = m - j
 
 loop-holds : tie.Need-loop-holds Inv-loop μ-loop
-loop-holds c = (omega arith, pieces-none _ _ _)
+loop-holds c = pieces-none
 
 sub-loop : tie.Need-sub-loop Inv-loop μ-loop
 sub-loop c = search needs
@@ -32,7 +32,7 @@ put-quad-requires c κs =
     let c1 = c .before in
     let c2 = c1 .before in
     let c4 = c2 .before .before in
-    (omega (arith, c4 .pre .0), omega (arith, quad-room (c4 .args .k) (c4 .args .m - 1) (c2 .loop .j) (c1 .loop-test .taken), c2 .loop .inv .1 .size, c4 .pre .1), omega (arith, c1 .loop-test .taken, c4 .pre .2))
+    (omega (arith, c4 .pre .0), omega (arith, c1 .loop-test .taken, c2 .loop .inv .size, c4 .pre .1), omega (arith, c1 .loop-test .taken, c4 .pre .2))
 
 add-j : tie.Need-add-j Inv-loop μ-loop
 add-j c = search needs
@@ -45,16 +45,13 @@ loop-again c =
     let c2 = c .before .before in
     let c4 = c2 .before .before in
     let c5 = c4 .before in
-    let c7 = c5 .before .before in (
-      omega arith,
-      pieces-more _ 4 (quad-length _ _) (c7 .args .work .now) _ _ _ (c7 .args .k) (c5 .loop .j) _ refl (omega (arith, c4 .loop-test .taken, c7 .pre .1)) (c5 .loop .inv .1) refl (c2 .put-quad .ensures),
-    )
+    pieces-more 4 (quad-length _ _) (c5 .before .before .pre .1) (c5 .loop .inv) (c4 .loop-test .taken) refl refl (c2 .put-quad .ensures)
 
 same-length : tie.Need-same-length Inv-loop μ-loop
-same-length c = c .before .loop .inv .1 .size
+same-length c = c .before .loop .inv .size
 
 returns : tie.Need-returns Inv-loop μ-loop
-returns c = pieces-all _ _ _ _ _ _ (c .before .loop .inv .1) (omega arith)
+returns c = pieces-all (c .before .loop .inv) (c .loop-test .left)
 
 pub put-quad-row-spec : {M : Type 1} → statement M
 put-quad-row-spec =

@@ -1,18 +1,18 @@
 use Prim.Native.Nat.{_-_}
-use Rattle.lists.proofs.Written.{Writing, writing-none, writing-more, writing-end}
+use Rattle.lists.proofs.Pieces.{Singles, singles-none, singles-more, singles-all}
 use borrow.Author.Needs.{needs}
 use native.Mathlib.Omega.{arith}
 use Rattle.extrusion.proofs.listing.put_numbers.Statement.{statement}
 use Rattle.extrusion.proofs.listing.put_numbers.Tie as tie
 
 abbrev Inv-loop : tie.InvT-loop
-Inv-loop work₀ k faces j₀ work j = Writing k faces (λ j. j) work₀ work j
+Inv-loop work₀ k faces j₀ work j = Singles (λ j. j) faces work₀ k j work
 
 abbrev μ-loop : tie.MeasureT-loop
 μ-loop work₀ k faces j₀ work j = faces - j
 
 loop-holds : tie.Need-loop-holds Inv-loop μ-loop
-loop-holds c = writing-none
+loop-holds c = singles-none
 
 narrow-requires : tie.Need-narrow-requires Inv-loop μ-loop
 narrow-requires c κs = search needs
@@ -24,7 +24,7 @@ mul-work : tie.Need-mul-work Inv-loop μ-loop
 mul-work c = search needs
 
 slice-write-work : tie.Need-slice-write-work Inv-loop μ-loop
-slice-write-work c = omega (arith, c .before .before .loop .inv .kept .len)
+slice-write-work c = omega (arith, c .before .before .loop .inv .size)
 
 add-j : tie.Need-add-j Inv-loop μ-loop
 add-j c = search needs
@@ -33,13 +33,13 @@ loop-less : tie.Need-loop-less Inv-loop μ-loop
 loop-less c = search needs
 
 loop-again : tie.Need-loop-again Inv-loop μ-loop
-loop-again c = writing-more _ (c .before .before .before .before .pre .1) (c .before .before .loop .inv) (c .before .loop-test .taken) (c .narrow .ensures)
+loop-again c = singles-more _ (c .before .before .before .before .pre .1) (c .before .before .loop .inv) (c .before .loop-test .taken) (c .narrow .ensures)
 
 same-length : tie.Need-same-length Inv-loop μ-loop
-same-length c = c .before .loop .inv .kept .len
+same-length c = c .before .loop .inv .size
 
 returns : tie.Need-returns Inv-loop μ-loop
-returns c = writing-end (c .before .loop .inv) (c .loop-test .left)
+returns c = singles-all (c .before .loop .inv) (c .loop-test .left)
 
 pub put-numbers-spec : {M : Type 1} → statement M
 put-numbers-spec =

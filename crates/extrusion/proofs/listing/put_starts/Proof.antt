@@ -1,7 +1,7 @@
 use Prim.Native.Nat.{_+_, _-_}
 use Rattle.extrusion.proofs.Counting.{size-most, start-more, start-none, start-rises}
 use Rattle.extrusion.specs.Listings.{startAt}
-use Rattle.lists.proofs.Written.{Writing, writing-none, writing-more, writing-end}
+use Rattle.lists.proofs.Pieces.{Singles, singles-none, singles-more, singles-all}
 use borrow.Author.Needs.{needs}
 use mathlib.Core.Path.{_∙_, _≡_}
 use native.Mathlib.Omega.{arith}
@@ -9,13 +9,13 @@ use Rattle.extrusion.proofs.listing.put_starts.Statement.{statement}
 use Rattle.extrusion.proofs.listing.put_starts.Tie as tie
 
 abbrev Inv-loop : tie.InvT-loop
-Inv-loop work₀ k sides faces cap c₀ j₀ work c j = (c ≡ startAt sides cap j) × Writing k (faces + 1) (startAt sides cap) work₀ work j
+Inv-loop work₀ k sides faces cap c₀ j₀ work c j = (c ≡ startAt sides cap j) × Singles (startAt sides cap) (faces + 1) work₀ k j work
 
 abbrev μ-loop : tie.MeasureT-loop
 μ-loop work₀ k sides faces cap c₀ j₀ work c j = faces + 1 - j
 
 loop-holds : tie.Need-loop-holds Inv-loop μ-loop
-loop-holds c = (start-none _ _, writing-none)
+loop-holds c = (start-none _ _, singles-none)
 
 add-loop : tie.Need-add-loop Inv-loop μ-loop
 add-loop c = search needs
@@ -33,7 +33,7 @@ mul-work : tie.Need-mul-work Inv-loop μ-loop
 mul-work c = search needs
 
 slice-write-work : tie.Need-slice-write-work Inv-loop μ-loop
-slice-write-work c = omega (arith, c .before .before .loop .inv .1 .kept .len)
+slice-write-work c = omega (arith, c .before .before .loop .inv .1 .size)
 
 size-at-requires : tie.Need-size-at-requires Inv-loop μ-loop
 size-at-requires c κs = search needs
@@ -55,14 +55,14 @@ loop-again c =
     let c2 = c .before .before in
     let c3 = c2 .before in (
       start-more _ _ _ _ _ (c3 .loop .inv .0) (c .size-at .ensures),
-      writing-more _ (c3 .before .before .pre .3) (c3 .loop .inv .1) (c2 .loop-test .taken) (c .before .narrow .ensures ∙ c3 .loop .inv .0),
+      singles-more _ (c3 .before .before .pre .3) (c3 .loop .inv .1) (c2 .loop-test .taken) (c .before .narrow .ensures ∙ c3 .loop .inv .0),
     )
 
 same-length : tie.Need-same-length Inv-loop μ-loop
-same-length c = c .before .loop .inv .1 .kept .len
+same-length c = c .before .loop .inv .1 .size
 
 returns : tie.Need-returns Inv-loop μ-loop
-returns c = writing-end (c .before .loop .inv .1) (c .loop-test .left)
+returns c = singles-all (c .before .loop .inv .1) (c .loop-test .left)
 
 pub put-starts-spec : {M : Type 1} → statement M
 put-starts-spec =

@@ -1,23 +1,23 @@
-use Prim.Native.Nat.{_-_, _≤_}
+use Prim.Native.Nat.{_-_}
 use Rattle.lists.proofs.Pieces.{Pieces, pieces-all, pieces-more, pieces-none}
 use Rattle.extrusion.proofs.Walking.{row-is, spot-is, spot-length, spotOf}
 use Rattle.extrusion.specs.Rows.{axesOf}
 use Rattle.mesh.specs.Extrusion.{twos}
 use Rattle.lists.specs.Parts.{spliced}
 use borrow.Author.Needs.{needs}
-use mathlib.Core.Path.{_∙_, _≡_, refl, ap}
+use mathlib.Core.Path.{_∙_, refl, ap}
 use native.Mathlib.Omega.{arith}
 use Rattle.extrusion.proofs.points.put_row.Statement.{statement}
 use Rattle.extrusion.proofs.points.put_row.Tie as tie
 
 abbrev Inv-loop : tie.InvT-loop
-Inv-loop section m o f q sc work₀ k j₀ work j = (j ≤ m) × Pieces (spotOf o (axesOf f) q sc (twos section m)) work₀ k j work
+Inv-loop section m o f q sc work₀ k j₀ work j = Pieces (spotOf o (axesOf f) q sc (twos section m)) m work₀ k j work
 
 abbrev μ-loop : tie.MeasureT-loop
 μ-loop section m o f q sc work₀ k j₀ work j = m - j
 
 loop-holds : tie.Need-loop-holds Inv-loop μ-loop
-loop-holds c = (omega arith, pieces-none _ _ _)
+loop-holds c = pieces-none
 
 pair-at-requires : tie.Need-pair-at-requires Inv-loop μ-loop
 pair-at-requires c κs = search needs
@@ -37,7 +37,7 @@ add-put-point c = search needs
 put-point-requires : tie.Need-put-point-requires Inv-loop μ-loop
 put-point-requires c κs =
     let c4 = c .before .before .before .before in
-    omega (arith, c4 .before .loop .inv .1 .size, c4 .loop-test .taken, c4 .before .before .before .before .pre .1)
+    omega (arith, c4 .before .loop .inv .size, c4 .loop-test .taken, c4 .before .before .before .before .pre .1)
 
 add-j : tie.Need-add-j Inv-loop μ-loop
 add-j c = search needs
@@ -51,20 +51,16 @@ loop-again c =
     let c4 = c2 .before .before in
     let c6 = c4 .before .before in
     let c8 = c6 .before .before in
-    let c11 = c8 .before .before .before in (
-      omega arith,
-      pieces-more _ 3 (spot-length _ _ _ _ _) (c11 .args .work .now) _ _ _ (c11 .args .k) (c8 .loop .j) _ refl (omega (arith, c6 .before .loop-test .taken, c11 .pre .1)) (c8 .loop .inv .1) (spot-is _ _ _ _ _ _ _ _ _ (c6 .pair-at .ensures) (c4 .before .local .ensures) (c4 .placed .ensures)) (c2 .put-point .ensures),
-    )
+    pieces-more 3 (spot-length _ _ _ _ _) (omega (arith, c8 .before .before .before .pre .1)) (c8 .loop .inv) (c6 .before .loop-test .taken) refl
+    (spot-is _ _ _ _ _ _ _ _ _ (c6 .pair-at .ensures) (c4 .before .local .ensures) (c4 .placed .ensures)) (c2 .put-point .ensures)
 
 same-length : tie.Need-same-length Inv-loop μ-loop
-same-length c = c .before .loop .inv .1 .size
+same-length c = c .before .loop .inv .size
 
 returns : tie.Need-returns Inv-loop μ-loop
 returns c =
-    let c1 = c .before in
-    let c4 = c1 .before .before .before in
-    let e : c1 .loop .j ≡ c4 .args .m = omega arith in
-    pieces-all _ _ _ _ _ _ (c1 .loop .inv .1) e ∙ ap (spliced (c4 .args .work .now) (c4 .args .k)) (row-is _ _ _ _ (c4 .args .section .now) (c4 .args .m))
+    let c4 = c .before .before .before .before in
+    pieces-all (c .before .loop .inv) (c .loop-test .left) ∙ ap (spliced (c4 .args .work .now) (c4 .args .k)) (row-is _ _ _ _ (c4 .args .section .now) (c4 .args .m))
 
 pub put-row-spec : {M : Type 1} → statement M
 put-row-spec =

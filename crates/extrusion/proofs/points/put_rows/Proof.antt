@@ -1,18 +1,18 @@
-use Prim.Native.Nat.{_*_, _-_, _<_, _^_, _≤_}
+use Prim.Native.Nat.{_*_, _-_, _<_, _^_}
 use Rattle.lists.proofs.Pieces.{pieces-all}
 use Rattle.extrusion.proofs.Values.{count2}
-use Rattle.extrusion.proofs.Walking.{Walked, row-room, walk-start, walk-step}
+use Rattle.extrusion.proofs.Walking.{Walked, walk-start, walk-step}
 use Rattle.mesh.specs.Extrusion.{threes, turnIn, twos}
 use Rattle.lists.specs.Loops.{tab}
+use Rattle.lists.proofs.Numbers.{piece-room}
 use borrow.Author.Needs.{needs}
 use lib.ListN.{length}
-use mathlib.Core.Path.{_≡_}
 use native.Mathlib.Omega.{arith}
 use Rattle.extrusion.proofs.points.put_rows.Statement.{statement}
 use Rattle.extrusion.proofs.points.put_rows.Tie as tie
 
 abbrev Inv-loop : tie.InvT-loop
-Inv-loop spine n section m scales scale-count turns turn-count work₀ k w first y0 y₀ prev₀ i₀ work y prev i = (i ≤ n) × (length work₀ < 2 ^ 64) × (n < 2 ^ 63) × Walked (threes spine n) (twos section m) (twos scales scale-count) (tab (turnIn turns) turn-count 0) work₀ k i work y prev
+Inv-loop spine n section m scales scale-count turns turn-count work₀ k w first y0 y₀ prev₀ i₀ work y prev i = (length work₀ < 2 ^ 64) × (n < 2 ^ 63) × Walked (threes spine n) (twos section m) (twos scales scale-count) (tab (turnIn turns) turn-count 0) n work₀ k i work y prev
 
 abbrev μ-loop : tie.MeasureT-loop
 μ-loop spine n section m scales scale-count turns turn-count work₀ k w first y0 y₀ prev₀ i₀ work y prev i = n - i
@@ -27,7 +27,7 @@ first-y-requires : tie.Need-first-y-requires Inv-loop μ-loop
 first-y-requires c κs = search needs
 
 loop-holds : tie.Need-loop-holds Inv-loop μ-loop
-loop-holds c = (omega arith, omega arith, omega arith, walk-start _ _ _ _ _ _ _ (c .first-y .ensures))
+loop-holds c = (omega arith, omega arith, walk-start _ _ _ _ _ _ _ _ (c .first-y .ensures))
 
 y-own-requires : tie.Need-y-own-requires Inv-loop μ-loop
 y-own-requires c κs =
@@ -62,24 +62,24 @@ mul-put-row : tie.Need-mul-put-row Inv-loop μ-loop
 mul-put-row c =
     let c9 = c .before .before .before .before .before .before .before .before .before in
     let c18 = c9 .before .before .before .before .before .before .before .before .before in
-    let r = row-room _ _ (3 * c18 .args .m) _ _ (c18 .pre .5) (c9 .loop-test .taken) in omega (arith, r, c9 .before .loop .inv .1)
+    let r = piece-room _ _ (3 * c18 .args .m) _ _ (c18 .pre .5) (c9 .loop-test .taken) in omega (arith, r, c9 .before .loop .inv .0)
 
 add-put-row : tie.Need-add-put-row Inv-loop μ-loop
 add-put-row c =
     let c9 = c .before .before .before .before .before .before .before .before .before in
     let c18 = c9 .before .before .before .before .before .before .before .before .before in
-    let r = row-room _ _ (3 * c18 .args .m) _ _ (c18 .pre .5) (c9 .loop-test .taken) in omega (arith, r, c9 .before .loop .inv .1)
+    let r = piece-room _ _ (3 * c18 .args .m) _ _ (c18 .pre .5) (c9 .loop-test .taken) in omega (arith, r, c9 .before .loop .inv .0)
 
 put-row-requires : tie.Need-put-row-requires Inv-loop μ-loop
 put-row-requires c κs =
     let c9 = c .before .before .before .before .before .before .before .before .before in
     let c18 = c9 .before .before .before .before .before .before .before .before .before in
-    let r = row-room _ _ (3 * c18 .args .m) _ _ (c18 .pre .5) (c9 .loop-test .taken) in (c18 .pre .1, omega (arith, r, c9 .before .loop .inv .3 .rows .size))
+    let r = piece-room _ _ (3 * c18 .args .m) _ _ (c18 .pre .5) (c9 .loop-test .taken) in (c18 .pre .1, omega (arith, r, c9 .before .loop .inv .2 .rows .size))
 
 add-i : tie.Need-add-i Inv-loop μ-loop
 add-i c =
     let c12 = c .before .before .before .before .before .before .before .before .before .before .before .before in
-    omega (arith, c12 .loop-test .taken, c12 .before .loop .inv .2)
+    omega (arith, c12 .loop-test .taken, c12 .before .loop .inv .1)
 
 loop-less : tie.Need-loop-less Inv-loop μ-loop
 loop-less c = omega (arith, c .before .before .before .before .before .before .before .before .before .before .before .before .loop-test .taken)
@@ -95,17 +95,16 @@ loop-again c =
     let c13 = c12 .before in
     let c14 = c13 .before in
     let c21 = c14 .before .before .before .before .before .before .before in (
-      omega (arith, c12 .loop-test .taken),
+      c13 .loop .inv .0,
       c13 .loop .inv .1,
-      c13 .loop .inv .2,
-      walk-step _ _ _ _ _ _ _ _ _ _ _ _ _ _ _ _ _ _ _ _ _ _ (c13 .loop .inv .3) (count2 _ _) (row-room _ _ (3 * c21 .args .m) _ _ (c21 .pre .5) (c12 .loop-test .taken)) (c14 .before .first-z .ensures) (c14 .first-y .ensures) (c10 .before .y-own .ensures) (c10 .or .ensures) (c8 .before .z-own .ensures) (c8 .pick-z .ensures) (c6 .before .axes-by .ensures) (c6 .spine-at .ensures) (c4 .before .turn-at .ensures) (c4 .scale-at .ensures) (c2 .put-row .ensures),
+      walk-step _ _ _ _ _ _ _ _ _ _ _ _ _ _ _ _ _ _ _ _ _ _ _ (c13 .loop .inv .2) (count2 _ _) (c21 .pre .5) (c12 .loop-test .taken) (c14 .before .first-z .ensures) (c14 .first-y .ensures) (c10 .before .y-own .ensures) (c10 .or .ensures) (c8 .before .z-own .ensures) (c8 .pick-z .ensures) (c6 .before .axes-by .ensures) (c6 .spine-at .ensures) (c4 .before .turn-at .ensures) (c4 .scale-at .ensures) (c2 .put-row .ensures),
     )
 
 same-length : tie.Need-same-length Inv-loop μ-loop
-same-length c = c .before .loop .inv .3 .rows .size
+same-length c = c .before .loop .inv .2 .rows .size
 
 returns : tie.Need-returns Inv-loop μ-loop
-returns c = let e : c .before .loop .i ≡ c .before .before .before .before .before .before .before .before .before .args .n = omega (arith, c .before .loop .inv .0, c .loop-test .left) in pieces-all _ _ _ _ _ _ (c .before .loop .inv .3 .rows) e
+returns c = pieces-all (c .before .loop .inv .2 .rows) (c .loop-test .left)
 
 pub put-rows-spec : {M : Type 1} → statement M
 put-rows-spec =

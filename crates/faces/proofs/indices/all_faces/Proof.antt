@@ -42,7 +42,7 @@ same-length-2 : tie.Need-same-length-2 Inv-loop μ-loop
 same-length-2 c = c .before .before .loop .inv .0
 
 same-length-3 : tie.Need-same-length-3 Inv-loop μ-loop
-same-length-3 c = c .before .before .loop .inv .1 .long
+same-length-3 c = c .before .before .loop .inv .1 .left .len
 
 returns : tie.Need-returns Inv-loop μ-loop
 returns c = facing-end _ _ _ _ _ _ _ _ _ _ _ (c .if1 .left) (c .before .before .before .before .before .before .pre .1) (c .before .before .loop .inv .1)

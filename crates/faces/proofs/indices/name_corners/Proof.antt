@@ -4,8 +4,8 @@ use Prim.Native.Nat.{ℕ, _+_, _-_}
 use lib.ListN.{drop}
 use lib.Seq.{sets}
 use Rattle.faces.specs.Naming.{threes, numbered}
-use Rattle.faces.proofs.Pieces.{part-seg}
 use borrow.Author.Needs.{needs}
+use Rattle.lists.proofs.Keep.{part-seg}
 use Rattle.faces.proofs.indices.name_corners.Statement.{statement}
 use Rattle.faces.proofs.indices.name_corners.Tie as tie
 

@@ -1,8 +1,9 @@
 use mathlib.Core.Path.{refl}
 use Prim.Native.Nat.{_+_, _-_, _*_}
 use native.Mathlib.Omega.{arith}
-use Rattle.faces.proofs.Pieces.{part-length, kept-mid, corners-in, corners-put}
+use Rattle.faces.proofs.Pieces.{corners-in, corners-put}
 use borrow.Author.Needs.{needs}
+use Rattle.lists.proofs.Keep.{part-length, kept-mid}
 use Rattle.faces.proofs.indices.put_corners.Statement.{statement}
 use Rattle.faces.proofs.indices.put_corners.Tie as tie
 

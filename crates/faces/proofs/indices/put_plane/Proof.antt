@@ -1,8 +1,9 @@
 use mathlib.Core.Path.{refl}
 use Prim.Native.Nat.{_+_}
 use native.Mathlib.Omega.{arith}
-use Rattle.faces.proofs.Pieces.{part-length, plane-made}
+use Rattle.faces.proofs.Pieces.{plane-made}
 use borrow.Author.Needs.{needs}
+use Rattle.lists.proofs.Keep.{part-length}
 use Rattle.faces.proofs.indices.put_plane.Statement.{statement}
 use Rattle.faces.proofs.indices.put_plane.Tie as tie
 

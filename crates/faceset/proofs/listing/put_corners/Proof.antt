@@ -1,17 +1,19 @@
-use mathlib.Core.Path.{_∙_}
+use mathlib.Core.Path.{ap, _∙_}
 use native.Mathlib.Omega.{arith}
 use Prim.Native.Nat.{_-_}
 use lib.ListN.{getD}
 use Rattle.bits.specs.Bits.{entries}
 use Rattle.bits.proofs.Entries.{entries-length}
 use Rattle.block.proofs.RunLaws.{kept-below}
-use Rattle.lists.proofs.Written.{Writing, writing-none, writing-more, writing-end}
+use Rattle.lists.proofs.Pieces.{Singles, singles-none, singles-more, singles-all}
+use Rattle.lists.specs.Parts.{spliced}
+use Rattle.lists.proofs.Tabs.{tab-list}
 use borrow.Author.Needs.{needs}
 use Rattle.faceset.proofs.listing.put_corners.Statement.{statement}
 use Rattle.faceset.proofs.listing.put_corners.Tie as tie
 
 abbrev Inv-loop : tie.InvT-loop
-Inv-loop run work₀ n at i₀ work i = Writing at n (λ k. getD (entries run) k 0) work₀ work i
+Inv-loop run work₀ n at i₀ work i = Singles (λ k. getD (entries run) k 0) n work₀ at i work
 
 abbrev μ-loop : tie.MeasureT-loop
 μ-loop run work₀ n at i₀ work i = n - i
@@ -20,7 +22,7 @@ add-at : tie.Need-add-at Inv-loop μ-loop
 add-at c = search needs
 
 loop-holds : tie.Need-loop-holds Inv-loop μ-loop
-loop-holds c = writing-none
+loop-holds c = singles-none
 
 point-at-requires : tie.Need-point-at-requires Inv-loop μ-loop
 point-at-requires c κs = search needs
@@ -43,7 +45,7 @@ slice-write-work : tie.Need-slice-write-work Inv-loop μ-loop
 slice-write-work c =
     let c3 = c .before .before .before in
     let c8 = c3 .before .before .before .before .before in
-    omega (arith, c8 .pre .0, c8 .pre .1, c3 .loop .inv .kept .len)
+    omega (arith, c8 .pre .0, c8 .pre .1, c3 .loop .inv .size)
 
 add-i : tie.Need-add-i Inv-loop μ-loop
 add-i c = search needs
@@ -55,13 +57,13 @@ loop-again : tie.Need-loop-again Inv-loop μ-loop
 loop-again c =
     let c2 = c .before .before in
     let c8 = c2 .before .before .before .before .before .before in
-    writing-more _ (omega (arith, c8 .pre .0, c8 .pre .1)) (c2 .before .loop .inv) (c2 .loop-test .taken) (c .narrow .ensures ∙ c .before .point-at .ensures)
+    singles-more _ (omega (arith, c8 .pre .0, c8 .pre .1)) (c2 .before .loop .inv) (c2 .loop-test .taken) (c .narrow .ensures ∙ c .before .point-at .ensures)
 
 same-length : tie.Need-same-length Inv-loop μ-loop
-same-length c = c .before .loop .inv .kept .len
+same-length c = c .before .loop .inv .size
 
 returns : tie.Need-returns Inv-loop μ-loop
-returns c = writing-end (c .before .loop .inv) (c .loop-test .left)
+returns c = singles-all (c .before .loop .inv) (c .loop-test .left) ∙ ap (spliced _ _) (tab-list 0 _ _ (entries-length _))
 
 pub put-corners-spec : {M : Type 1} → statement M
 put-corners-spec =

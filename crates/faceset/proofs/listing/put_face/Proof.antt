@@ -1,4 +1,5 @@
 use Rattle.faceset.proofs.Writing.{face-added}
+use Rattle.bits.proofs.Entries.{entries-length}
 use borrow.Author.Needs.{needs}
 use Rattle.faceset.proofs.listing.put_face.Statement.{statement}
 use Rattle.faceset.proofs.listing.put_face.Tie as tie
@@ -23,7 +24,7 @@ returns c =
     let c2 = c .before .before in
     let c6 = c2 .before .before .before .before in
     let c10 = c6 .before .before .before .before in
-    face-added _ _ _ (c10 .before .before .before .before .before .before .pre .0) (c10 .put-corners .ensures) (c6 .put-places .ensures) (c2 .put-row .ensures)
+    face-added _ _ _ _ (entries-length _) (c10 .put-corners .ensures) (c6 .put-places .ensures) (c2 .put-row .ensures)
 
 pub put-face-spec : {M : Type 1} → statement M
 put-face-spec =

@@ -3,20 +3,23 @@ use Prim.Native.Nat.{_-_}
 use lib.ListN.{getD}
 use Rattle.bits.specs.Bits.{entries}
 use Rattle.bits.proofs.Entries.{entries-length}
-use Rattle.lists.proofs.Written.{Writing, writing-none, writing-more, writing-end}
+use Rattle.lists.proofs.Pieces.{Singles, singles-none, singles-more, singles-all}
+use mathlib.Core.Path.{ap, _∙_}
+use Rattle.lists.specs.Parts.{spliced}
+use Rattle.lists.proofs.Tabs.{tab-take}
 use Rattle.faceset.proofs.Writing.{copied-of}
 use borrow.Author.Needs.{needs}
 use Rattle.faceset.proofs.points.put_points.Statement.{statement}
 use Rattle.faceset.proofs.points.put_points.Tie as tie
 
 abbrev Inv-loop : tie.InvT-loop
-Inv-loop list work₀ at n i₀ work i = Writing at n (λ k. getD (entries list) k 0) work₀ work i
+Inv-loop list work₀ at n i₀ work i = Singles (λ k. getD (entries list) k 0) n work₀ at i work
 
 abbrev μ-loop : tie.MeasureT-loop
 μ-loop list work₀ at n i₀ work i = n - i
 
 loop-holds : tie.Need-loop-holds Inv-loop μ-loop
-loop-holds c = writing-none
+loop-holds c = singles-none
 
 entry-requires : tie.Need-entry-requires Inv-loop μ-loop
 entry-requires c κs = search needs
@@ -28,7 +31,7 @@ mul-work : tie.Need-mul-work Inv-loop μ-loop
 mul-work c = search needs
 
 slice-write-work : tie.Need-slice-write-work Inv-loop μ-loop
-slice-write-work c = omega (arith, c .before .before .loop .inv .kept .len)
+slice-write-work c = omega (arith, c .before .before .loop .inv .size)
 
 add-i : tie.Need-add-i Inv-loop μ-loop
 add-i c = search needs
@@ -37,13 +40,16 @@ loop-less : tie.Need-loop-less Inv-loop μ-loop
 loop-less c = search needs
 
 loop-again : tie.Need-loop-again Inv-loop μ-loop
-loop-again c = writing-more _ (c .before .before .before .before .before .pre .1) (c .before .before .loop .inv) (c .before .loop-test .taken) (c .entry .ensures)
+loop-again c = singles-more _ (c .before .before .before .before .before .pre .1) (c .before .before .loop .inv) (c .before .loop-test .taken) (c .entry .ensures)
 
 same-length : tie.Need-same-length Inv-loop μ-loop
-same-length c = c .before .loop .inv .kept .len
+same-length c = c .before .loop .inv .size
 
 returns : tie.Need-returns Inv-loop μ-loop
-returns c = copied-of (c .before .before .before .before .pre .1) (omega (arith, entries-length (c .before .before .before .before .args .list .now))) (writing-end (c .before .loop .inv) (c .loop-test .left))
+returns c =
+    let c4 = c .before .before .before .before in
+    let l = entries-length (c4 .args .list .now) in
+    copied-of (c4 .pre .1) (omega (arith, l)) (singles-all (c .before .loop .inv) (c .loop-test .left) ∙ ap (spliced _ _) (tab-take 0 (entries (c4 .args .list .now)) (c4 .args .n) (omega (arith, l, c4 .pre .0))))
 
 pub put-points-spec : {M : Type 1} → statement M
 put-points-spec =

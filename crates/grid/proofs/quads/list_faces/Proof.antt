@@ -1,5 +1,4 @@
 use Rattle.grid.proofs.Held.{corners-asked, tables-written}
-use mathlib.Core.Path.{_∙_}
 use native.Mathlib.Omega.{arith}
 use borrow.Author.Needs.{needs}
 use Rattle.grid.proofs.quads.list_faces.Statement.{statement}
@@ -18,21 +17,18 @@ add-put-multiples : tie.Need-add-put-multiples
 add-put-multiples c = search needs
 
 put-multiples-requires : tie.Need-put-multiples-requires
-put-multiples-requires c κs = let P = c .before .before .before .before .before .before .before .before .before .pre in let R = P .room in (omega (arith, P .count, P .faces, R .few), omega (arith, c .before .before .before .before .put-corners .ensures .kept .len))
+put-multiples-requires c κs = let P = c .before .before .before .before .before .before .before .before .before .pre in let R = P .room in (omega (arith, P .count, P .faces, R .few), omega (arith, c .before .before .before .work .given))
 
 put-corners-requires-2 : tie.Need-put-corners-requires-2
 put-corners-requires-2 c κs =
-    let c3 = c .before .before .before in
-    let c8 = c3 .before .before .before .before .before in
-    let c13 = c8 .before .before .before .before .before in
-    let R = c13 .pre .room in let e = c3 .put-multiples .ensures .kept .len ∙ c8 .put-corners .ensures .kept .len in corners-asked _ _ _ _ _ _ (c13 .pre) (c8 .before .before .wide .ensures) (omega arith)
+    let c2 = c .before .before in
+    let c7 = c2 .before .before .before .before .before in
+    let c10 = c7 .before .before .before in
+    let c13 = c10 .before .before .before in
+    let R = c13 .pre .room in corners-asked _ _ _ _ _ _ (c13 .pre) (c10 .wide .ensures) (omega (arith, c2 .work2 .given, c7 .work .given))
 
 put-multiples-requires-2 : tie.Need-put-multiples-requires-2
-put-multiples-requires-2 c κs =
-    let c3 = c .before .before .before in
-    let c7 = c3 .before .before .before .before in
-    let c12 = c7 .before .before .before .before .before in
-    let R = c12 .before .before .before .before .before .pre .room in let e = c3 .put-corners2 .ensures .kept .len ∙ c7 .put-multiples .ensures .kept .len ∙ c12 .put-corners .ensures .kept .len in (omega arith, omega arith)
+put-multiples-requires-2 c κs = let R = c .before .before .before .before .before .before .before .before .before .before .before .before .before .before .before .before .before .pre .room in (omega arith, omega (arith, c .before .before .work3 .given, c .before .before .before .before .before .before .work2 .given, c .before .before .before .before .before .before .before .before .before .before .before .work .given))
 
 same-length : tie.Need-same-length
 same-length c = search needs

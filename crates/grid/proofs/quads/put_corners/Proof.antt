@@ -1,5 +1,5 @@
 use Rattle.grid.specs.Listings.{cornerPoint}
-use Rattle.lists.proofs.Written.{Writing, writing-none, writing-more, writing-end}
+use Rattle.lists.proofs.Pieces.{Singles, singles-none, singles-more, singles-all}
 use mathlib.Core.Path.{_∙_}
 use Prim.Native.Nat.{_-_}
 use native.Mathlib.Omega.{arith}
@@ -8,13 +8,13 @@ use Rattle.grid.proofs.quads.put_corners.Statement.{statement}
 use Rattle.grid.proofs.quads.put_corners.Tie as tie
 
 abbrev Inv-loop : tie.InvT-loop
-Inv-loop work₀ a n xd c₀ work c = Writing a n (cornerPoint xd) work₀ work c
+Inv-loop work₀ a n xd c₀ work c = Singles (cornerPoint xd) n work₀ a c work
 
 abbrev μ-loop : tie.MeasureT-loop
 μ-loop work₀ a n xd c₀ work c = n - c
 
 loop-holds : tie.Need-loop-holds Inv-loop μ-loop
-loop-holds c = writing-none
+loop-holds c = singles-none
 
 corner-point-requires : tie.Need-corner-point-requires Inv-loop μ-loop
 corner-point-requires c κs = (c .before .before .before .pre .0, c .before .before .before .pre .1, omega (arith, c .before .before .before .pre .2))
@@ -29,7 +29,7 @@ mul-work : tie.Need-mul-work Inv-loop μ-loop
 mul-work c = search needs
 
 slice-write-work : tie.Need-slice-write-work Inv-loop μ-loop
-slice-write-work c = omega (arith, c .before .before .before .loop .inv .kept .len, c .before .before .before .before .before .pre .4)
+slice-write-work c = omega (arith, c .before .before .before .loop .inv .size, c .before .before .before .before .before .pre .4)
 
 add-c : tie.Need-add-c Inv-loop μ-loop
 add-c c = search needs
@@ -38,13 +38,13 @@ loop-less : tie.Need-loop-less Inv-loop μ-loop
 loop-less c = search needs
 
 loop-again : tie.Need-loop-again Inv-loop μ-loop
-loop-again c = writing-more _ (c .before .before .before .before .before .pre .4) (c .before .before .before .loop .inv) (c .before .before .loop-test .taken) (c .narrow .ensures ∙ c .before .corner-point .ensures)
+loop-again c = singles-more _ (c .before .before .before .before .before .pre .4) (c .before .before .before .loop .inv) (c .before .before .loop-test .taken) (c .narrow .ensures ∙ c .before .corner-point .ensures)
 
 same-length : tie.Need-same-length Inv-loop μ-loop
-same-length c = c .before .loop .inv .kept .len
+same-length c = c .before .loop .inv .size
 
 returns : tie.Need-returns Inv-loop μ-loop
-returns c = writing-end (c .before .loop .inv) (c .loop-test .left)
+returns c = singles-all (c .before .loop .inv) (c .loop-test .left)
 
 pub put-corners-spec : {M : Type 1} → statement M
 put-corners-spec =

@@ -5,9 +5,9 @@ use native.Mathlib.Omega.{arith}
 use lib.ListN.{length}
 use lib.Seq.{sets}
 use Rattle.lists.specs.Parts.{seg}
-use Rattle.lists.proofs.Keep.{length-seg}
-use Rattle.lines.proofs.Putting.{left-all}
-use Rattle.lines.proofs.Pairs.{Lining, lining-here, lining-room, lining-next, lining-end, part-is}
+use Rattle.lists.proofs.Keep.{length-seg, part-seg}
+use Rattle.lists.proofs.Putting.{left-all}
+use Rattle.lines.proofs.Pairs.{Lining, lining-here, lining-room, lining-next, lining-end}
 use borrow.Author.Needs.{needs}
 use Rattle.lines.proofs.pairing.put_lines.Statement.{statement}
 use Rattle.lines.proofs.pairing.put_lines.Tie as tie
@@ -44,7 +44,7 @@ put-run-requires c κs =
     let c2 = c .before .before in
     let c3 = c2 .before in
     let c8 = c3 .before .before .before .before .before in
-    let s = part-is (c8 .args .work .now) (c8 .args .named) (c8 .args .count) in let N = c3 .before .loop .inv .3 in rw s (lining-here N (c2 .run-at .ensures) refl (c3 .loop-test .taken) (length-seg (c8 .args .work .now) (c8 .args .named) (c8 .args .count) (c8 .pre .0) ∙ c8 .pre .1), lining-room N (c2 .run-at .ensures) refl (c3 .loop-test .taken) (c8 .pre .2))
+    let s = part-seg (c8 .args .work .now) (c8 .args .named) _ (c8 .args .count) refl in let N = c3 .before .loop .inv .3 in rw s (lining-here N (c2 .run-at .ensures) refl (c3 .loop-test .taken) (length-seg (c8 .args .work .now) (c8 .args .named) (c8 .args .count) (c8 .pre .0) ∙ c8 .pre .1), lining-room N (c2 .run-at .ensures) refl (c3 .loop-test .taken) (c8 .pre .2))
 
 next-start-requires : tie.Need-next-start-requires Inv-loop μ-loop
 next-start-requires c κs = omega arith
@@ -58,7 +58,7 @@ loop-again c =
     let c6 = c3 .before .before .before in
     let c8 = c6 .before .before in
     let c12 = c8 .before .before .before .before in
-    let s = part-is (c12 .args .work .now) (c12 .args .named) (c12 .args .count) in let N = c8 .loop .inv .3 in (c8 .loop .inv .0, c8 .loop .inv .1, omega arith, lining-next N (c6 .run-at .ensures) (c .next-start .ensures) (c6 .before .loop-test .taken) (rw s at (c3 .put-run .ensures)))
+    let s = part-seg (c12 .args .work .now) (c12 .args .named) _ (c12 .args .count) refl in let N = c8 .loop .inv .3 in (c8 .loop .inv .0, c8 .loop .inv .1, omega arith, lining-next N (c6 .run-at .ensures) (c .next-start .ensures) (c6 .before .loop-test .taken) (rw s at (c3 .put-run .ensures)))
 
 same-length : tie.Need-same-length Inv-loop μ-loop
 same-length c = c .before .loop .inv .3 .left .len

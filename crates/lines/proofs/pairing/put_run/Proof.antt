@@ -6,7 +6,7 @@ use lib.Seq.{sets}
 use Rattle.bits.specs.Bits.{entries}
 use Rattle.bits.proofs.Entries.{entries-length}
 use Rattle.lines.specs.Steps.{lastOf}
-use Rattle.lines.proofs.Putting.{left-all}
+use Rattle.lists.proofs.Putting.{left-all}
 use Rattle.lines.proofs.Pairs.{Pairing, pairing-here, pairing-room, pairing-next, pairing-end}
 use borrow.Author.Needs.{needs}
 use Rattle.lines.proofs.pairing.put_run.Statement.{statement}

@@ -10,7 +10,7 @@ use Rattle.polygon.specs.Ears.{place, order}
 use Rattle.lists.specs.Loops.{tab}
 use Rattle.polygon.proofs.Count.{length-order}
 use Rattle.lists.proofs.Loops.{tab-go, tab-end}
-use Rattle.polygon.proofs.Lists.{take-sets}
+use Rattle.lists.proofs.Stores.{take-sets}
 use Rattle.polygon.proofs.ears.set_order.Statement.{statement}
 use Rattle.polygon.proofs.ears.set_order.Tie as tie
 

@@ -4,10 +4,10 @@ use native.Mathlib.Omega.{arith}
 use lib.ListN.{take}
 use lib.Seq.{length-take-le}
 use borrow.Author.Needs.{needs}
+use Rattle.lists.proofs.Stores.{tail-sets}
 use Rattle.polygon.specs.Ears.{flat}
 use Rattle.polygon.specs.Face.{faceTris}
 use Rattle.polygon.specs.Plane.{pairs}
-use Rattle.polygon.proofs.Whole.{tail-sets}
 use Rattle.polygon.proofs.face.triangulate.Statement.{statement}
 use Rattle.polygon.proofs.face.triangulate.Tie as tie
 

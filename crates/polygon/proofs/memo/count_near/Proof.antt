@@ -4,8 +4,9 @@ use mathlib.Core.Bool.{false}
 use Prim.Native.Nat.{ℕ, _-_, _≤_, _<_}
 use native.Mathlib.Omega.{arith}
 use borrow.Author.Needs.{needs}
+use Rattle.lists.proofs.Searches.{count-step, one-small}
 use Rattle.polygon.specs.Memo.{xy, dotOf, inWay, hits}
-use Rattle.polygon.proofs.Blocks.{count-step, one-small, not-in-way}
+use Rattle.polygon.proofs.Blocks.{not-in-way}
 use Rattle.polygon.proofs.memo.count_near.Statement.{statement}
 use Rattle.polygon.proofs.memo.count_near.Tie as tie
 

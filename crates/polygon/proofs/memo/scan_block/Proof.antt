@@ -1,6 +1,6 @@
 use native.Mathlib.Omega.{arith}
+use Rattle.lists.proofs.Searches.{none-to}
 use Rattle.polygon.specs.Memo.{xy, dotOf, inWay, hits}
-use Rattle.polygon.proofs.Blocks.{none-to}
 use Rattle.polygon.proofs.memo.scan_block.Statement.{statement}
 use Rattle.polygon.proofs.memo.scan_block.Tie as tie
 

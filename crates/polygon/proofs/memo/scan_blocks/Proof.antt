@@ -7,7 +7,7 @@ use borrow.Author.Needs.{needs}
 use Rattle.lists.specs.Loops.{first}
 use Rattle.polygon.specs.Memo.{xy, dotOf, inWay, hits}
 use Rattle.lists.proofs.Loops.{first-end}
-use Rattle.polygon.proofs.Blocks.{block-hit, block-past}
+use Rattle.lists.proofs.Searches.{block-hit, block-past}
 use Rattle.polygon.proofs.memo.scan_blocks.Statement.{statement}
 use Rattle.polygon.proofs.memo.scan_blocks.Tie as tie
 

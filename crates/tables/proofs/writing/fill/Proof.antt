@@ -1,19 +1,20 @@
 use native.Mathlib.Omega.{arith}
 use mathlib.Core.Path.{refl}
 use Prim.Native.Nat.{_-_}
-use Rattle.lists.proofs.Written.{Writing, writing-none, writing-more, writing-end}
+use Rattle.lists.proofs.Pieces.{Singles, singles-none, singles-more, singles-all}
+use Rattle.lists.proofs.Splices.{put-written}
 use borrow.Author.Needs.{needs}
 use Rattle.tables.proofs.writing.fill.Statement.{statement}
 use Rattle.tables.proofs.writing.fill.Tie as tie
 
 abbrev Inv-loop : tie.InvT-loop
-Inv-loop work₀ a n v i₀ work i = Writing a n (λ j. v) work₀ work i
+Inv-loop work₀ a n v i₀ work i = Singles (λ j. v) n work₀ a i work
 
 abbrev μ-loop : tie.MeasureT-loop
 μ-loop work₀ a n v i₀ work i = n - i
 
 loop-holds : tie.Need-loop-holds Inv-loop μ-loop
-loop-holds c = writing-none
+loop-holds c = singles-none
 
 add-work : tie.Need-add-work Inv-loop μ-loop
 add-work c = search needs
@@ -22,7 +23,7 @@ mul-work : tie.Need-mul-work Inv-loop μ-loop
 mul-work c = search needs
 
 slice-write-work : tie.Need-slice-write-work Inv-loop μ-loop
-slice-write-work c = omega (arith, c .before .loop .inv .kept .len)
+slice-write-work c = omega (arith, c .before .loop .inv .size)
 
 add-i : tie.Need-add-i Inv-loop μ-loop
 add-i c = search needs
@@ -31,13 +32,13 @@ loop-less : tie.Need-loop-less Inv-loop μ-loop
 loop-less c = search needs
 
 loop-again : tie.Need-loop-again Inv-loop μ-loop
-loop-again c = writing-more _ (c .before .before .pre) (c .before .loop .inv) (c .loop-test .taken) refl
+loop-again c = singles-more _ (c .before .before .pre) (c .before .loop .inv) (c .loop-test .taken) refl
 
 same-length : tie.Need-same-length Inv-loop μ-loop
-same-length c = c .before .loop .inv .kept .len
+same-length c = c .before .loop .inv .size
 
 returns : tie.Need-returns Inv-loop μ-loop
-returns c = writing-end (c .before .loop .inv) (c .loop-test .left)
+returns c = put-written _ _ (c .before .before .pre) (singles-all (c .before .loop .inv) (c .loop-test .left))
 
 pub fill-spec : {M : Type 1} → statement M
 fill-spec =

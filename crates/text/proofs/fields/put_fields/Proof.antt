@@ -34,7 +34,7 @@ loop-again : tie.Need-loop-again Inv-loop μ-loop
 loop-again c =
     let c2 = c .before .before in
     let c5 = c2 .before .before .before in
-    going-step (c5 .before .loop .inv) (c5 .loop-test .taken) (c2 .put-field .kept .0) (rw (c2 .before .get .ensures) at (c2 .put-field .ensures))
+    going-step (c5 .before .loop .inv) (c5 .loop-test .taken) (rw (c2 .before .get .ensures) at (c2 .put-field .ensures))
 
 same-length : tie.Need-same-length Inv-loop μ-loop
 same-length c = search needs

@@ -24,7 +24,7 @@ loop-less : tie.Need-loop-less Inv-loop μ-loop
 loop-less c = search needs
 
 loop-again : tie.Need-loop-again Inv-loop μ-loop
-loop-again c = going-step (c .before .before .before .before .before .loop .inv) (c .before .before .before .before .loop-test .taken) (c .before .before .put-element .kept .0) (c .before .before .put-element .ensures)
+loop-again c = going-step (c .before .before .before .before .before .loop .inv) (c .before .before .before .before .loop-test .taken) (c .before .before .put-element .ensures)
 
 same-length : tie.Need-same-length Inv-loop μ-loop
 same-length c = search needs
