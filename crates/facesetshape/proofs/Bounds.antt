@@ -10,8 +10,7 @@ use Rattle.block.specs.declared.kind.Kind.the-variants.{FaceSet}
 use Rattle.block.specs.declared.header.Header.{Header}
 use Rattle.block.specs.declared.settings.Settings.{Settings}
 use Rattle.block.specs.Lists.{setWidths, listSize, listBytes}
-use Rattle.block.specs.declared.runs.Totals.{Totals}
-use Rattle.block.specs.Runs.{runs, faces, corners, sumOver, totals}
+use Rattle.block.specs.Runs.{faces, corners, sumOver}
 use Rattle.block.proofs.Table.{count-low}
 use Rattle.block.proofs.ListLaws.{widths-of, size-by, list-length, list-entries}
 use Rattle.mesh.specs.Mesh.{Slices}
@@ -24,22 +23,10 @@ use Rattle.lent.specs.Lent.{Asked, Enough}
 use Rattle.lent.proofs.Accepts.{sizes-low}
 use Rattle.build.proofs.Rooms.{plan-laid, plan-low}
 use Rattle.faceset.specs.Passing.{Planned}
+use Rattle.sizes.specs.declared.kinds.Sizes.{Sizes as Sized}
+use Rattle.sizes.specs.Known.{setFaces, facesIn, Counted}
 use Rattle.sizes.proofs.FaceLaws.{faces-third, indices-sum}
 use Rattle.facesetshape.specs.Shape.{faceSetPlan}
-
--- the plan, by coordIndex, its totals and the number of points as the code has them
-module _ (bs : List ℕ) (h : Header) {coord : List ℕ} {p : ℕ} {n : Totals} (c : coord ≡ listBytes bs h 1) (e : n ≡ totals (listedPoints h) (runs (entries coord)))
-    (q : p ≡ listedPoints h) where
-  totals-are : n ≡ totals (listedPoints h) (coordRuns bs h)
-  totals-are = e ∙ ap (λ (l : List ℕ). totals (listedPoints h) (runs (entries l))) c
-
-  pub plan-by : planOf p (n .corners) (n .faces) ≡ faceSetPlan bs h
-  unfolding faceSetPlan
-  plan-by = λ i. planOf (q i) (totals-are i .corners) (totals-are i .faces)
-
-  pub plan-low-by : (listedPoints h ≤ most) × (sumOver (corners (listedPoints h)) (coordRuns bs h) ≤ most) × (sumOver (faces (listedPoints h)) (coordRuns bs h) ≤ most)
-      → (p ≤ most) × (n .corners ≤ most) × (n .faces ≤ most)
-  plan-low-by a = (omega (arith, q, a .0), omega (arith, ap (λ (n : Totals). n .corners) totals-are, a .1), omega (arith, ap (λ (n : Totals). n .faces) totals-are, a .2))
 
 module _ {bs : List ℕ} {h : Header} {s : Settings} {o : Slices} {w f : ℕ} (A : Asked FaceSet bs h s o w f) where
   sizes-are : sizesOf bs h ≡ faceSetSizes bs h
@@ -89,9 +76,19 @@ module _ {bs : List ℕ} {h : Header} {s : Settings} {o : Slices} {w f : ℕ} (A
 
   -- ---- the plan
 
-  -- what `plan_of` asks
-  pub plan-asked : (listedPoints h ≤ most) × (sumOver (corners (listedPoints h)) (coordRuns bs h) ≤ most) × (sumOver (faces (listedPoints h)) (coordRuns bs h) ≤ most)
-  plan-asked = (points-low, corners-low, omega (arith, third, corners-low))
+  -- the sizes as they were counted
+  module _ {z : Sized} (C : Counted bs h z) where
+    counted : (z .points ≡ listedPoints h) × (z .corners ≡ sumOver (corners (listedPoints h)) (coordRuns bs h)) × (z .faces ≡ sumOver (faces (listedPoints h)) (coordRuns bs h))
+    unfolding faceSetSizes facesIn setFaces
+    counted = (C .points ∙ ap (λ (z : Sizes). z .points) sizes-are, C .corners ∙ ap (λ (z : Sizes). z .corners) sizes-are, C .faces ∙ rw (A .kind) refl)
+
+    -- what `plan_of` asks, and what it gives
+    pub plan-asked : (z .points ≤ most) × (z .corners ≤ most) × (z .faces ≤ most)
+    plan-asked = (omega (arith, counted .0, points-low), omega (arith, counted .1, corners-low), omega (arith, counted .2, third, corners-low))
+
+    pub plan-by : {t : Plan} → t ≡ planOf (z .points) (z .corners) (z .faces) → t ≡ faceSetPlan bs h
+    unfolding faceSetPlan
+    plan-by e = e ∙ λ i. planOf (counted .0 i) (counted .1 i) (counted .2 i)
 
   own-planned : Planned (listedPoints h) (listBytes bs h 1) w (faceSetPlan bs h)
   unfolding faceSetPlan planOf

@@ -4,16 +4,13 @@ ghost use Prim.Native.Nat.{_+_, _*_, _/_, _≤_};
 ghost use lib.ListN.{length, take};
 ghost use Rattle.bits.specs.Bits.{entries};
 ghost use Rattle.block.specs.Lists.{listBytes};
-ghost use Rattle.block.specs.Runs.{faces, corners, sumOver};
-ghost use Rattle.mesh.specs.Sizes.{coordRuns, listedPoints};
+ghost use Rattle.mesh.specs.Sizes.{listedPoints};
 ghost use Rattle.mesh.specs.Texture.{fitOf};
-ghost use Rattle.tables.specs.Layout.{most};
 ghost use Rattle.tables.specs.Soups.{pointsIn};
 ghost use Rattle.faceset.specs.Passing.{Planned};
-ghost use Rattle.facesetshape.specs.Shape.{faceSetPlan, Tabled, Placed, TexturesAt};
+ghost use Rattle.facesetshape.specs.Shape.{Tabled, Placed, TexturesAt};
 use block::Header;
 use block::Settings;
-use block::face_totals;
 use block::list_part;
 use faceset::list_faces;
 use faceset::put_points;
@@ -21,23 +18,8 @@ use mesh::Fit;
 use soups::face_widths;
 use soups::prepare;
 use tables::Plan;
-use tables::plan_of;
-use tables::wide;
 use texture::fit_of;
 use texture::put_textures;
-
-// The plan for the points, and for the corners and the number of the kept faces.
-pub fn plan_face_set(block: &[u8], h: Header) -> Plan
-    requires { ⌜ (listedPoints h ≤ most) × (sumOver (corners (listedPoints h)) (coordRuns (now block) h) ≤ most)
-        × (sumOver (faces (listedPoints h)) (coordRuns (now block) h) ≤ most) ⌝ }
-    ensures { λ r. ⌜ r ≡ faceSetPlan (now (block .entry)) h ⌝ }
-{
-    let counts = h.counts;
-    let points = counts[0];
-    let coord = list_part(block, h, 1);
-    let totals = face_totals(coord, points);
-    plan_of(wide(points), totals.corners, totals.faces)
-}
 
 // All tables but that of texture.
 pub fn put_tables(

@@ -4,8 +4,8 @@ ghost use mathlib.Core.Path.{_≡_};
 ghost use lib.ListN.{length};
 ghost use Rattle.mesh.specs.FaceSet.{faceSetMesh};
 ghost use Rattle.lent.specs.Lent.{Asked, Shaped, Cleared};
+ghost use Rattle.sizes.specs.Known.{Counted};
 ghost use Rattle.facesetshape.specs.Shape.{faceSetShared};
-use crate::filling::plan_face_set;
 use crate::filling::put_tables;
 use crate::filling::texture_where;
 use bits::Words4;
@@ -15,8 +15,10 @@ use block::list_part;
 use build::Shared;
 use build::build;
 use lent::Counts;
+use sizes::Sizes;
 use soups::attributes_of;
 use soups::face_widths;
+use tables::plan_of;
 
 fn shared_of(h: Header, missing: Words4) -> Shared
     ensures { λ r. ⌜ r ≡ faceSetShared missing h ⌝ }
@@ -31,10 +33,11 @@ fn shared_of(h: Header, missing: Words4) -> Shared
     }
 }
 
-// The mesh of an accepted face set, into the six slices; the working slices are left with zeros.
+// The mesh of an accepted face set of the sizes z, into the six slices; the working slices are left with zeros.
 pub fn make_face_set(
     block: &[u8],
     h: Header,
+    z: Sizes,
     s: Settings,
     missing: Words4,
     sources: &mut [u32],
@@ -48,13 +51,13 @@ pub fn make_face_set(
 ) -> Counts
     requires { ⌜ Asked FaceSet (now block) h s
         (record { sources = now sources; positions = now positions; normals = now normals; colours = now colours; textures = now textures; indices = now indices })
-        (length (now work)) (length (now floats)) ⌝ }
+        (length (now work)) (length (now floats)) × Counted (now block) h z ⌝ }
     ensures { λ r. ⌜ Shaped h (faceSetMesh missing (now (block .entry)))
         (record { sources = now (sources .entry); positions = now (positions .entry); normals = now (normals .entry); colours = now (colours .entry); textures = now (textures .entry); indices = now (indices .entry) })
         (record { sources = now (sources .exit); positions = now (positions .exit); normals = now (normals .exit); colours = now (colours .exit); textures = now (textures .exit); indices = now (indices .exit) })
         r × Cleared (now (work .entry)) (now (work .exit)) (now (floats .entry)) (now (floats .exit)) ⌝ }
 {
-    let t = plan_face_set(block, h);
+    let t = plan_of(z.points, z.corners, z.faces);
     put_tables(block, h, s, t, work, floats);
     texture_where(block, h, s, t, work);
     let shared = shared_of(h, missing);

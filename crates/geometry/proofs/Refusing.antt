@@ -19,7 +19,7 @@ use Rattle.tables.specs.Layout.{most}
 use Rattle.lent.specs.Lent.{Accepted, Enough, Asked}
 use Rattle.lent.proofs.Accepts.{sizes-low}
 use Rattle.sizes.specs.declared.kinds.Sizes.{Sizes}
-use Rattle.sizes.specs.Known.{Known, Are}
+use Rattle.sizes.specs.Known.{Counted}
 use Rattle.sizes.proofs.Decided as seven
 use Rattle.sizes.proofs.Decided.{all-answered, accepted-of}
 use Rattle.geometry.specs.declared.answer.Lengths.{Lengths}
@@ -42,10 +42,7 @@ module _ (bs : List ℕ) (n : ℕ) (e : n ≡ seven.rows bs (headerOf bs)) (z : 
 
   -- h is its header, and r its sizes
   module _ (h : Header) (eh : h ≡ headerOf bs) where
-    pub known-by : Known bs h
-    known-by = rw eh (record { header = refl; taken = accepted-by .taken; shape = accepted-by .shape })
-
-    module _ (r : Sizes) (A : Are (sizesOf bs h) r) where
+    module _ (r : Sizes) (A : Counted bs h r) where
       same-sizes : sizesIn r ≡ sizesOf bs (headerOf bs)
       same-sizes = (λ i. record { points = A .points i; corners = A .corners i; indices = A .indices i }) ∙ ap (sizesOf bs) eh
 
@@ -78,7 +75,7 @@ module _ (bs : List ℕ) (l : Lengths) (n : ℕ) (e : n ≡ seven.rows bs (heade
     by-eighth = sym (eight ∙ first-after before (row Buffer short ∷ []) (all-answered bs (headerOf bs)) (sym e ∙ z))
 
     -- row 8 as it was answered
-    pub row-eight : (h : Header) (eh : h ≡ headerOf bs) (r : Sizes) (A : Are (sizesOf bs h) r) (b k : Bool) → b ≡ isShort (sizesIn r) l → b ≡ k → cond k 8 0 ≡ refusal bs l
+    pub row-eight : (h : Header) (eh : h ≡ headerOf bs) (r : Sizes) (A : Counted bs h r) (b k : Bool) → b ≡ isShort (sizesIn r) l → b ≡ k → cond k 8 0 ≡ refusal bs l
     row-eight h eh r A b k eb q = ap (λ (k : Bool). cond k 8 0) (sym q ∙ eb ∙ ap (λ (z : Defined). isShort z l) (same-sizes bs n e z h eh r A)) ∙ by-eighth
 
 -- ---- the way back

@@ -2,6 +2,7 @@
 ghost use lib.ListN.{length};
 ghost use Rattle.mesh.specs.Result.{blockMesh};
 ghost use Rattle.lent.specs.Lent.{Asked, Shaped, Cleared};
+ghost use Rattle.sizes.specs.Known.{Counted};
 use bits::Words4;
 use block::Header;
 use block::Kind;
@@ -11,11 +12,13 @@ use facesetshape::make_face_set;
 use gridshape::make_grid;
 use lent::Counts;
 use lineshape::make_line_set;
+use sizes::Sizes;
 
 // FORMAT 2.2: by kind. No block of another kind is accepted.
 pub fn make_kind(
     block: &[u8],
     h: Header,
+    z: Sizes,
     s: Settings,
     missing: Words4,
     sources: &mut [u32],
@@ -29,7 +32,7 @@ pub fn make_kind(
 ) -> Counts
     requires { ⌜ Asked (h .kind) (now block) h s
         (record { sources = now sources; positions = now positions; normals = now normals; colours = now colours; textures = now textures; indices = now indices })
-        (length (now work)) (length (now floats)) ⌝ }
+        (length (now work)) (length (now floats)) × Counted (now block) h z ⌝ }
     ensures { λ r. ⌜ Shaped h (blockMesh missing (now (block .entry)))
         (record { sources = now (sources .entry); positions = now (positions .entry); normals = now (normals .entry); colours = now (colours .entry); textures = now (textures .entry); indices = now (indices .entry) })
         (record { sources = now (sources .exit); positions = now (positions .exit); normals = now (normals .exit); colours = now (colours .exit); textures = now (textures .exit); indices = now (indices .exit) })
@@ -40,6 +43,7 @@ pub fn make_kind(
         Kind::FaceSet => make_face_set(
             block,
             h,
+            z,
             s,
             missing,
             sources,
@@ -54,6 +58,7 @@ pub fn make_kind(
         Kind::LineSet => make_line_set(
             block,
             h,
+            z.corners,
             missing,
             sources,
             positions,

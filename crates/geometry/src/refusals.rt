@@ -1,12 +1,15 @@
 // FORMAT 3: the eighth row of the table of refusals, and the whole table.
 ghost use mathlib.Core.Path.{_≡_};
 ghost use Prim.Native.Nat.{_≤_};
-ghost use Rattle.block.specs.Refusal.{numberOf};
+ghost use Rattle.block.specs.Header.{headerOf};
 ghost use Rattle.tables.specs.Layout.{most};
+ghost use Rattle.sizes.specs.Judged.{Judged};
 ghost use Rattle.geometry.specs.Answer.{isShort, refusal};
 use crate::answer::Lengths;
+use block::Header;
 use block::Refusal;
 use sizes::Sizes;
+use sizes::Verdict;
 
 // Row 8.
 fn is_short(z: Sizes, l: Lengths) -> bool
@@ -39,18 +42,21 @@ fn is_short(z: Sizes, l: Lengths) -> bool
     l.floats < working
 }
 
-// The first of the eight rows that holds. The sizes are counted only where the rows 1 to 7 let the block pass.
-pub fn refusal_for(block: &[u8], l: Lengths) -> Refusal
-    ensures { λ r. ⌜ numberOf r ≡ refusal (now (block .entry)) l ⌝ }
+// All eight rows. The sizes are counted once, where the rows 1 to 6 let the block pass, and handed on.
+pub fn verdict_for(block: &[u8], h: Header, l: Lengths) -> Verdict
+    requires { ⌜ h ≡ headerOf (now block) ⌝ }
+    ensures { λ r. ⌜ Judged (now (block .entry)) h (refusal (now (block .entry)) l) r ⌝ }
 {
-    let h = block::read_header(block);
-    let first = sizes::refusal_to_7(block, h);
-    if block::is_taken(first) {
-        let z = sizes::sizes_of(block, h);
-        if is_short(z, l) {
-            return Refusal::Buffer;
+    let first = sizes::verdict_to_7(block, h);
+    match first {
+        Verdict::Refused(no) => {
+            return Verdict::Refused(no);
         }
-        return Refusal::Nothing;
+        Verdict::Passed(z) => {
+            if is_short(z, l) {
+                return Verdict::Refused(Refusal::Buffer);
+            }
+            return Verdict::Passed(z);
+        }
     }
-    first
 }

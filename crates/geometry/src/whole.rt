@@ -1,5 +1,7 @@
 // One call: a block and eight lent slices (FORMAT 3, 4, 5).
 ghost use mathlib.Core.Path.{_≡_};
+ghost use Rattle.block.specs.Header.{headerOf};
+ghost use Rattle.sizes.specs.Known.{Counted};
 ghost use Rattle.geometry.specs.Answer.{white, plain};
 ghost use Rattle.geometry.specs.Converted.{numberFor, Converted};
 use crate::answer::Answer;
@@ -7,8 +9,11 @@ use crate::answer::Call;
 use crate::answer::Lengths;
 use crate::answer::Report;
 use crate::kinds::make_kind;
-use crate::refusals::refusal_for;
+use crate::refusals::verdict_for;
 use bits::Words4;
+use block::Header;
+use sizes::Sizes;
+use sizes::Verdict;
 
 // FORMAT 7.2: a missing colour.
 fn white_words() -> Words4
@@ -22,10 +27,12 @@ fn white_words() -> Words4
     }
 }
 
-// A call that nothing refuses.
+// A call that nothing refuses, by the block's header and sizes.
 fn make(
     call: Call,
     block: &[u8],
+    h: Header,
+    z: Sizes,
     positions: &mut [u32],
     normals: &mut [u32],
     colours: &mut [u32],
@@ -35,20 +42,20 @@ fn make(
     words: &mut [u32],
     floats: &mut [f32],
 ) -> Report
-    requires { ⌜ numberFor (now block)
+    requires { ⌜ (h ≡ headerOf (now block)) × Counted (now block) h z × (numberFor (now block)
         (record { slices = record { positions = now positions; normals = now normals; colours = now colours; textures = now textures; sources = now sources; indices = now indices }; words = now words; floats = now floats })
-        ≡ 0 ⌝ }
+        ≡ 0) ⌝ }
     ensures { λ r. ⌜ Converted call (now (block .entry))
         (record { slices = record { positions = now (positions .entry); normals = now (normals .entry); colours = now (colours .entry); textures = now (textures .entry); sources = now (sources .entry); indices = now (indices .entry) }; words = now (words .entry); floats = now (floats .entry) })
         (record { slices = record { positions = now (positions .exit); normals = now (normals .exit); colours = now (colours .exit); textures = now (textures .exit); sources = now (sources .exit); indices = now (indices .exit) }; words = now (words .exit); floats = now (floats .exit) })
         (Answer.Made r) ⌝ }
 {
-    let h = block::read_header(block);
     let s = block::read_settings(block);
     let missing = call.colour;
     let n = make_kind(
         block,
         h,
+        z,
         s,
         missing,
         sources,
@@ -88,8 +95,10 @@ fn answer_call(
         (record { slices = record { positions = now (positions .exit); normals = now (normals .exit); colours = now (colours .exit); textures = now (textures .exit); sources = now (sources .exit); indices = now (indices .exit) }; words = now (words .exit); floats = now (floats .exit) })
         r ⌝ }
 {
-    let no = refusal_for(
+    let h = block::read_header(block);
+    let verdict = verdict_for(
         block,
+        h,
         Lengths {
             positions: positions.len(),
             normals: normals.len(),
@@ -101,10 +110,12 @@ fn answer_call(
             floats: floats.len(),
         },
     );
-    if block::is_taken(no) {
-        return Answer::Made(make(
+    match verdict {
+        Verdict::Passed(z) => Answer::Made(make(
             call,
             block,
+            h,
+            z,
             positions,
             normals,
             colours,
@@ -113,9 +124,9 @@ fn answer_call(
             indices,
             words,
             floats,
-        ));
+        )),
+        Verdict::Refused(no) => Answer::Refused(no),
     }
-    Answer::Refused(no)
 }
 
 // The mesh of a block, into the lent slices; or a refusal, and every lent element as it was.

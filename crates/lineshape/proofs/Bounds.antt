@@ -22,7 +22,7 @@ use Rattle.block.specs.Settings.{settingsOf}
 use Rattle.lent.specs.Lent.{Asked, Enough}
 use Rattle.lent.proofs.Accepts.{sizes-low}
 use Rattle.lines.proofs.Counts.{coord-short}
-use Rattle.lineshape.specs.Shape.{lineTables}
+use Rattle.lineshape.specs.Shape.{tablesFor, lineTables}
 use Rattle.lineshape.proofs.Tabling.{tables-laid}
 
 -- FORMAT 4, 6.3: the sizes of p points and the runs of the entries es
@@ -62,6 +62,15 @@ module _ {bs : List ℕ} {h : Header} {o : Slices} {w f : ℕ} (A : Asked LineSe
 
     pub corners-low : sumOver (named (listedPoints h)) (runs (entries coord)) ≤ most
     corners-low = subst (λ (z : Sizes). z .corners ≤ most) sizes-by (sizes-low (A .accepted) .1)
+
+    -- the corners as they were counted
+    module _ {count : ℕ} (e : count ≡ sizesOf bs h .corners) where
+      pub count-low : count ≤ most
+      count-low = omega (arith, e, sizes-low (A .accepted))
+
+      pub tables-are : {t : CornerTables} → t ≡ tablesFor (listedPoints h) count → t ≡ lineTables (listedPoints h) (entries coord)
+      unfolding lineTables
+      tables-are q = q ∙ ap (tablesFor (listedPoints h)) (e ∙ ap (λ (z : Sizes). z .corners) sizes-by)
 
     pub laid-at : {t : CornerTables} → t ≡ lineTables (listedPoints h) (entries coord) → Laid t w
     laid-at e = subst (λ (t : CornerTables). Laid t w) (sym e) (tables-laid (listedPoints h) (entries coord) points-low corners-low w (enough .words))

@@ -1,5 +1,5 @@
 -- FORMAT 4, 6.3: where the tables of a line set stand, that they fit the words that are lent, and what is written to them.
-use mathlib.Core.Path.{_≡_, ap, ap₂, _∙_}
+use mathlib.Core.Path.{_≡_, ap, _∙_}
 use mathlib.Core.List.{List}
 use Prim.Native.Nat.{ℕ, _+_, _*_, _≤_}
 use native.Mathlib.Omega.{arith}
@@ -12,7 +12,7 @@ use Rattle.corners.specs.declared.laid.CornerTables.{CornerTables}
 use Rattle.corners.specs.Laid.{tablesAt, Laid}
 use Rattle.faceset.specs.Written.{Copied}
 use Rattle.lines.specs.Uses.{Listed}
-use Rattle.lineshape.specs.Shape.{lineTables, Tabled}
+use Rattle.lineshape.specs.Shape.{tablesFor, lineTables, Tabled}
 
 module _ (p : ℕ) (es : List ℕ) (few : p ≤ most) where
   pub tables-laid : sumOver (named p) (runs es) ≤ most → (len : ℕ) → 8 * (sumOver (named p) (runs es) + p) + 8 ≤ len → Laid (lineTables p es) len
@@ -32,14 +32,9 @@ module _ (p : ℕ) (es : List ℕ) (few : p ≤ most) where
         nexts = omega arith;
       }
 
-  -- with the count c and the points s as the code has them
-  module _ {c s : ℕ} (n : c ≡ sumOver (named p) (runs es)) (q : s ≡ p) where
-    pub tables-low : sumOver (named p) (runs es) ≤ most → (c ≤ most) × (s ≤ most)
-    tables-low low = (omega arith, omega arith)
-
-    pub tables-by : tablesAt c 0 s (3 * s) (3 * s + c) (3 * s + c + c) (3 * s + c + c + c) ≡ lineTables p es
-    unfolding lineTables
-    tables-by = ap₂ (λ (c s : ℕ). tablesAt c 0 s (3 * s) (3 * s + c) (3 * s + c + c) (3 * s + c + c + c)) n q
+-- with the points s as the code has them
+pub tables-by : (p c : ℕ) {s : ℕ} → s ≡ p → tablesAt c 0 s (3 * s) (3 * s + c) (3 * s + c + c) (3 * s + c + c + c) ≡ tablesFor p c
+tables-by p c q = ap (λ (s : ℕ). tablesAt c 0 s (3 * s) (3 * s + c) (3 * s + c + c) (3 * s + c + c + c)) q
 
 module _ (p : ℕ) (es : List ℕ) {t : CornerTables} (e : t ≡ lineTables p es) where
   -- the points are at the start, and the corners' points follow

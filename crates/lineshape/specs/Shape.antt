@@ -13,12 +13,13 @@ use Rattle.corners.specs.declared.laid.CornerTables.{CornerTables}
 use Rattle.corners.specs.Laid.{tablesAt, chainsOf}
 use Rattle.lines.specs.Uses.{Listed}
 
--- FORMAT 4, 8.2: p points, and a corner for each entry that names one in the runs of the entries es
+-- FORMAT 4, 8.2: p points and c corners
+abbrev pub tablesFor : ℕ → ℕ → CornerTables
+tablesFor p c = let at = 3 * p + c in tablesAt c 0 p (3 * p) at (at + c) (at + c + c)
+
+-- a corner for each entry that names a point in the runs of the entries es
 unfoldable pub lineTables : ℕ → List ℕ → CornerTables
-lineTables p es =
-    let c = sumOver (named p) (runs es) in
-    let at = 3 * p + c in
-    tablesAt c 0 p (3 * p) at (at + c) (at + c + c)
+lineTables p es = tablesFor p (sumOver (named p) (runs es))
 
 -- FORMAT 5, 8.2: no normals and no texture are made
 unfoldable pub lineWidths : Header → Widths

@@ -3,25 +3,20 @@ ghost use mathlib.Core.Path.{_≡_};
 ghost use Prim.Native.Nat.{_*_, _/_, _^_, _≤_};
 ghost use lib.ListN.{length};
 ghost use Rattle.bits.specs.Bits.{entries};
-ghost use Rattle.block.specs.Runs.{runs, sumOver};
-ghost use Rattle.mesh.specs.Sizes as sizes;
 ghost use Rattle.tables.specs.Layout.{most};
 ghost use Rattle.corners.specs.Laid.{Laid};
-ghost use Rattle.lineshape.specs.Shape.{lineTables, Tabled};
+ghost use Rattle.lineshape.specs.Shape.{tablesFor, lineTables, Tabled};
 use corners::CornerTables;
 use corners::corner_tables;
 use faceset::put_points;
-use lines::line_totals;
 use lines::list_entries;
 use tables::wide;
 
 // Where the tables stand: the points, and then a row for each entry that names one of them.
-pub fn line_tables(coord: &[u8], points: u32) -> CornerTables
-    requires { ⌜ (points ≤ most) × (sumOver (sizes.named points) (runs (entries (now coord))) ≤ most) ⌝ }
-    ensures { λ r. ⌜ r ≡ lineTables points (entries (now (coord .entry))) ⌝ }
+pub fn line_tables(points: u32, count: usize) -> CornerTables
+    requires { ⌜ (points ≤ most) × (count ≤ most) ⌝ }
+    ensures { λ r. ⌜ r ≡ tablesFor points count ⌝ }
 {
-    let totals = line_totals(coord, points);
-    let count = totals.corners;
     let spots = wide(points);
     let corners = 3 * spots;
     let named = corners + count;

@@ -1,5 +1,5 @@
 -- FORMAT 3, 4: the sizes of each kind from what the code counts, and what is known of each kind.
-use mathlib.Core.Path.{_≡_, sym, ap, subst, _∙_}
+use mathlib.Core.Path.{_≡_, refl, sym, ap, subst, _∙_}
 use mathlib.Core.Bool.{false}
 use mathlib.Core.List.{List}
 use Prim.Native.Nat.{ℕ, _+_, _-_, _*_, _≤_}
@@ -12,7 +12,7 @@ use Rattle.bits.specs.Bits.{entries}
 use Rattle.block.specs.declared.header.Header.{Header}
 use Rattle.block.specs.declared.runs.Totals.{Totals}
 use Rattle.block.specs.Lists.{listBytes}
-use Rattle.block.specs.Runs.{runs, corners, triangles, sumOver, totals}
+use Rattle.block.specs.Runs.{runs, faces, corners, triangles, sumOver, totals}
 use Rattle.block.specs.declared.kind.Kind.{Kind}
 use Rattle.block.specs.declared.kind.Kind.the-variants.{Grid, Extrusion}
 use Rattle.block.specs.Kind.{byKind}
@@ -26,7 +26,7 @@ use Rattle.extrusion.specs.Given.{Given}
 use Rattle.extrusion.proofs.Blocks.{given-of, section-of, section-long}
 use Rattle.extrusion.proofs.Joined.{cap-fits}
 use Rattle.sizes.specs.declared.kinds.Sizes.{Sizes}
-use Rattle.sizes.specs.Known.{Known, Sides, Are}
+use Rattle.sizes.specs.Known.{Known, Sides, setFaces, facesIn, Are, Counted}
 
 -- ---- the sizes of each kind
 
@@ -37,44 +37,49 @@ module _ (bs : List ℕ) (h : Header) where
     over-list f n e = e ∙ ap (λ (l : List ℕ). sumOver f (runs (entries l))) el
 
     pub face-set-are : (t : Totals) (p : ℕ) → t ≡ totals (spec.listedPoints h) (runs (entries l)) → p ≡ spec.listedPoints h
-        → Are (spec.faceSetSizes bs h) (record { points = p; corners = t .corners; indices = 3 * t .triangles })
-    unfolding spec.faceSetSizes
+        → Are (spec.faceSetSizes bs h) (setFaces bs h) (record { points = p; corners = t .corners; indices = 3 * t .triangles; faces = t .faces })
+    unfolding spec.faceSetSizes setFaces
     face-set-are t p et ep =
         record {
           points = ep;
           corners = over-list (corners (spec.listedPoints h)) (t .corners) (ap (λ (t : Totals). t .corners) et);
           indices = ap (λ (n : ℕ). 3 * n) (over-list (triangles (spec.listedPoints h)) (t .triangles) (ap (λ (t : Totals). t .triangles) et));
+          faces = over-list (faces (spec.listedPoints h)) (t .faces) (ap (λ (t : Totals). t .faces) et);
         }
 
     pub line-set-are : (c n p : ℕ) → c ≡ sumOver (spec.named (spec.listedPoints h)) (runs (entries l))
         → n ≡ sumOver (spec.linesAfter (spec.listedPoints h) false) (runs (entries l)) → p ≡ spec.listedPoints h
-        → Are (spec.lineSetSizes bs h) (record { points = p; corners = c; indices = 2 * n })
+        → Are (spec.lineSetSizes bs h) 0 (record { points = p; corners = c; indices = 2 * n; faces = 0 })
     unfolding spec.lineSetSizes
     line-set-are c n p ec en ep =
         record {
           points = ep;
           corners = over-list (spec.named (spec.listedPoints h)) c ec;
           indices = ap (λ (n : ℕ). 2 * n) (over-list (spec.linesAfter (spec.listedPoints h) false) n en);
+          faces = refl;
         }
 
-  pub grid-are : (p q : ℕ) → p ≡ xDimension h * zDimension h → q ≡ spec.sideCount h → Are (spec.gridSizes h) (record { points = p; corners = 4 * q; indices = 6 * q })
+  pub grid-are : (p q : ℕ) → p ≡ xDimension h * zDimension h → q ≡ spec.sideCount h → Are (spec.gridSizes h) 0 (record { points = p; corners = 4 * q; indices = 6 * q; faces = 0 })
   unfolding spec.gridSizes
   grid-are p q ep eq =
       let e : q ≡ spec.quadCount h = eq ∙ mul-comm (xDimension h - 1) (zDimension h - 1) in
-      record { points = ep; corners = ap (λ (n : ℕ). 4 * n) e; indices = ap (λ (n : ℕ). 6 * n) e }
+      record { points = ep; corners = ap (λ (n : ℕ). 4 * n) e; indices = ap (λ (n : ℕ). 6 * n) e; faces = refl }
 
   pub extrusion-are : (k n p q i : ℕ) → k ≡ capLength (sectionOf bs h) → n ≡ spec.capCount h k → p ≡ spineCount h * sectionCount h → q ≡ spec.sideCount h → i ≡ 3 * (k - 2)
-      → Are (spec.extrusionSizes bs h) (record { points = p; corners = 4 * q + n * k; indices = 6 * q + n * i })
+      → Are (spec.extrusionSizes bs h) 0 (record { points = p; corners = 4 * q + n * k; indices = 6 * q + n * i; faces = 0 })
   unfolding spec.extrusionSizes
   extrusion-are k n p q i ek en ep eq ei =
       let m : n ≡ spec.capCount h (capLength (sectionOf bs h)) = en ∙ ap (spec.capCount h) ek in
       let j : i ≡ 3 * (capLength (sectionOf bs h) - 2) = ei ∙ ap (λ (k : ℕ). 3 * (k - 2)) ek in
-      record { points = ep; corners = λ t. 4 * eq t + m t * ek t; indices = λ t. 6 * eq t + m t * j t }
+      record { points = ep; corners = λ t. 4 * eq t + m t * ek t; indices = λ t. 6 * eq t + m t * j t; faces = refl }
 
   -- by kind
-  pub of-kind : (r : Sizes) {k : Kind} → h .kind ≡ k → Are (byKind k (spec.faceSetSizes bs h) (spec.lineSetSizes bs h) (spec.gridSizes h) (spec.extrusionSizes bs h) spec.noSizes) r → Are (spec.sizesOf bs h) r
-  unfolding spec.sizesOf
-  of-kind r e A = subst (λ (k : Kind). Are (byKind k (spec.faceSetSizes bs h) (spec.lineSetSizes bs h) (spec.gridSizes h) (spec.extrusionSizes bs h) spec.noSizes) r) (sym e) A
+  pub of-kind : (r : Sizes) {k : Kind} → h .kind ≡ k
+      → Are (byKind k (spec.faceSetSizes bs h) (spec.lineSetSizes bs h) (spec.gridSizes h) (spec.extrusionSizes bs h) spec.noSizes) (byKind k (setFaces bs h) 0 0 0 0) r → Counted bs h r
+  unfolding spec.sizesOf facesIn
+  of-kind r e A =
+      subst (λ (k : Kind). Are (byKind k (spec.faceSetSizes bs h) (spec.lineSetSizes bs h) (spec.gridSizes h) (spec.extrusionSizes bs h) spec.noSizes) (byKind k (setFaces bs h) 0 0 0 0) r)
+      (sym e) A
 
 -- ---- what is known of each kind
 

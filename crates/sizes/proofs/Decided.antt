@@ -1,20 +1,24 @@
 -- FORMAT 3: the rows 6 and 7 of the table, a row for each return; and what a block has that the rows 1 to 7 let pass.
-use mathlib.Core.Path.{_≡_, refl, sym, _∙_}
+use mathlib.Core.Path.{_≡_, refl, sym, subst, _∙_}
 use mathlib.Core.Bool.{true, false}
 use mathlib.Core.List.{List, _++_}
 use Prim.Native.Nat.{ℕ, zero, suc, _≤_, _<_}
 use native.Mathlib.Omega.{arith}
 use borrow.Author.Tests.{lt-ltb, le-ltb}
 use Rattle.block.specs.declared.header.Header.{Header}
+use Rattle.block.specs.declared.refusal.Refusal.{Refusal}
 use Rattle.block.specs.Header.{headerOf}
 use Rattle.block.specs.Settings.{settingsOf}
 use Rattle.block.specs.Edition.{limitOf}
-use Rattle.block.specs.Refusal.{Taken, blockRows, firstOf}
+use Rattle.block.specs.Refusal.{numberOf, Taken, blockRows, firstOf}
 use Rattle.block.proofs.Table.{Answered, answered-append, none-of, block-answered, taken-of, first-before, first-after}
 use Rattle.mesh.specs.Sizes.{sizesOf, isNoShape, isOverCorners, shapeRows}
 use Rattle.lent.specs.Lent.{Accepted}
 use Rattle.sizes.specs.declared.kinds.Sizes.{Sizes}
-use Rattle.sizes.specs.Known.{Are}
+use Rattle.sizes.specs.declared.refusals.Verdict.{Verdict}
+use Rattle.sizes.specs.declared.refusals.Verdict.the-variants.{Refused, Passed}
+use Rattle.sizes.specs.Judged.{Judged}
+use Rattle.sizes.specs.Known.{Counted}
 
 -- ---- the rows 6 and 7
 
@@ -24,7 +28,7 @@ module _ (bs : List ℕ) (h : Header) where
   row-shape e = rw e
 
   -- w is the limit, and r the sizes
-  module _ (e : isNoShape h ≡ false) (r : Sizes) (A : Are (sizesOf bs h) r) (w : ℕ) (q : w ≡ limitOf (h .edition)) where
+  module _ (e : isNoShape h ≡ false) (r : Sizes) (A : Counted bs h r) (w : ℕ) (q : w ≡ limitOf (h .edition)) where
     pub row-points : w < r .points → 7 ≡ firstOf (shapeRows bs h)
     unfolding shapeRows firstOf isOverCorners
     row-points a = let l : limitOf (h .edition) < sizesOf bs h .points = rw (← q, ← (A .points)) a in rw (e, lt-ltb _ _ l)
@@ -40,6 +44,30 @@ module _ (bs : List ℕ) (h : Header) where
       pub row-none : r .corners ≤ w → 0 ≡ firstOf (shapeRows bs h)
       unfolding shapeRows firstOf isOverCorners
       row-none a = let l : sizesOf bs h .corners ≤ limitOf (h .edition) = rw (← q, ← (A .corners)) a in rw (e, le-ltb _ _ few, le-ltb _ _ l)
+
+-- ---- verdicts
+
+module _ (bs : List ℕ) (h : Header) (n : ℕ) where
+  pub refuse : (a : Refusal) → numberOf a ≡ n → (numberOf a ≡ 0 → ⊥) → Judged bs h n (Refused a)
+  unfolding Judged
+  refuse a e z = (e, z)
+
+  pub pass : (s : Sizes) → n ≡ 0 → Counted bs h s → Judged bs h n (Passed s)
+  unfolding Judged
+  pass s e A = (e, A)
+
+  -- a verdict v that is read
+  module _ (v : Verdict) (J : Judged bs h n v) where
+    pub refused-is : (a : Refusal) → v ≡ Refused a → (numberOf a ≡ n) × (numberOf a ≡ 0 → ⊥)
+    unfolding Judged
+    refused-is a e = rw e at J
+
+    pub passed-is : (s : Sizes) → v ≡ Passed s → (n ≡ 0) × Counted bs h s
+    unfolding Judged
+    passed-is s e = rw e at J
+
+    pub judged-at : (m : ℕ) → n ≡ m → Judged bs h m v
+    judged-at m e = subst (λ (k : ℕ). Judged bs h k v) e J
 
 -- ---- all rows up to 7
 

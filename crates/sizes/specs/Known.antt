@@ -6,8 +6,10 @@ use Prim.Native.Nat.{ℕ, _≤_}
 use lib.ListN.{getD}
 use Rattle.block.specs.declared.header.Header.{Header}
 use Rattle.block.specs.Header.{headerOf}
+use Rattle.block.specs.Kind.{byKind}
 use Rattle.block.specs.Refusal.{Taken}
-use Rattle.mesh.specs.Sizes.{Sizes as Defined, isNoShape}
+use Rattle.block.specs.Runs.{faces, sumOver}
+use Rattle.mesh.specs.Sizes.{Sizes as Defined, coordRuns, listedPoints, sizesOf, isNoShape}
 use Rattle.tables.specs.Layout.{most}
 use Rattle.sizes.specs.declared.kinds.Sizes.{Sizes}
 
@@ -24,8 +26,20 @@ pub record Sides (h : Header) : Type 0 where
   pub length-few : getD (h .counts) 0 0 ≤ most
   pub width-few : getD (h .counts) 1 0 ≤ most
 
--- FORMAT 4: r has the P, C and N of z
-pub record Are (z : Defined) (r : Sizes) : Type 0 where
+-- FORMAT 6.2: how many faces of a face set are kept; of a block of any kind, 0 where it is no face set
+unfoldable pub setFaces : List ℕ → Header → ℕ
+setFaces bs h = sumOver (faces (listedPoints h)) (coordRuns bs h)
+
+unfoldable pub facesIn : List ℕ → Header → ℕ
+facesIn bs h = byKind (h .kind) (setFaces bs h) 0 0 0 0
+
+-- FORMAT 4: r has the P, C and N of z, and f faces
+pub record Are (z : Defined) (f : ℕ) (r : Sizes) : Type 0 where
   pub points : r .points ≡ z .points
   pub corners : r .corners ≡ z .corners
   pub indices : r .indices ≡ z .indices
+  pub faces : r .faces ≡ f
+
+-- FORMAT 4: r is what is counted of the block
+abbrev pub Counted : List ℕ → Header → Sizes → Type 0
+Counted bs h r = Are (sizesOf bs h) (facesIn bs h) r

@@ -5,15 +5,17 @@ ghost use lib.ListN.{getD};
 ghost use Rattle.extrusion.specs.Given.{Given};
 ghost use Rattle.mesh.specs.Sizes as spec;
 ghost use Rattle.tables.specs.Layout.{most};
-ghost use Rattle.sizes.specs.Known.{Sides, Known, Are};
+ghost use Rattle.sizes.specs.Known.{Sides, Known, setFaces, Are, Counted};
 use block::Header;
 use block::Kind;
 use tables::wide;
 
+// They are counted once a call, and handed on: what the tables of a face set are planned by is counted with them.
 pub struct Sizes {
     pub points: usize,
     pub corners: usize,
     pub indices: usize,
+    pub faces: usize,
 }
 
 // The points of a grid or an extrusion, and the quads between them.
@@ -30,7 +32,7 @@ pub fn product(a: u32, b: u32) -> usize
 }
 
 fn face_set_sizes(block: &[u8], h: Header) -> Sizes
-    ensures { λ r. ⌜ Are (spec.faceSetSizes (now (block .entry)) h) r ⌝ }
+    ensures { λ r. ⌜ Are (spec.faceSetSizes (now (block .entry)) h) (setFaces (now (block .entry)) h) r ⌝ }
 {
     let n = h.counts;
     let t = block::face_totals(block::list_part(block, h, 1), n[0]);
@@ -38,11 +40,12 @@ fn face_set_sizes(block: &[u8], h: Header) -> Sizes
         points: wide(n[0]),
         corners: t.corners,
         indices: 3 * t.triangles,
+        faces: t.faces,
     }
 }
 
 fn line_set_sizes(block: &[u8], h: Header) -> Sizes
-    ensures { λ r. ⌜ Are (spec.lineSetSizes (now (block .entry)) h) r ⌝ }
+    ensures { λ r. ⌜ Are (spec.lineSetSizes (now (block .entry)) h) 0 r ⌝ }
 {
     let n = h.counts;
     let t = lines::line_totals(block::list_part(block, h, 1), n[0]);
@@ -50,6 +53,7 @@ fn line_set_sizes(block: &[u8], h: Header) -> Sizes
         points: wide(n[0]),
         corners: t.corners,
         indices: 2 * t.lines,
+        faces: 0,
     }
 }
 
@@ -66,13 +70,14 @@ fn net_of(h: Header) -> Net
 
 fn grid_sizes(h: Header) -> Sizes
     requires { ⌜ Sides h ⌝ }
-    ensures { λ r. ⌜ Are (spec.gridSizes h) r ⌝ }
+    ensures { λ r. ⌜ Are (spec.gridSizes h) 0 r ⌝ }
 {
     let t = net_of(h);
     Sizes {
         points: t.points,
         corners: 4 * t.quads,
         indices: 6 * t.quads,
+        faces: 0,
     }
 }
 
@@ -89,7 +94,7 @@ fn cap_indices(k: usize) -> usize
 
 fn extrusion_sizes(block: &[u8], h: Header) -> Sizes
     requires { ⌜ Given (now block) h × Sides h ⌝ }
-    ensures { λ r. ⌜ Are (spec.extrusionSizes (now (block .entry)) h) r ⌝ }
+    ensures { λ r. ⌜ Are (spec.extrusionSizes (now (block .entry)) h) 0 r ⌝ }
 {
     let k = extrusion::cap_length(block, h);
     let n = extrusion::cap_count(h, k);
@@ -98,13 +103,14 @@ fn extrusion_sizes(block: &[u8], h: Header) -> Sizes
         points: t.points,
         corners: 4 * t.quads + n * k,
         indices: 6 * t.quads + n * cap_indices(k),
+        faces: 0,
     }
 }
 
 // FORMAT 2.2: by kind.
 pub fn sizes_of(block: &[u8], h: Header) -> Sizes
     requires { ⌜ Known (now block) h ⌝ }
-    ensures { λ r. ⌜ Are (spec.sizesOf (now (block .entry)) h) r ⌝ }
+    ensures { λ r. ⌜ Counted (now (block .entry)) h r ⌝ }
 {
     let kind = h.kind;
     match kind {
@@ -116,6 +122,7 @@ pub fn sizes_of(block: &[u8], h: Header) -> Sizes
             points: 0,
             corners: 0,
             indices: 0,
+            faces: 0,
         },
     }
 }

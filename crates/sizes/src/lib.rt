@@ -8,6 +8,6 @@ pub use flags::either;
 pub use flags::flags_of;
 pub use kinds::Sizes;
 pub use kinds::sizes_of;
+pub use refusals::Verdict;
 pub use refusals::is_no_shape;
-pub use refusals::refusal_to_7;
-pub use refusals::shape_refusal;
+pub use refusals::verdict_to_7;

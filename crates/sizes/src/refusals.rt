@@ -2,8 +2,10 @@
 ghost use mathlib.Core.Path.{_≡_};
 ghost use mathlib.Core.List.{_++_};
 ghost use Rattle.block.specs.Header.{headerOf};
-ghost use Rattle.block.specs.Refusal.{Taken, blockRows, firstOf, numberOf};
+ghost use Rattle.block.specs.Refusal.{Taken, blockRows, firstOf};
 ghost use Rattle.mesh.specs.Sizes.{isNoGrid, isNoExtrusion, isNoShape, shapeRows};
+ghost use Rattle.sizes.specs.Judged.{Judged};
+use crate::kinds::Sizes;
 use crate::kinds::product;
 use crate::kinds::sizes_of;
 use block::Header;
@@ -49,33 +51,39 @@ pub fn is_no_shape(h: Header) -> bool
     }
 }
 
-// The first of the rows 6 and 7 that holds, of a block that the rows 1 to 5 let pass.
-pub fn shape_refusal(block: &[u8], h: Header) -> Refusal
+// What the rows tested so far say of a block: the first that holds, or the sizes, which are counted for them.
+pub enum Verdict {
+    Refused(Refusal),
+    Passed(Sizes),
+}
+
+// The rows 6 and 7, of a block that the rows 1 to 5 let pass.
+fn shape_verdict(block: &[u8], h: Header) -> Verdict
     requires { ⌜ (h ≡ headerOf (now block)) × Taken (now block) h ⌝ }
-    ensures { λ r. ⌜ numberOf r ≡ firstOf (shapeRows (now (block .entry)) h) ⌝ }
+    ensures { λ r. ⌜ Judged (now (block .entry)) h (firstOf (shapeRows (now (block .entry)) h)) r ⌝ }
 {
     if is_no_shape(h) {
-        return Refusal::NoShape;
+        return Verdict::Refused(Refusal::NoShape);
     }
     let s = sizes_of(block, h);
     let limit = wide(limit_of(h.edition));
     if limit < s.points {
-        return Refusal::Corners;
+        return Verdict::Refused(Refusal::Corners);
     }
     if limit < s.corners {
-        return Refusal::Corners;
+        return Verdict::Refused(Refusal::Corners);
     }
-    Refusal::Nothing
+    Verdict::Passed(s)
 }
 
-// The first of the rows 1 to 7 that holds.
-pub fn refusal_to_7(block: &[u8], h: Header) -> Refusal
+// The rows 1 to 7.
+pub fn verdict_to_7(block: &[u8], h: Header) -> Verdict
     requires { ⌜ h ≡ headerOf (now block) ⌝ }
-    ensures { λ r. ⌜ numberOf r ≡ firstOf (blockRows (now (block .entry)) h ++ shapeRows (now (block .entry)) h) ⌝ }
+    ensures { λ r. ⌜ Judged (now (block .entry)) h (firstOf (blockRows (now (block .entry)) h ++ shapeRows (now (block .entry)) h)) r ⌝ }
 {
     let first = block::refusal_of(block, h);
     if block::is_taken(first) {
-        return shape_refusal(block, h);
+        return shape_verdict(block, h);
     }
-    first
+    Verdict::Refused(first)
 }

@@ -9,7 +9,8 @@ enum-told c = search needs
 make-face-set-requires : tie.Need-make-face-set-requires
 make-face-set-requires c κs =
     let c8 = c .before .before .before .before .before .before .before .before in
-    asked-at (c8 .before .before .before .before .before .before .before .before .before .before .before .pre) (c8 .enum-told .given .1)
+    let c19 = c8 .before .before .before .before .before .before .before .before .before .before .before in
+    (asked-at (c19 .pre .0) (c8 .enum-told .given .1), c19 .pre .1)
 
 same-length : tie.Need-same-length
 same-length c = search needs
@@ -41,7 +42,8 @@ enum-told-2 c = search needs
 make-line-set-requires : tie.Need-make-line-set-requires
 make-line-set-requires c κs =
     let c8 = c .before .before .before .before .before .before .before .before in
-    asked-lines (c8 .before .before .before .before .before .before .before .before .before .before .before .pre) (c8 .enum-told2 .given .1)
+    let c19 = c8 .before .before .before .before .before .before .before .before .before .before .before in
+    (asked-lines (c19 .pre .0) (c8 .enum-told2 .given .1), c19 .pre .1 .corners)
 
 same-length-9 : tie.Need-same-length-9
 same-length-9 c = search needs
@@ -73,7 +75,7 @@ enum-told-3 c = search needs
 make-grid-requires : tie.Need-make-grid-requires
 make-grid-requires c κs =
     let c8 = c .before .before .before .before .before .before .before .before in
-    asked-at (c8 .before .before .before .before .before .before .before .before .before .before .before .pre) (c8 .enum-told3 .given .1)
+    asked-at (c8 .before .before .before .before .before .before .before .before .before .before .before .pre .0) (c8 .enum-told3 .given .1)
 
 same-length-17 : tie.Need-same-length-17
 same-length-17 c = search needs
@@ -105,7 +107,7 @@ enum-told-4 c = search needs
 make-extrusion-requires : tie.Need-make-extrusion-requires
 make-extrusion-requires c κs =
     let c8 = c .before .before .before .before .before .before .before .before in
-    asked-at (c8 .before .before .before .before .before .before .before .before .before .before .before .pre) (c8 .enum-told4 .given .1)
+    asked-at (c8 .before .before .before .before .before .before .before .before .before .before .before .pre .0) (c8 .enum-told4 .given .1)
 
 same-length-25 : tie.Need-same-length-25
 same-length-25 c = search needs
@@ -138,28 +140,28 @@ returns : tie.Need-returns
 returns c =
     let c16 = c .before .before .before .before .before .before .before .before .before .before .before .before .before .before .before .before in
     let c25 = c16 .before .before .before .before .before .before .before .before .before in
-    shaped-at (c25 .before .before .before .before .before .before .before .before .before .before .before .pre) _ (c25 .enum-told .given .1) _ _ _ _ _ _ (c16 .make-face-set .ensures)
+    shaped-at (c25 .before .before .before .before .before .before .before .before .before .before .before .pre .0) _ (c25 .enum-told .given .1) _ _ _ _ _ _ (c16 .make-face-set .ensures)
 
 returns-2 : tie.Need-returns-2
 returns-2 c =
     let c16 = c .before .before .before .before .before .before .before .before .before .before .before .before .before .before .before .before in
     let c25 = c16 .before .before .before .before .before .before .before .before .before in
-    shaped-at (c25 .before .before .before .before .before .before .before .before .before .before .before .pre) _ (c25 .enum-told2 .given .1) _ _ _ _ _ _ (c16 .make-line-set .ensures)
+    shaped-at (c25 .before .before .before .before .before .before .before .before .before .before .before .pre .0) _ (c25 .enum-told2 .given .1) _ _ _ _ _ _ (c16 .make-line-set .ensures)
 
 returns-3 : tie.Need-returns-3
 returns-3 c =
     let c16 = c .before .before .before .before .before .before .before .before .before .before .before .before .before .before .before .before in
     let c25 = c16 .before .before .before .before .before .before .before .before .before in
-    shaped-at (c25 .before .before .before .before .before .before .before .before .before .before .before .pre) _ (c25 .enum-told3 .given .1) _ _ _ _ _ _ (c16 .make-grid .ensures)
+    shaped-at (c25 .before .before .before .before .before .before .before .before .before .before .before .pre .0) _ (c25 .enum-told3 .given .1) _ _ _ _ _ _ (c16 .make-grid .ensures)
 
 returns-4 : tie.Need-returns-4
 returns-4 c =
     let c16 = c .before .before .before .before .before .before .before .before .before .before .before .before .before .before .before .before in
     let c25 = c16 .before .before .before .before .before .before .before .before .before in
-    shaped-at (c25 .before .before .before .before .before .before .before .before .before .before .before .pre) _ (c25 .enum-told4 .given .1) _ _ _ _ _ _ (c16 .make-extrusion .ensures)
+    shaped-at (c25 .before .before .before .before .before .before .before .before .before .before .before .pre .0) _ (c25 .enum-told4 .given .1) _ _ _ _ _ _ (c16 .make-extrusion .ensures)
 
 returns-5 : tie.Need-returns-5
-returns-5 c = no-other (c .before .before .before .before .before .before .before .before .before .before .before .pre) (c .enum-told5 .given .1)
+returns-5 c = no-other (c .before .before .before .before .before .before .before .before .before .before .before .pre .0) (c .enum-told5 .given .1)
 
 pub make-kind-spec : {M : Type 1} → statement M
 make-kind-spec = tie.close (tie.spec enum-told make-face-set-requires enum-told-2 make-line-set-requires enum-told-3 make-grid-requires enum-told-4 make-extrusion-requires enum-told-5 same-length same-length-2 same-length-3 same-length-4 same-length-5 same-length-6 same-length-7 same-length-8 returns same-length-9 same-length-10 same-length-11 same-length-12 same-length-13 same-length-14 same-length-15 same-length-16 returns-2 same-length-17 same-length-18 same-length-19 same-length-20 same-length-21 same-length-22 same-length-23 same-length-24 returns-3 same-length-25 same-length-26 same-length-27 same-length-28 same-length-29 same-length-30 same-length-31 same-length-32 returns-4 returns-5)

@@ -1,22 +1,25 @@
 use mathlib.Core.Path.{sym, _∙_}
-use borrow.Author.Tests.{eqb-true, eqb-false}
+use Rattle.sizes.proofs.Decided.{refused-is, passed-is}
 use Rattle.geometry.specs.Converted.{lengthsOf}
 use Rattle.geometry.proofs.Calls.{refused-call}
 use borrow.Author.Needs.{needs}
 use Rattle.geometry.proofs.whole.answer_call.Statement.{statement}
 use Rattle.geometry.proofs.whole.answer_call.Tie as tie
 
-refusal-for-requires : tie.Need-refusal-for-requires
-refusal-for-requires c κs = search needs
+read-header-requires : tie.Need-read-header-requires
+read-header-requires c κs = search needs
 
-is-taken-requires : tie.Need-is-taken-requires
-is-taken-requires c κs = search needs
+verdict-for-requires : tie.Need-verdict-for-requires
+verdict-for-requires c κs = c .read-header .ensures
+
+enum-known-verdict : tie.Need-enum-known-verdict
+enum-known-verdict c = search needs
 
 make-requires : tie.Need-make-requires
 unfolding lengthsOf
 make-requires c κs =
-    let c8 = c .before .before .before .before .before .before .before .before in
-    sym (c8 .before .before .refusal-for .ensures) ∙ eqb-true _ _ (sym (c8 .before .is-taken .ensures) ∙ c8 .if1 .taken)
+    let c9 = c .before .before .before .before .before .before .before .before .before in
+    let p = passed-is _ _ _ _ (c9 .before .before .verdict-for .ensures) _ (c9 .verdict .given .1) in (c9 .before .before .before .read-header .ensures, p .1, p .0)
 
 same-length : tie.Need-same-length
 same-length c = search needs
@@ -45,9 +48,12 @@ same-length-8 c = search needs
 returns : tie.Need-returns
 returns c = c .before .before .before .before .before .before .before .before .before .before .before .before .before .before .before .before .make .ensures
 
+enum-known-verdict-2 : tie.Need-enum-known-verdict-2
+enum-known-verdict-2 c = search needs
+
 returns-2 : tie.Need-returns-2
 unfolding lengthsOf
-returns-2 c = refused-call _ _ _ _ (c .before .before .refusal-for .ensures) (eqb-false _ _ (sym (c .before .is-taken .ensures) ∙ c .if1 .left))
+returns-2 c = let r = refused-is _ _ _ _ (c .before .before .before .verdict-for .ensures) _ (c .before .verdict2 .given .1) in refused-call _ _ _ _ (r .0) (r .1)
 
 pub answer-call-spec : {M : Type 1} → statement M
-answer-call-spec = tie.close (tie.spec refusal-for-requires is-taken-requires make-requires same-length same-length-2 same-length-3 same-length-4 same-length-5 same-length-6 same-length-7 same-length-8 returns returns-2)
+answer-call-spec = tie.close (tie.spec read-header-requires verdict-for-requires enum-known-verdict make-requires enum-known-verdict-2 same-length same-length-2 same-length-3 same-length-4 same-length-5 same-length-6 same-length-7 same-length-8 returns returns-2)

@@ -5,16 +5,14 @@ use borrow.Author.Needs.{needs}
 use Rattle.geometry.proofs.whole.make.Statement.{statement}
 use Rattle.geometry.proofs.whole.make.Tie as tie
 
-read-header-requires : tie.Need-read-header-requires
-read-header-requires c κs = search needs
-
 read-settings-requires : tie.Need-read-settings-requires
 read-settings-requires c κs = search needs
 
 make-kind-requires : tie.Need-make-kind-requires
 make-kind-requires c κs =
     let c9 = c .before .before .before .before .before .before .before .before .before in
-    asked-by _ _ _ _ (c9 .before .read-header .ensures) (c9 .read-settings .ensures) (c9 .before .before .before .before .before .before .before .before .before .before .before .pre)
+    let c19 = c9 .before .before .before .before .before .before .before .before .before .before in
+    (asked-by _ _ _ _ (c19 .pre .0) (c9 .read-settings .ensures) (c19 .pre .2), c19 .pre .1)
 
 flags-of-requires : tie.Need-flags-of-requires
 flags-of-requires c κs = search needs
@@ -46,8 +44,8 @@ same-length-8 c = search needs
 returns : tie.Need-returns
 returns c =
     let c17 = c .before .before .before .before .before .before .before .before .before .before .before .before .before .before .before .before .before in
-    let c28 = c17 .before .before .before .before .before .before .before .before .before .before .before in
-    made-call _ _ _ _ _ _ (c28 .before .before .before .before .before .before .before .before .before .before .pre) _ _ (c28 .read-header .ensures) refl (c17 .make-kind .ensures) (c .flags-of .ensures)
+    let c37 = c17 .before .before .before .before .before .before .before .before .before .before .before .before .before .before .before .before .before .before .before .before in
+    made-call _ _ _ _ _ _ (c37 .pre .2) _ _ (c37 .pre .0) refl (c17 .make-kind .ensures) (c .flags-of .ensures)
 
 pub make-spec : {M : Type 1} → statement M
-make-spec = tie.close (tie.spec read-header-requires read-settings-requires make-kind-requires flags-of-requires same-length same-length-2 same-length-3 same-length-4 same-length-5 same-length-6 same-length-7 same-length-8 returns)
+make-spec = tie.close (tie.spec read-settings-requires make-kind-requires flags-of-requires same-length same-length-2 same-length-3 same-length-4 same-length-5 same-length-6 same-length-7 same-length-8 returns)

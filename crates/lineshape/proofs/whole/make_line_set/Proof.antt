@@ -1,4 +1,4 @@
-use Rattle.lineshape.proofs.Bounds.{points-low, points-in, corners-low, laid-at, entries-short}
+use Rattle.lineshape.proofs.Bounds.{points-low, points-in, count-low, tables-are, laid-at, entries-short}
 use Rattle.lineshape.proofs.Readying.{ready, shaped}
 use borrow.Author.Needs.{needs}
 use Rattle.lineshape.proofs.whole.make_line_set.Statement.{statement}
@@ -16,14 +16,14 @@ list-part-requires-2 c κs = search needs
 line-tables-requires : tie.Need-line-tables-requires
 line-tables-requires c κs =
     let c12 = c .before .before .before .before .before .before .before .before .before .before .before .before in
-    (points-low (c12 .pre), corners-low (c12 .pre) (c .list-part2 .ensures))
+    (points-low (c12 .pre .0), count-low (c12 .pre .0) (c .list-part2 .ensures) (c12 .pre .1))
 
 put-tables-requires : tie.Need-put-tables-requires
 put-tables-requires c κs =
-    let c1 = c .before in
-    let c2 = c1 .before in
+    let c2 = c .before .before in
     let c14 = c2 .before .before .before .before .before .before .before .before .before .before .before .before in
-    (c1 .line-tables .ensures, laid-at (c14 .pre) (c2 .list-part2 .ensures) (c1 .line-tables .ensures), points-low (c14 .pre), points-in (c14 .pre) (c2 .before .list-part .ensures), entries-short (c14 .pre) (c2 .list-part2 .ensures))
+    let e = tables-are (c14 .pre .0) (c2 .list-part2 .ensures) (c14 .pre .1) (c .before .line-tables .ensures) in
+    (e, laid-at (c14 .pre .0) (c2 .list-part2 .ensures) e, points-low (c14 .pre .0), points-in (c14 .pre .0) (c2 .before .list-part .ensures), entries-short (c14 .pre .0) (c2 .list-part2 .ensures))
 
 attributes-of-requires : tie.Need-attributes-of-requires
 attributes-of-requires c κs = search needs
@@ -38,7 +38,8 @@ make-lines-requires c κs =
     let c14 = c12 .before .before in
     let c15 = c14 .before in
     let c27 = c15 .before .before .before .before .before .before .before .before .before .before .before .before in
-    ready (c27 .args .missing) _ (c27 .pre) (c15 .before .list-part .ensures) (c15 .list-part2 .ensures) (c14 .line-tables .ensures) (c12 .put-tables .ensures) (c8 .before .attributes-of .ensures) (c8 .line-widths .ensures)
+    let e = tables-are (c27 .pre .0) (c15 .list-part2 .ensures) (c27 .pre .1) (c14 .line-tables .ensures) in
+    ready (c27 .args .missing) _ (c27 .pre .0) (c15 .before .list-part .ensures) (c15 .list-part2 .ensures) e (c12 .put-tables .ensures) (c8 .before .attributes-of .ensures) (c8 .line-widths .ensures)
 
 same-length : tie.Need-same-length
 same-length c = search needs
@@ -72,7 +73,8 @@ returns c =
     let c31 = c29 .before .before in
     let c32 = c31 .before in
     let c44 = c32 .before .before .before .before .before .before .before .before .before .before .before .before in
-    shaped (c44 .args .missing) _ (c44 .pre) (c32 .before .list-part .ensures) (c32 .list-part2 .ensures) (c31 .line-tables .ensures) (c29 .put-tables .ensures) (c25 .before .attributes-of .ensures) (c25 .line-widths .ensures) (c16 .make-lines .ensures)
+    let e = tables-are (c44 .pre .0) (c32 .list-part2 .ensures) (c44 .pre .1) (c31 .line-tables .ensures) in
+    shaped (c44 .args .missing) _ (c44 .pre .0) (c32 .before .list-part .ensures) (c32 .list-part2 .ensures) e (c29 .put-tables .ensures) (c25 .before .attributes-of .ensures) (c25 .line-widths .ensures) (c16 .make-lines .ensures)
 
 pub make-line-set-spec : {M : Type 1} → statement M
 make-line-set-spec =

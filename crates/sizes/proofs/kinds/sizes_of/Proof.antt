@@ -44,7 +44,7 @@ returns-4 : tie.Need-returns-4
 returns-4 c = of-kind _ _ _ (c .before .enum-told4 .given .1) (c .extrusion-sizes .ensures)
 
 returns-5 : tie.Need-returns-5
-returns-5 c = of-kind _ _ _ (c .enum-told5 .given .1) (record { points = refl; corners = refl; indices = refl })
+returns-5 c = of-kind _ _ _ (c .enum-told5 .given .1) (record { points = refl; corners = refl; indices = refl; faces = refl })
 
 pub sizes-of-spec : {M : Type 1} → statement M
 sizes-of-spec = tie.close (tie.spec enum-told face-set-sizes-requires enum-told-2 line-set-sizes-requires enum-told-3 grid-sizes-requires enum-told-4 extrusion-sizes-requires enum-told-5 returns returns-2 returns-3 returns-4 returns-5)
