@@ -1,6 +1,5 @@
--- What an accepted extrusion gives, what is left in its tables, the join to the mesh's definition, what each call asks, and a worked case.
+-- What an accepted extrusion gives, what is written to its tables, that it is a shape, and a worked case.
 mod Bounds
 mod Tabling
-mod Telling
-mod Readying
+mod Shapes
 mod Rows

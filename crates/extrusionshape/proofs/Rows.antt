@@ -1,10 +1,8 @@
 -- FORMAT 3, 4, worked: a prism over a closed triangle, with both caps and texture wanted, and slices just long enough, meets what is asked.
-use mathlib.Core.Path.{_≡_, refl, sym, subst}
+use mathlib.Core.Path.{_≡_, refl}
 use mathlib.Core.Bool.{false}
 use mathlib.Core.List.{List, [], _∷_}
-use native.Mathlib.Omega.{arith}
 use Prim.Native.Nat.{ℕ}
-use lib.ListN.{replicate}
 use lib.Ieee.{ofBits, eq}
 use Rattle.bits.specs.Bits.{field}
 use Rattle.block.specs.Edition.{edition1, editionOf}
@@ -14,14 +12,13 @@ use Rattle.block.specs.Lists.{widths, wordsIn, wordCount, listSize, listAt, pla
 use Rattle.block.specs.Runs.{allBelow}
 use Rattle.block.specs.Refusal.{blockRows, firstOf}
 use Rattle.block.specs.Settings.{settingsOf}
-use Rattle.block.proofs.Table.{taken-of}
 use Rattle.block.proofs.TableRows.{bytesOf, oneWord, number}
 use Rattle.lists.specs.Loops.{tab}
-use Rattle.mesh.specs.Mesh.{Slices}
 use Rattle.mesh.specs.Arcs.{at2}
 use Rattle.mesh.specs.Extrusion.{sectionOf, closes, capLength}
-use Rattle.mesh.specs.Sizes.{Sizes, extrusionSizes, sizesOf, isNoShape, isOverCorners}
-use Rattle.lent.specs.Lent.{Asked, Accepted, Enough}
+use Rattle.mesh.specs.Sizes.{extrusionSizes, sizesOf, isNoShape, isOverCorners}
+use Rattle.lent.specs.Lent.{Asked}
+use Rattle.lent.proofs.Just.{just, just-asked}
 
 -- the five words of the header, the twelve of the settings, 2 spine points, and 4 points of the cross-section
 abbrev prism : List ℕ
@@ -43,31 +40,5 @@ sizes : (sizesOf prism (headerOf prism) ≡ record { points = 8; corners = 18; i
 unfolding sizesOf extrusionSizes isNoShape isOverCorners sectionOf capLength closes at2 tab headerOf countsOf editionOf edition1 placeOf listAt listSize widths wordsIn field ofBits eq
 sizes = (refl, refl, refl, refl)
 
-accepted : Accepted prism (headerOf prism) (settingsOf prism)
-accepted = record {
-  header = refl;
-  settings = refl;
-  taken = taken-of prism (headerOf prism) taken;
-  shape = sizes .1;
-  corners = sizes .2;
-}
-
-abbrev slices : Slices
-slices = record { sources = replicate 18 7; positions = replicate 54 7; normals = replicate 54 7; colours = replicate 72 7; textures = replicate 36 7; indices = replicate 24 7 }
-
-pub met : Asked Extrusion prism (headerOf prism) (settingsOf prism) slices 216 216
-met = record {
-  accepted = accepted;
-  kind = sizes .3;
-  enough = subst (λ (z : Sizes). Enough z slices 216 216) (sym (sizes .0))
-      (record {
-        positions = omega arith;
-        normals = omega arith;
-        colours = omega arith;
-        textures = omega arith;
-        sources = omega arith;
-        indices = omega arith;
-        words = omega arith;
-        floats = omega arith;
-      });
-}
+pub met : Asked Extrusion prism (headerOf prism) (settingsOf prism) (just (record { points = 8; corners = 18; indices = 24 })) 216 216
+met = just-asked taken (sizes .3) (sizes .0) (sizes .1) (sizes .2)

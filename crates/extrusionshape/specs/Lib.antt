@@ -1,2 +1,2 @@
--- What is asked for an extrusion, and what its tables hold.
+-- The plan of an extrusion, what is listed of it, and its texture.
 pub mod Shape

@@ -3,13 +3,16 @@ ghost use mathlib.Core.Path.{_≡_};
 ghost use Prim.Native.Nat.{_+_, _*_, _≤_};
 ghost use lib.ListN.{length};
 ghost use Rattle.block.specs.Settings.{settingsOf};
-ghost use Rattle.mesh.specs.Extrusion.{spineCount, sectionCount};
+ghost use Rattle.mesh.specs.Extrusion.{spineCount, sectionCount, extrusionOf, extrusionPoints};
 ghost use Rattle.extrusion.specs.Given.{Given};
 ghost use Rattle.extrusion.specs.Listings.{Planned};
 ghost use Rattle.extrusion.specs.Corners.{Cornered};
-ghost use Rattle.extrusionshape.specs.Shape.{ArcsAt, Tabled, TexturesAt};
+ghost use Rattle.shaping.specs.Shared.{plainWidths};
+ghost use Rattle.shaping.specs.Tabled.{Tabled, TexturesAt};
+ghost use Rattle.extrusionshape.specs.Shape.{listingsFor, ArcsAt, textureOf};
 use block::Header;
 use block::Settings;
+use build::Shared;
 use extrusion::cap_fit;
 use extrusion::list_faces;
 use extrusion::put_arcs;
@@ -34,18 +37,22 @@ pub fn put_tables(
     h: Header,
     s: Settings,
     cap: usize,
+    shared: Shared,
     t: Plan,
     work: &mut [u32],
     floats: &mut [f32],
 )
     requires { ⌜ Given (now block) h × Planned h cap (length (now work)) t × (3 * t .count + (sectionCount h + spineCount h) ≤ length (now floats)) ⌝ }
-    ensures { λ _. ⌜ Tabled (now (block .entry)) h s cap t (now (work .entry)) (now (work .exit)) (now (floats .entry)) (now (floats .exit)) ⌝ }
+    ensures { λ _. ⌜ Tabled (extrusionPoints (extrusionOf (now (block .entry)))) (listingsFor h cap) shared (s .crease) t
+        (now (work .entry)) (now (work .exit)) (now (floats .entry)) (now (floats .exit))
+        × ArcsAt (now (block .entry)) h (now (floats .exit)) (3 * t .count) ⌝ }
 {
     arcs_where(block, h, t, floats);
     put_points(block, h, work, t.points);
     list_faces(h, cap, work, t);
     let rule = s.crease;
-    prepare(work, t, false, h.ccw, rule, floats);
+    let attributes = shared.attributes;
+    prepare(work, t, attributes.supplied, shared.ccw, rule, floats);
 }
 
 // The table of texture, where texture is wanted.
@@ -53,13 +60,14 @@ pub fn texture_where(
     block: &[u8],
     h: Header,
     s: Settings,
+    shared: Shared,
     t: Plan,
     floats: &[f32],
     work: &mut [u32],
 )
-    requires { ⌜ Given (now block) h × (s ≡ settingsOf (now block)) × ArcsAt (now block) h (now floats) (3 * t .count)
+    requires { ⌜ Given (now block) h × (s ≡ settingsOf (now block)) × (shared .widths ≡ plainWidths h) × ArcsAt (now block) h (now floats) (3 * t .count)
         × (3 * t .count ≤ length (now floats)) × Cornered h (t .corners) (t .owners) (t .owners + t .count) (t .count) (now work) ⌝ }
-    ensures { λ _. ⌜ TexturesAt (now (block .entry)) h t (now (work .entry)) (now (work .exit)) ⌝ }
+    ensures { λ _. ⌜ TexturesAt shared (textureOf (now (block .entry))) t (now (work .entry)) (now (work .exit)) ⌝ }
 {
     if h.need_uvs {
         let fit = cap_fit(block, h);

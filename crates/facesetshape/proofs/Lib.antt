@@ -1,6 +1,5 @@
--- What an accepted face set gives, what its tables hold, the join to the mesh's definition, what `build` asks, and a worked case.
-pub mod Bounds
-pub mod Tabling
-pub mod Telling
-pub mod Readying
+-- What an accepted face set gives, what is written to its tables, that it is a shape, and a worked case.
+mod Bounds
+mod Tabling
+mod Shapes
 mod Rows

@@ -1,2 +1,2 @@
--- What is asked for a face set, and what its tables hold.
+-- The plan of a face set, what is listed of it, and its texture.
 pub mod Shape

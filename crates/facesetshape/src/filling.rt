@@ -8,41 +8,44 @@ ghost use Rattle.mesh.specs.Sizes.{listedPoints};
 ghost use Rattle.mesh.specs.Texture.{fitOf};
 ghost use Rattle.tables.specs.Soups.{pointsIn};
 ghost use Rattle.faceset.specs.Passing.{Planned};
-ghost use Rattle.facesetshape.specs.Shape.{Tabled, Placed, TexturesAt};
+ghost use Rattle.shaping.specs.Tabled.{Tabled, TexturesAt};
+ghost use Rattle.facesetshape.specs.Shape.{faceSetListings, faceSetTexture, Placed};
 use block::Header;
 use block::Settings;
 use block::list_part;
+use build::Shared;
 use faceset::list_faces;
 use faceset::put_points;
 use mesh::Fit;
-use soups::face_widths;
 use soups::prepare;
 use tables::Plan;
 use texture::fit_of;
 use texture::put_textures;
 
 // All tables but that of texture.
-pub fn put_tables(
-    block: &[u8],
+pub fn put_tables<'a>(
+    block: &'a [u8],
+    coord: &'a [u8],
     h: Header,
     s: Settings,
+    shared: Shared,
     t: Plan,
     work: &mut [u32],
     floats: &mut [f32],
 )
-    requires { ⌜ Planned (listedPoints h) (listBytes (now block) h 1) (length (now work)) t
+    requires { ⌜ (now coord ≡ listBytes (now block) h 1) × Planned (listedPoints h) (now coord) (length (now work)) t
         × (3 * listedPoints h ≤ length (listBytes (now block) h 0) / 4) × (take (3 * listedPoints h) (entries (listBytes (now block) h 0)) ≡ entries (listBytes (now block) h 0))
         × (3 * t .count ≤ length (now floats)) ⌝ }
-    ensures { λ _. ⌜ Tabled (now (block .entry)) h s t (now (work .entry)) (now (work .exit)) (now (floats .entry)) (now (floats .exit)) ⌝ }
+    ensures { λ _. ⌜ Tabled (entries (listBytes (now (block .entry)) h 0)) (faceSetListings (now (block .entry)) h) shared (s .crease) t (now (work .entry)) (now (work .exit)) (now (floats .entry)) (now (floats .exit)) ⌝ }
 {
     let counts = h.counts;
     let points = counts[0];
     let list = list_part(block, h, 0);
-    let coord = list_part(block, h, 1);
     put_points(list, work, t.points, 3 * t.spots);
     list_faces(coord, points, work, t);
     let rule = s.crease;
-    prepare(work, t, h.normals, h.ccw, rule, floats);
+    let attributes = shared.attributes;
+    prepare(work, t, attributes.supplied, shared.ccw, rule, floats);
 }
 
 // FORMAT 7.4: how the points in the tables fit.
@@ -56,15 +59,22 @@ fn fit_in(work: &[u32], t: Plan) -> Fit
 }
 
 // The table of texture, where texture is made.
-pub fn texture_where(block: &[u8], h: Header, s: Settings, t: Plan, work: &mut [u32])
-    requires { ⌜ Placed (now block) h t (now work) ⌝ }
-    ensures { λ _. ⌜ TexturesAt (now (block .entry)) h s t (now (work .entry)) (now (work .exit)) ⌝ }
+pub fn texture_where<'a>(
+    block: &'a [u8],
+    coord: &'a [u8],
+    h: Header,
+    s: Settings,
+    shared: Shared,
+    t: Plan,
+    work: &mut [u32],
+)
+    requires { ⌜ (now coord ≡ listBytes (now block) h 1) × Placed (now block) h t (now work) ⌝ }
+    ensures { λ _. ⌜ TexturesAt shared (faceSetTexture (now (block .entry)) h s) t (now (work .entry)) (now (work .exit)) ⌝ }
 {
-    let widths = face_widths(h);
+    let widths = shared.widths;
     if widths.texture == 0 {
         return;
     }
-    let coord = list_part(block, h, 1);
     let fit = fit_in(work, t);
     put_textures(
         block,

@@ -1,37 +1,20 @@
 // FORMAT 8.1, indexed_face_set: all of it.
 ghost use Rattle.block.specs.declared.kind.Kind.the-variants.{FaceSet};
-ghost use mathlib.Core.Path.{_≡_};
 ghost use lib.ListN.{length};
 ghost use Rattle.mesh.specs.FaceSet.{faceSetMesh};
 ghost use Rattle.lent.specs.Lent.{Asked, Shaped, Cleared};
 ghost use Rattle.sizes.specs.Known.{Counted};
-ghost use Rattle.facesetshape.specs.Shape.{faceSetShared};
 use crate::filling::put_tables;
 use crate::filling::texture_where;
 use bits::Words4;
 use block::Header;
 use block::Settings;
 use block::list_part;
-use build::Shared;
 use build::build;
 use lent::Counts;
+use shaping::listed_shared;
 use sizes::Sizes;
-use soups::attributes_of;
-use soups::face_widths;
 use tables::plan_of;
-
-fn shared_of(h: Header, missing: Words4) -> Shared
-    ensures { λ r. ⌜ r ≡ faceSetShared missing h ⌝ }
-{
-    let widths = face_widths(h);
-    let attributes = attributes_of(h, missing);
-    Shared {
-        ccw: h.ccw,
-        convex: h.convex,
-        widths,
-        attributes,
-    }
-}
 
 // The mesh of an accepted face set of the sizes z, into the six slices; the working slices are left with zeros.
 pub fn make_face_set(
@@ -58,10 +41,10 @@ pub fn make_face_set(
         r × Cleared (now (work .entry)) (now (work .exit)) (now (floats .entry)) (now (floats .exit)) ⌝ }
 {
     let t = plan_of(z.points, z.corners, z.faces);
-    put_tables(block, h, s, t, work, floats);
-    texture_where(block, h, s, t, work);
-    let shared = shared_of(h, missing);
+    let shared = listed_shared(h, missing, h.convex);
     let coord = list_part(block, h, 1);
+    put_tables(block, coord, h, s, shared, t, work, floats);
+    texture_where(block, coord, h, s, shared, t, work);
     build(
         block,
         coord,

@@ -1,6 +1,4 @@
--- What an accepted grid gives, the join to the mesh's definition, what each call asks, and a worked case.
+-- What an accepted grid gives, that it is a shape, and a worked case.
 mod Bounds
-mod Tabling
-mod Telling
-mod Readying
+mod Shapes
 mod Rows

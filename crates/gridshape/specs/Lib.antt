@@ -1,2 +1,2 @@
--- What is asked for a grid, and what its tables hold.
+-- The plan of a grid, and its texture.
 pub mod Shape

@@ -1,37 +1,19 @@
 // FORMAT 8.3, elevation_grid: all of it.
 ghost use Rattle.block.specs.declared.kind.Kind.the-variants.{Grid};
-ghost use mathlib.Core.Path.{_≡_};
 ghost use lib.ListN.{length};
 ghost use Rattle.mesh.specs.Grid.{gridMesh};
 ghost use Rattle.lent.specs.Lent.{Asked, Shaped, Cleared};
-ghost use Rattle.gridshape.specs.Shape.{gridShared};
 use crate::filling::plan_grid;
 use crate::filling::put_tables;
 use crate::filling::texture_where;
 use bits::Words4;
 use block::Header;
 use block::Settings;
-use build::Shared;
 use build::build;
 use lent::Counts;
-use soups::attributes_of;
-use soups::face_widths;
+use shaping::listed_shared;
 
-// A grid is always convex.
-fn shared_of(h: Header, missing: Words4) -> Shared
-    ensures { λ r. ⌜ r ≡ gridShared missing h ⌝ }
-{
-    let widths = face_widths(h);
-    let attributes = attributes_of(h, missing);
-    Shared {
-        ccw: h.ccw,
-        convex: true,
-        widths,
-        attributes,
-    }
-}
-
-// The mesh of an accepted grid, into the six slices; the working slices are left with zeros. A grid has no coordIndex.
+// The mesh of an accepted grid, into the six slices; the working slices are left with zeros. A grid is always convex, and has no coordIndex.
 pub fn make_grid(
     block: &[u8],
     h: Header,
@@ -55,10 +37,10 @@ pub fn make_grid(
         r × Cleared (now (work .entry)) (now (work .exit)) (now (floats .entry)) (now (floats .exit)) ⌝ }
 {
     let t = plan_grid(h);
-    put_tables(block, h, s, t, work, floats);
-    texture_where(block, h, s, t, work);
-    let shared = shared_of(h, missing);
+    let shared = listed_shared(h, missing, true);
     let coord = bits::part(block, 0, 0);
+    put_tables(block, h, s, shared, t, work, floats);
+    texture_where(block, h, s, shared, t, work);
     build(
         block,
         coord,

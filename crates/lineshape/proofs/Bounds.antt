@@ -3,15 +3,13 @@ use mathlib.Core.Path.{_≡_, refl, sym, ap, _∙_, subst}
 use mathlib.Core.Bool.{false}
 use mathlib.Core.List.{List}
 use Prim.Native.Nat.{ℕ, _*_, _/_, _^_, _≤_}
-use native.Mathlib.Omega.{arith}
 use lib.ListN.{length, take}
-use lib.Seq.{take-all}
 use Rattle.bits.specs.Bits.{entries}
 use Rattle.block.specs.declared.kind.Kind.the-variants.{LineSet}
 use Rattle.block.specs.declared.header.Header.{Header}
-use Rattle.block.specs.Lists.{setWidths, listSize, listBytes}
+use Rattle.block.specs.Lists.{listBytes}
 use Rattle.block.specs.Runs.{runs, sumOver}
-use Rattle.block.proofs.ListLaws.{widths-of, size-by, list-length, list-entries}
+use Rattle.block.proofs.ListLaws.{widths-of}
 use Rattle.mesh.specs.Mesh.{Slices}
 use Rattle.mesh.specs.FaceSet.{coordIn}
 use Rattle.mesh.specs.Sizes.{Sizes, listedPoints, named, linesAfter, lineSetSizes, sizesOf}
@@ -20,7 +18,8 @@ use Rattle.corners.specs.declared.laid.CornerTables.{CornerTables}
 use Rattle.corners.specs.Laid.{Laid}
 use Rattle.block.specs.Settings.{settingsOf}
 use Rattle.lent.specs.Lent.{Asked, Enough}
-use Rattle.lent.proofs.Accepts.{sizes-low}
+use Rattle.lent.proofs.Accepts.{low-by, enough-by}
+use Rattle.lent.proofs.Points.{points-in, points-all}
 use Rattle.lines.proofs.Counts.{coord-short}
 use Rattle.lineshape.specs.Shape.{tablesFor, lineTables}
 use Rattle.lineshape.proofs.Tabling.{tables-laid}
@@ -36,21 +35,14 @@ module _ {bs : List ℕ} {h : Header} {o : Slices} {w f : ℕ} (A : Asked LineSe
 
   pub points-low : listedPoints h ≤ most
   unfolding lineSetSizes
-  points-low = subst (λ (z : Sizes). z .points ≤ most) sizes-are (sizes-low (A .accepted) .0)
-
-  -- FORMAT 2.4: the points, three words each, are all of their list
-  points-size : listSize h 0 ≡ 3 * listedPoints h
-  points-size = size-by h (setWidths (h .alpha)) 0 (widths-of h (A .kind))
+  points-low = low-by A sizes-are .0
 
   module _ {list : List ℕ} (l : list ≡ listBytes bs h 0) where
-    pub points-in : 3 * listedPoints h ≤ length list / 4
-    points-in = rw l (omega (arith, list-length bs h 0 (A .accepted .taken .length-is), points-size))
+    pub points-there : 3 * listedPoints h ≤ length list / 4
+    points-there = rw l (points-in (A .accepted) (widths-of h (A .kind)))
 
-    pub points-all : take (3 * listedPoints h) (entries list) ≡ entries list
-    points-all =
-        let n : length (entries list) ≡ 3 * listedPoints h
-        = ap (λ (l : List ℕ). length (entries l)) l ∙ list-entries bs h 0 (A .accepted .taken .length-is) ∙ points-size in
-        take-all (3 * listedPoints h) (entries list) (omega (arith, n))
+    pub points-whole : take (3 * listedPoints h) (entries list) ≡ entries list
+    points-whole = rw l (points-all (A .accepted) (widths-of h (A .kind)))
 
   module _ {coord : List ℕ} (c : coord ≡ listBytes bs h 1) where
     sizes-by : sizesOf bs h ≡ sizesBy (listedPoints h) (entries coord)
@@ -58,15 +50,15 @@ module _ {bs : List ℕ} {h : Header} {o : Slices} {w f : ℕ} (A : Asked LineSe
     sizes-by = sizes-are ∙ ap (λ (l : List ℕ). sizesBy (listedPoints h) (entries l)) (sym c)
 
     pub enough : Enough (sizesBy (listedPoints h) (entries coord)) o w f
-    enough = subst (λ (z : Sizes). Enough z o w f) sizes-by (A .enough)
+    enough = enough-by A sizes-by
 
     pub corners-low : sumOver (named (listedPoints h)) (runs (entries coord)) ≤ most
-    corners-low = subst (λ (z : Sizes). z .corners ≤ most) sizes-by (sizes-low (A .accepted) .1)
+    corners-low = low-by A sizes-by .1
 
     -- the corners as they were counted
     module _ {count : ℕ} (e : count ≡ sizesOf bs h .corners) where
       pub count-low : count ≤ most
-      count-low = omega (arith, e, sizes-low (A .accepted))
+      count-low = rw (e ∙ ap (λ (z : Sizes). z .corners) sizes-by) corners-low
 
       pub tables-are : {t : CornerTables} → t ≡ tablesFor (listedPoints h) count → t ≡ lineTables (listedPoints h) (entries coord)
       unfolding lineTables

@@ -33,7 +33,7 @@ use Rattle.lines.specs.Made.{Told, Ready, Lined, Done}
 use Rattle.lines.proofs.Keyed.{Coloured, told-listed}
 use Rattle.lineshape.specs.Shape.{lineTables, lineWidths, Tabled}
 use Rattle.lineshape.proofs.Tabling.{stand, points-before}
-use Rattle.lineshape.proofs.Bounds.{points-all, enough, corners-low, laid-at}
+use Rattle.lineshape.proofs.Bounds.{points-whole, enough, corners-low, laid-at}
 
 -- FORMAT 5: a slice of an attribute that is not made, and of one that is made where b holds, by the width u
 unmade : (b : Bool) (made held : List ℕ) {l : List ℕ} → b ≡ false → l ≡ held → l ≡ over (cond b made []) held
@@ -83,7 +83,7 @@ module _ (missing : Words4) (d : List Float) {bs : List ℕ} {h : Header} {o : S
 
   points-are : take (3 * listedPoints h) (entries list) ≡ restOf bs .points
   unfolding restOf
-  points-are = points-all A l ∙ ap entries l ∙ ap (λ (g : Header). entries (listBytes bs g 0)) head
+  points-are = points-whole A l ∙ ap entries l ∙ ap (λ (g : Header). entries (listBytes bs g 0)) head
 
   told : Told missing (restOf bs) read a widths w₁ t (listedPoints h)
   unfolding read

@@ -1,26 +1,23 @@
 -- FORMAT 2.4, 7: the corners of a face set and of a grid read their attributes by the block's streams.
-use mathlib.Core.Path.{_≡_, refl, sym, ap, _∙_}
-use mathlib.Core.Bool.{Bool, true, false, _||_, cond, true≢false}
+use mathlib.Core.Path.{_≡_, refl, ap, _∙_}
+use mathlib.Core.Bool.{Bool, true, false, _||_, cond}
 use mathlib.Core.Logic.{_⊎_, inl, inr}
 use mathlib.Core.List.{List}
-use Prim.Native.Nat.{ℕ, _<_, _≤_}
+use Prim.Native.Nat.{ℕ}
 use native.Mathlib.Omega.{arith}
 use lib.Ieee.{Float}
 use Rattle.bits.specs.declared.Words2.{Words2}
-use Rattle.bits.specs.declared.Words3.{Words3}
 use Rattle.bits.specs.declared.Words4.{Words4}
 use Rattle.block.specs.Kind.{isIndexed}
 use Rattle.block.specs.Header.{headerOf}
-use Rattle.block.specs.Stream.{streamOf, valuesIn, indexIn, numberAt, get3At, get4At}
+use Rattle.block.specs.Stream.{streamOf, numberAt, get3At, get4At}
 use Rattle.block.specs.Value.{value3At, value4At}
 use Rattle.mesh.specs.Words.{no2, no3, no4}
 use Rattle.mesh.specs.Soup.{Corner}
 use Rattle.mesh.specs.FaceSet.{Rest, restOf, normalOf, colourOf, textureBy, cornerBy}
 use Rattle.mesh.specs.Grid.{gridOf}
-use Rattle.tables.specs.declared.layout.Plan.{Plan}
-use Rattle.tables.specs.Listed.{Use, Listing}
-use Rattle.corners.specs.Corner.{Lent}
-use Rattle.soups.specs.Keyed.{Reads, Textured, Textures}
+use Rattle.tables.specs.Listed.{Use}
+use Rattle.soups.specs.Keyed.{Reads}
 use Rattle.soups.specs.Attributes.{attributesOf, faceWidths, Streamed}
 
 -- a corner at its use, with a default texture by its point
@@ -59,26 +56,15 @@ module _ (missing : Words4) (R : Rest) (bs coord : List ℕ) (floats : List Floa
       go true e = inl (ap (λ (b : Bool). cond b 4 0) e, λ n u. colour-read e n (u .place))
       go false e = inr (ap (λ (b : Bool). cond b 4 0) e, λ n u. colour-none e n (u .place))
 
--- ---- texture, where it is made
-
--- FORMAT 5, 7: there is none that is neither listed nor wanted
-untextured : (R : Rest) (coord : List ℕ) (n k : ℕ) (d : Words2) → (R .head .«need_uvs» || R .head .«texture_points») ≡ false → textureBy R coord n k d ≡ no2
-unfolding textureBy
+-- FORMAT 5, 7: where no texture is made, there is none
+pub untextured : (R : Rest) (coord : List ℕ) (n k : ℕ) (d : Words2) → faceWidths (R .head) .texture ≡ 0 → textureBy R coord n k d ≡ no2
+unfolding textureBy faceWidths
 untextured R coord n k d e = go (R .head .«need_uvs») (R .head .«texture_points») _ _ e
   where
-    go : (u p : Bool) (a b : Words2) → (u || p) ≡ false → cond p a (cond u b no2) ≡ no2
+    go : (u p : Bool) (a b : Words2) → _≡_ {A = ℕ} (cond (u || p) 2 0) 0 → cond p a (cond u b no2) ≡ no2
     go false false a b e = refl
-    go false true a b e = absurd (true≢false e)
-    go true p a b e = absurd (true≢false e)
-
-pub textures-of : (missing : Words4) (R : Rest) (coord : List ℕ) (default : ℕ → Words2) {w : List ℕ} {t : Plan} {ls : List Listing}
-    → (0 < faceWidths (R .head) .texture → Textured w t ls (cornerUse missing R coord default)) → Textures (faceWidths (R .head)) w t ls (cornerUse missing R coord default)
-unfolding faceWidths cornerBy
-textures-of missing R coord default {w} {t} {ls} T = go (R .head .«need_uvs» || R .head .«texture_points») refl
-  where
-    go : (b : Bool) → (R .head .«need_uvs» || R .head .«texture_points») ≡ b → Textures (faceWidths (R .head)) w t ls (cornerUse missing R coord default)
-    go true q = let z : faceWidths (R .head) .texture ≡ 2 = ap {B = ℕ} (λ (b : Bool). cond b 2 0) q in inl (z, T (omega (arith, z)))
-    go false q = inr (ap {B = ℕ} (λ (b : Bool). cond b 2 0) q, λ n u. untextured R coord n (u .place) (default (u .point)) q)
+    go false true a b e = let z : ⊥ = omega arith in absurd z
+    go true p a b e = let z : ⊥ = omega arith in absurd z
 
 module _ (bs : List ℕ) where
   pub rest-streamed : isIndexed (headerOf bs .kind) ≡ true → Streamed bs (restOf bs)

@@ -1,8 +1,12 @@
-use mathlib.Core.Path.{_∙_}
+use mathlib.Core.Path.{ap, _∙_}
 use native.Mathlib.Omega.{arith}
-use Rattle.extrusionshape.proofs.Bounds.{given, sized, planned-at, arcs-room, textures-room}
+use Rattle.build.specs.declared.shared.Shared.{Shared}
+use Rattle.shaping.specs.Shared.{plainShared}
+use Rattle.shaping.proofs.Tabling.{faces-held}
+use Rattle.shaping.proofs.Theorem.{ready, shaped}
+use Rattle.extrusionshape.proofs.Bounds.{sizes-are, given, sized, counted, roomy, planned-at, arcs-room}
 use Rattle.extrusionshape.proofs.Tabling.{textures-asked}
-use Rattle.extrusionshape.proofs.Readying.{ready, shaped}
+use Rattle.extrusionshape.proofs.Shapes.{shape, mesh-is}
 use borrow.Author.Needs.{needs}
 use Rattle.extrusionshape.proofs.whole.make_extrusion.Statement.{statement}
 use Rattle.extrusionshape.proofs.whole.make_extrusion.Tie as tie
@@ -13,34 +17,35 @@ cap-length-requires c κs = given (c .before .before .before .before .before .be
 plan-extrusion-requires : tie.Need-plan-extrusion-requires
 plan-extrusion-requires c κs = sized (c .before .before .before .before .before .before .before .before .before .before .pre) (c .cap-length .ensures)
 
-put-tables-requires : tie.Need-put-tables-requires
-put-tables-requires c κs =
-    let c2 = c .before .before in
-    let c3 = c2 .before in
-    let c13 = c3 .before .before .before .before .before .before .before .before .before .before in
-    (given (c13 .pre), planned-at (c13 .pre) (c3 .cap-length .ensures) (c2 .plan-extrusion .ensures), arcs-room (c13 .pre) (c3 .cap-length .ensures) (c2 .plan-extrusion .ensures))
-
-texture-where-requires : tie.Need-texture-where-requires
-texture-where-requires c κs =
-    let c6 = c .before .before .before .before .before .before in
-    let c9 = c6 .before .before .before in
-    let c10 = c9 .before in
-    let c20 = c10 .before .before .before .before .before .before .before .before .before .before in
-    (given (c20 .pre), c20 .pre .accepted .settings, c6 .put-tables .ensures .arcs, omega (arith, arcs-room (c20 .pre) (c10 .cap-length .ensures) (c9 .plan-extrusion .ensures), c6 .put-tables .ensures .size), textures-asked (planned-at (c20 .pre) (c10 .cap-length .ensures) (c9 .plan-extrusion .ensures)) (textures-room (c20 .pre) (c10 .cap-length .ensures) (c9 .plan-extrusion .ensures)) (c6 .put-tables .ensures))
-
-shared-of-requires : tie.Need-shared-of-requires
-shared-of-requires c κs = search needs
+plain-shared-requires : tie.Need-plain-shared-requires
+plain-shared-requires c κs = search needs
 
 part-requires : tie.Need-part-requires
 part-requires c κs = search needs
 
+put-tables-requires : tie.Need-put-tables-requires
+put-tables-requires c κs =
+    let c4 = c .before .before .before .before in
+    let c5 = c4 .before in
+    let c15 = c5 .before .before .before .before .before .before .before .before .before .before in
+    (given (c15 .pre), planned-at (c15 .pre) (c5 .cap-length .ensures) (c4 .plan-extrusion .ensures), arcs-room (c15 .pre) (c5 .cap-length .ensures) (c4 .plan-extrusion .ensures))
+
+texture-where-requires : tie.Need-texture-where-requires
+unfolding plainShared
+texture-where-requires c κs =
+    let T = c .before .before .before .before .before .before .put-tables .ensures in
+    let G = roomy (c .before .before .before .before .before .before .before .before .before .before .before .before .before .before .before .before .before .before .before .before .before .before .pre) (c .before .before .before .before .before .before .before .before .before .before .before .before .cap-length .ensures) (c .before .before .before .before .before .before .before .before .before .before .before .plan-extrusion .ensures) in
+    (given (c .before .before .before .before .before .before .before .before .before .before .before .before .before .before .before .before .before .before .before .before .before .before .pre), c .before .before .before .before .before .before .before .before .before .before .before .before .before .before .before .before .before .before .before .before .before .before .pre .accepted .settings, ap (λ (x : Shared). x .widths) (c .before .before .before .before .before .before .before .before .before .before .plain-shared .ensures), T .1, omega (arith, G .floats, T .0 .size), textures-asked (planned-at (c .before .before .before .before .before .before .before .before .before .before .before .before .before .before .before .before .before .before .before .before .before .before .pre) (c .before .before .before .before .before .before .before .before .before .before .before .before .cap-length .ensures) (c .before .before .before .before .before .before .before .before .before .before .before .plan-extrusion .ensures)) (omega (arith, G .textures, T .0 .len)) (faces-held (T .0)))
+
 build-requires : tie.Need-build-requires
 build-requires c κs =
-    let c8 = c .before .before .before .before .before .before .before .before in
-    let c12 = c8 .before .before .before .before in
-    let c19 = c12 .before .before .before .before .before .before .before in
-    let c22 = c19 .before .before .before in
-    ready (c22 .before .before .before .before .before .before .before .before .before .before .before .pre) (c22 .before .cap-length .ensures) (c22 .plan-extrusion .ensures) (c19 .put-tables .ensures) (c12 .texture-where .ensures) (c8 .before .shared-of .ensures) (c8 .part .ensures)
+    let c10 = c .before .before .before .before .before .before .before .before .before .before in
+    let c17 = c10 .before .before .before .before .before .before .before in
+    let c21 = c17 .before .before .before .before in
+    let c22 = c21 .before in
+    let c33 = c22 .before .before .before .before .before .before .before .before .before .before .before in
+    ready (c33 .pre) (sizes-are (c33 .pre)) (counted (c33 .pre) (c22 .before .cap-length .ensures) (c22 .plan-extrusion .ensures)) (c17 .put-tables .ensures .0) (c10 .texture-where .ensures)
+    (shape (given (c33 .pre)) (c21 .plain-shared .ensures) _ _)
 
 same-length : tie.Need-same-length
 same-length c = search needs
@@ -63,22 +68,25 @@ same-length-6 c = search needs
 same-length-7 : tie.Need-same-length-7
 same-length-7 c =
     let c16 = c .before .before .before .before .before .before .before .before .before .before .before .before .before .before .before .before in
-    let c29 = c16 .before .before .before .before .before .before .before .before .before .before .before .before .before in
-    c16 .build .kept .1 .1 .1 .1 .1 .1 .1 .1 .1 .1 .0 ∙ c29 .texture-where .ensures .kept .len ∙ c29 .before .before .before .before .before .before .before .put-tables .ensures .len
+    let c27 = c16 .before .before .before .before .before .before .before .before .before .before .before in
+    c16 .build .kept .1 .1 .1 .1 .1 .1 .1 .1 .1 .1 .0 ∙ c27 .texture-where .ensures .kept .len ∙ c27 .before .before .before .before .before .before .before .put-tables .ensures .0 .len
 
 same-length-8 : tie.Need-same-length-8
 same-length-8 c =
     let c16 = c .before .before .before .before .before .before .before .before .before .before .before .before .before .before .before .before in
-    c16 .build .kept .1 .1 .1 .1 .1 .1 .1 .1 .1 .1 .1 .0 ∙ c16 .before .before .before .before .before .before .before .before .before .before .before .before .before .before .before .before .before .before .before .before .put-tables .ensures .size
+    c16 .build .kept .1 .1 .1 .1 .1 .1 .1 .1 .1 .1 .1 .0 ∙ c16 .before .before .before .before .before .before .before .before .before .before .before .before .before .before .before .before .before .before .put-tables .ensures .0 .size
 
 returns : tie.Need-returns
 returns c =
     let c16 = c .before .before .before .before .before .before .before .before .before .before .before .before .before .before .before .before in
-    let c25 = c16 .before .before .before .before .before .before .before .before .before in
-    let c29 = c25 .before .before .before .before in
-    let c36 = c29 .before .before .before .before .before .before .before in
-    let c39 = c36 .before .before .before in
-    shaped (c39 .before .before .before .before .before .before .before .before .before .before .before .pre) (c39 .before .cap-length .ensures) (c39 .plan-extrusion .ensures) (c36 .put-tables .ensures) (c29 .texture-where .ensures) (c25 .before .shared-of .ensures) (c25 .part .ensures) (c16 .build .ensures)
+    let c27 = c16 .before .before .before .before .before .before .before .before .before .before .before in
+    let c34 = c27 .before .before .before .before .before .before .before in
+    let c38 = c34 .before .before .before .before in
+    let c40 = c38 .before .before in
+    let c50 = c40 .before .before .before .before .before .before .before .before .before .before in
+    let G = given (c50 .pre) in
+    shaped (c50 .pre) (sizes-are (c50 .pre)) (counted (c50 .pre) (c40 .cap-length .ensures) (c38 .before .plan-extrusion .ensures)) (c34 .put-tables .ensures .0) (c27 .texture-where .ensures)
+    (shape G (c38 .plain-shared .ensures) _ _) (mesh-is G (c38 .plain-shared .ensures) (c50 .pre .accepted .settings) (c40 .cap-length .ensures)) (c16 .build .ensures)
 
 pub make-extrusion-spec : {M : Type 1} → statement M
 make-extrusion-spec =
@@ -86,10 +94,10 @@ make-extrusion-spec =
     (tie.spec
     cap-length-requires
     plan-extrusion-requires
+    plain-shared-requires
+    part-requires
     put-tables-requires
     texture-where-requires
-    shared-of-requires
-    part-requires
     build-requires
     same-length
     same-length-2

@@ -1,5 +1,6 @@
 use Rattle.tables.proofs.Listings.{listed-sound}
-use Rattle.facesetshape.proofs.Tabling.{tabled, points-in-by, planned-by}
+use Rattle.shaping.proofs.Tabling.{tabled}
+use Rattle.facesetshape.proofs.Tabling.{points-asked, points-copied}
 use borrow.Author.Needs.{needs}
 use Rattle.facesetshape.proofs.filling.put_tables.Statement.{statement}
 use Rattle.facesetshape.proofs.filling.put_tables.Tie as tie
@@ -10,27 +11,20 @@ array-read-points c = search needs
 list-part-requires : tie.Need-list-part-requires
 list-part-requires c κs = search needs
 
-list-part-requires-2 : tie.Need-list-part-requires-2
-list-part-requires-2 c κs = search needs
-
 mul-put-points : tie.Need-mul-put-points
 mul-put-points c = search needs
 
 put-points-requires : tie.Need-put-points-requires
 put-points-requires c κs =
-    let c3 = c .before .before .before in
-    let c8 = c3 .before .before .before .before .before in
-    points-in-by _ (c8 .args .h) (c3 .list-part .ensures) (c8 .pre .0) (c8 .pre .1)
+    let c2 = c .before .before in
+    let c8 = c2 .before .before .before .before .before .before in
+    points-asked _ (c8 .args .h) (c2 .list-part .ensures) (c8 .pre .1) (c8 .pre .2)
 
 list-faces-requires : tie.Need-list-faces-requires
-list-faces-requires c κs =
-    let c3 = c .before .before .before in
-    let c6 = c3 .before .before .before in
-    let c12 = c6 .before .before .before .before .before .before in
-    planned-by _ (c12 .args .h) (c6 .list-part2 .ensures) (c3 .put-points .ensures .kept .len) (c12 .pre .0)
+list-faces-requires c κs = rw (c .before .before .before .put-points .ensures .kept .len) (c .before .before .before .before .before .before .before .before .before .before .before .before .pre .1)
 
 prepare-requires : tie.Need-prepare-requires
-prepare-requires c κs = (listed-sound (c .before .before .before .before .list-faces .ensures .listed), c .before .before .before .before .before .before .before .before .before .before .before .before .before .before .before .before .before .pre .3)
+prepare-requires c κs = (listed-sound (c .before .before .before .before .before .list-faces .ensures .listed), c .before .before .before .before .before .before .before .before .before .before .before .before .before .before .before .before .before .before .pre .4)
 
 same-length : tie.Need-same-length
 same-length c = search needs
@@ -41,11 +35,12 @@ same-length-2 c = search needs
 returns : tie.Need-returns
 returns c =
     let c4 = c .before .before .before .before in
-    let c9 = c4 .before .before .before .before .before in
-    let c13 = c9 .before .before .before .before in
-    let c16 = c13 .before .before .before in
-    let c22 = c16 .before .before .before .before .before .before in
-    tabled (c16 .before .list-part .ensures) (c16 .list-part2 .ensures) (c22 .pre .0) (c22 .pre .2) (c13 .put-points .ensures) (c9 .list-faces .ensures) (c4 .prepare .ensures)
+    let c10 = c4 .before .before .before .before .before .before in
+    let c14 = c10 .before .before .before .before in
+    let c17 = c14 .before .before .before in
+    let c23 = c17 .before .before .before .before .before .before in
+    tabled (c23 .pre .1 .room) (points-copied _ (c23 .args .h) (c17 .list-part .ensures) (c23 .pre .1) (c23 .pre .3) (c14 .put-points .ensures)) (c10 .list-faces .ensures .beside)
+    (rw (← c23 .pre .0) (c10 .list-faces .ensures .listed)) (c4 .prepare .ensures) (c4 .prepare .kept .1 .1 .1 .1 .1 .0)
 
 pub put-tables-spec : {M : Type 1} → statement M
 put-tables-spec =
@@ -53,7 +48,6 @@ put-tables-spec =
     (tie.spec
     array-read-points
     list-part-requires
-    list-part-requires-2
     mul-put-points
     put-points-requires
     list-faces-requires

@@ -1,7 +1,12 @@
 use mathlib.Core.Path.{refl, _∙_}
-use Rattle.facesetshape.proofs.Bounds.{plan-asked, plan-by, planned, points-in, points-all, floats-enough, textures-room}
+use native.Mathlib.Omega.{arith}
+use Rattle.block.proofs.ListLaws.{widths-of}
+use Rattle.lent.proofs.Points.{points-in, points-all}
+use Rattle.shaping.proofs.Tabling.{faces-held, points-held}
+use Rattle.shaping.proofs.Theorem.{ready, shaped}
+use Rattle.facesetshape.proofs.Bounds.{sizes-are, plan-asked, plan-by, counted, roomy, planned}
 use Rattle.facesetshape.proofs.Tabling.{textures-asked}
-use Rattle.facesetshape.proofs.Readying.{ready, shaped}
+use Rattle.facesetshape.proofs.Shapes.{shape, mesh-is}
 use borrow.Author.Needs.{needs}
 use Rattle.facesetshape.proofs.whole.make_face_set.Statement.{statement}
 use Rattle.facesetshape.proofs.whole.make_face_set.Tie as tie
@@ -11,36 +16,45 @@ plan-of-requires c κs =
     let c9 = c .before .before .before .before .before .before .before .before .before in
     plan-asked (c9 .pre .0) (c9 .pre .1)
 
+listed-shared-requires : tie.Need-listed-shared-requires
+listed-shared-requires c κs = search needs
+
+list-part-requires : tie.Need-list-part-requires
+list-part-requires c κs = search needs
+
 put-tables-requires : tie.Need-put-tables-requires
 put-tables-requires c κs =
     let c2 = c .before .before in
-    let c12 = c2 .before .before .before .before .before .before .before .before .before .before in
-    let e = plan-by (c12 .pre .0) (c12 .pre .1) (c2 .plan-of .ensures) in
-    (planned (c12 .pre .0) e, points-in (c12 .pre .0) refl, points-all (c12 .pre .0) refl, floats-enough (c12 .pre .0) e)
+    let c14 = c2 .before .before .before .before .before .before .before .before .before .before .before .before in
+    let A = c14 .pre .0 in
+    let e = plan-by A (c14 .pre .1) (c2 .before .before .plan-of .ensures) in (
+      c2 .list-part .ensures,
+      planned A e (c2 .list-part .ensures),
+      points-in (A .accepted) (widths-of _ (A .kind)),
+      points-all (A .accepted) (widths-of _ (A .kind)),
+      omega (arith, roomy A e .floats),
+    )
 
 texture-where-requires : tie.Need-texture-where-requires
 texture-where-requires c κs =
     let c5 = c .before .before .before .before .before in
     let c8 = c5 .before .before .before in
-    let c18 = c8 .before .before .before .before .before .before .before .before .before .before in
-    let e = plan-by (c18 .pre .0) (c18 .pre .1) (c8 .plan-of .ensures) in
-    textures-asked (planned (c18 .pre .0) e) (textures-room (c18 .pre .0) e) (c5 .put-tables .ensures)
-
-shared-of-requires : tie.Need-shared-of-requires
-shared-of-requires c κs = search needs
-
-list-part-requires : tie.Need-list-part-requires
-list-part-requires c κs = search needs
+    let c20 = c8 .before .before .before .before .before .before .before .before .before .before .before .before in
+    let A = c20 .pre .0 in
+    let e = plan-by A (c20 .pre .1) (c8 .before .before .plan-of .ensures) in
+    let P = c5 .put-tables .ensures in
+    (c8 .list-part .ensures, textures-asked (planned A e refl .spots) (points-held P) (faces-held P) (omega (arith, roomy A e .textures, P .len)))
 
 build-requires : tie.Need-build-requires
 build-requires c κs =
-    let c8 = c .before .before .before .before .before .before .before .before in
-    let c12 = c8 .before .before .before .before in
-    let c18 = c12 .before .before .before .before .before .before in
-    let c21 = c18 .before .before .before in
-    let c31 = c21 .before .before .before .before .before .before .before .before .before .before in
-    let e = plan-by (c31 .pre .0) (c31 .pre .1) (c21 .plan-of .ensures) in
-    ready (c31 .args .missing) (c31 .pre .0) e (c18 .put-tables .ensures) (c12 .texture-where .ensures) (c8 .before .shared-of .ensures) (c8 .list-part .ensures) (c18 .put-tables .kept .1 .1 .1 .1 .1 .0)
+    let c10 = c .before .before .before .before .before .before .before .before .before .before in
+    let c16 = c10 .before .before .before .before .before .before in
+    let c19 = c16 .before .before .before in
+    let c20 = c19 .before in
+    let c31 = c20 .before .before .before .before .before .before .before .before .before .before .before in
+    let A = c31 .pre .0 in
+    ready A (sizes-are A) (counted A (plan-by A (c31 .pre .1) (c20 .before .plan-of .ensures))) (c16 .put-tables .ensures) (c10 .texture-where .ensures)
+    (shape (c31 .args .missing) _ (A .accepted .header) (A .accepted .settings) (c20 .listed-shared .ensures) (c19 .list-part .ensures) (A .kind))
 
 same-length : tie.Need-same-length
 same-length c = search needs
@@ -63,34 +77,37 @@ same-length-6 c = search needs
 same-length-7 : tie.Need-same-length-7
 same-length-7 c =
     let c16 = c .before .before .before .before .before .before .before .before .before .before .before .before .before .before .before .before in
-    let c29 = c16 .before .before .before .before .before .before .before .before .before .before .before .before .before in
-    c16 .build .kept .1 .1 .1 .1 .1 .1 .1 .1 .1 .1 .0 ∙ c29 .texture-where .kept .1 .1 .1 .1 .0 ∙ c29 .before .before .before .before .before .before .put-tables .kept .1 .1 .1 .1 .0
+    let c27 = c16 .before .before .before .before .before .before .before .before .before .before .before in
+    c16 .build .kept .1 .1 .1 .1 .1 .1 .1 .1 .1 .1 .0 ∙ c27 .texture-where .ensures .kept .len ∙ c27 .before .before .before .before .before .before .put-tables .ensures .len
 
 same-length-8 : tie.Need-same-length-8
 same-length-8 c =
     let c16 = c .before .before .before .before .before .before .before .before .before .before .before .before .before .before .before .before in
-    c16 .build .kept .1 .1 .1 .1 .1 .1 .1 .1 .1 .1 .1 .0 ∙ c16 .before .before .before .before .before .before .before .before .before .before .before .before .before .before .before .before .before .before .before .put-tables .kept .1 .1 .1 .1 .1 .0
+    c16 .build .kept .1 .1 .1 .1 .1 .1 .1 .1 .1 .1 .1 .0 ∙ c16 .before .before .before .before .before .before .before .before .before .before .before .before .before .before .before .before .before .put-tables .ensures .size
 
 returns : tie.Need-returns
 returns c =
     let c16 = c .before .before .before .before .before .before .before .before .before .before .before .before .before .before .before .before in
-    let c25 = c16 .before .before .before .before .before .before .before .before .before in
-    let c29 = c25 .before .before .before .before in
-    let c35 = c29 .before .before .before .before .before .before in
-    let c38 = c35 .before .before .before in
-    let c48 = c38 .before .before .before .before .before .before .before .before .before .before in
-    let e = plan-by (c48 .pre .0) (c48 .pre .1) (c38 .plan-of .ensures) in
-    shaped (c48 .args .missing) (c48 .pre .0) e (c35 .put-tables .ensures) (c29 .texture-where .ensures) (c25 .before .shared-of .ensures) (c25 .list-part .ensures) (c35 .put-tables .kept .1 .1 .1 .1 .1 .0) (c16 .build .ensures)
+    let c27 = c16 .before .before .before .before .before .before .before .before .before .before .before in
+    let c33 = c27 .before .before .before .before .before .before in
+    let c36 = c33 .before .before .before in
+    let c37 = c36 .before in
+    let c48 = c37 .before .before .before .before .before .before .before .before .before .before .before in
+    let A = c48 .pre .0 in
+    let h = A .accepted .header in
+    let s = A .accepted .settings in
+    shaped A (sizes-are A) (counted A (plan-by A (c48 .pre .1) (c37 .before .plan-of .ensures))) (c33 .put-tables .ensures) (c27 .texture-where .ensures)
+    (shape (c48 .args .missing) _ h s (c37 .listed-shared .ensures) (c36 .list-part .ensures) (A .kind)) (mesh-is (c48 .args .missing) _ h s (c37 .listed-shared .ensures) (c36 .list-part .ensures)) (c16 .build .ensures)
 
 pub make-face-set-spec : {M : Type 1} → statement M
 make-face-set-spec =
     tie.close
     (tie.spec
     plan-of-requires
+    listed-shared-requires
+    list-part-requires
     put-tables-requires
     texture-where-requires
-    shared-of-requires
-    list-part-requires
     build-requires
     same-length
     same-length-2

@@ -1,4 +1,4 @@
-use Rattle.lineshape.proofs.Bounds.{points-low, points-in, count-low, tables-are, laid-at, entries-short}
+use Rattle.lineshape.proofs.Bounds.{points-low, points-there, count-low, tables-are, laid-at, entries-short}
 use Rattle.lineshape.proofs.Readying.{ready, shaped}
 use borrow.Author.Needs.{needs}
 use Rattle.lineshape.proofs.whole.make_line_set.Statement.{statement}
@@ -23,7 +23,7 @@ put-tables-requires c κs =
     let c2 = c .before .before in
     let c14 = c2 .before .before .before .before .before .before .before .before .before .before .before .before in
     let e = tables-are (c14 .pre .0) (c2 .list-part2 .ensures) (c14 .pre .1) (c .before .line-tables .ensures) in
-    (e, laid-at (c14 .pre .0) (c2 .list-part2 .ensures) e, points-low (c14 .pre .0), points-in (c14 .pre .0) (c2 .before .list-part .ensures), entries-short (c14 .pre .0) (c2 .list-part2 .ensures))
+    (e, laid-at (c14 .pre .0) (c2 .list-part2 .ensures) e, points-low (c14 .pre .0), points-there (c14 .pre .0) (c2 .before .list-part .ensures), entries-short (c14 .pre .0) (c2 .list-part2 .ensures))
 
 attributes-of-requires : tie.Need-attributes-of-requires
 attributes-of-requires c κs = search needs

@@ -1,8 +1,8 @@
 use mathlib.Core.Path.{sym, ap}
 use mathlib.Core.Bool.{Bool, cond}
 use Prim.Native.Nat.{ℕ}
-use Rattle.extrusionshape.proofs.whole.texture_width.Statement.{statement}
-use Rattle.extrusionshape.proofs.whole.texture_width.Tie as tie
+use Rattle.shaping.proofs.shared.texture_width.Statement.{statement}
+use Rattle.shaping.proofs.shared.texture_width.Tie as tie
 
 returns : tie.Need-returns
 returns c = sym (ap {B = ℕ} (λ (b : Bool). cond b 2 0) (c .if1 .taken))

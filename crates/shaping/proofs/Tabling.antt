@@ -1,0 +1,87 @@
+-- What is left in the tables of a shape.
+use mathlib.Core.Path.{_≡_, ap, _∙_}
+use mathlib.Core.Bool.{Bool, true, false}
+use mathlib.Core.List.{List}
+use Prim.Native.Nat.{ℕ, _+_, _*_, _≤_, _<_}
+use native.Mathlib.Omega.{arith}
+use native.Mathlib.Nat.{le-refl}
+use lib.ListN.{length, drop, length-append, length-drop}
+use lib.Seq.{drop-at}
+use lib.Ieee.{Float}
+use Rattle.bits.specs.declared.Words2.{Words2}
+use Rattle.block.specs.declared.crease.CreaseRule.{CreaseRule}
+use Rattle.lists.specs.Parts.{spliced}
+use Rattle.lists.proofs.Keep.{kept-all, kept-seg}
+use Rattle.lists.proofs.Splices.{put-gives}
+use Rattle.tables.specs.declared.layout.Plan.{Plan}
+use Rattle.tables.specs.Layout.{Room}
+use Rattle.tables.specs.Soups.{ownerIn, pointsIn, soupIn, frameIn}
+use Rattle.tables.specs.Listed.{Use, Listing, Beside, Listed}
+use Rattle.tables.proofs.Besides.{beside-kept}
+use Rattle.tables.proofs.Stays.{points-kept}
+use Rattle.tables.proofs.Listings.{listed-sound, listed-kept}
+use Rattle.normals.specs.Written.{spread, normalsOf}
+use Rattle.corners.specs.Laid.{tablesAt, tablesOf}
+use Rattle.corners.specs.Corner.{textureAt}
+use Rattle.soups.specs.Prepared.{normalsAfter, Prepared}
+use Rattle.build.specs.declared.shared.Shared.{Shared}
+use Rattle.texture.specs.Textured.{Textured}
+use Rattle.shaping.specs.Tabled.{Tabled, useIn, TexturesAt}
+
+-- the points, put whole at their place
+pub points-put : {points : List ℕ} {t : Plan} (w : List ℕ) {w₁ : List ℕ} → Room (length w) t → w₁ ≡ spliced w (t .points) points → length points ≡ 3 * t .spots
+    → (length w₁ ≡ length w) × (pointsIn w₁ t ≡ points)
+unfolding pointsIn
+points-put {points} w R p n = let G = put-gives points p n (omega (arith, R)) in (G .0 .len, G .1)
+
+-- the floats behind the normals are as they were
+pub floats-behind : {supplied ccw : Bool} {rule : CreaseRule} {t : Plan} {v w : List ℕ} {d e : List Float} → Prepared supplied ccw rule t v w d e → length e ≡ length d → 3 * t .count ≤ length d
+    → drop (3 * t .count) e ≡ drop (3 * t .count) d
+unfolding normalsAfter
+floats-behind {supplied} {ccw} {rule} {t} {v} {d = d} {e = e} P l r = go supplied (P .normals)
+  where
+    k : ℕ
+    k = 3 * t .count
+
+    go : (b : Bool) → e ≡ normalsAfter b v t ccw rule d → drop k e ≡ drop k d
+    go true q = ap (drop k) q
+    go false q =
+        let S : List Float = spread (normalsOf (frameIn v t ccw rule) (soupIn v t)) in
+        let n : length S ≡ k = omega (arith, ap length q, length-append S (drop k d), length-drop k d) in
+        ap (drop k) q ∙ drop-at S (drop k d) k n
+
+module _ {points : List ℕ} {ls : List Listing} {sh : Shared} {rule : CreaseRule} {t : Plan} where
+  -- the points, then the faces, then what is made ready
+  pub tabled : {w w₁ w₂ w₃ : List ℕ} {d d₁ e : List Float} → Room (length w) t → (length w₁ ≡ length w) × (pointsIn w₁ t ≡ points) → Beside t w₁ w₂ → Listed w₂ t ls
+      → Prepared (sh .attributes .supplied) (sh .ccw) rule t w₂ w₃ d₁ e → length e ≡ length d → Tabled points ls sh rule t w w₃ d e
+  unfolding pointsIn
+  tabled {w} {w₁} {w₂} {w₃} {d} {d₁} R G B E Q n =
+      let l = G .0 in
+      let K = beside-kept R B in
+      record {
+        len = Q .kept .len ∙ K .len ∙ l;
+        size = n;
+        listed = w₂;
+        before = d₁;
+        faces = E;
+        points = kept-seg K (t .points) (3 * t .spots) (R .points) (omega arith) ∙ G .1;
+        prepared = Q;
+      }
+
+  module _ {w w′ : List ℕ} {d e : List Float} (T : Tabled points ls sh rule t w w′ d e) where
+    -- the faces and the points are still there
+    pub faces-held : Listed w′ t ls
+    faces-held = listed-kept (T .prepared .kept) (le-refl (t .owners)) (T .faces)
+
+    pub points-held : pointsIn w′ t ≡ points
+    points-held = let R = T .faces .room in points-kept (T .prepared .kept) t (omega arith) (listed-sound (T .faces)) ∙ T .points
+
+module _ {sh : Shared} {f : ℕ → Use → Words2} {t : Plan} where
+  pub textures-none : {w : List ℕ} → sh .widths .texture ≡ 0 → TexturesAt sh f t w w
+  textures-none e = record { kept = kept-all; at = λ p c l. let z : ⊥ = omega arith in absurd z }
+
+  -- g c is what is written for corner c
+  pub textures-put : {g : ℕ → Words2} {w w′ : List ℕ} → Textured (t .owners + t .count) (t .count) g w w′ → ((c : ℕ) → c < t .count → g c ≡ f (ownerIn w t c) (useIn w t c))
+      → TexturesAt sh f t w w′
+  unfolding textureAt tablesOf tablesAt
+  textures-put T q = record { kept = T .kept; at = λ p c l. T .at c l ∙ q c l }
