@@ -22,9 +22,9 @@ use Rattle.mesh.specs.Result.{blockMesh, resultOf}
 use Rattle.mesh.proofs.Facts.{length-indices, length-vertices, face-set-indices, face-set-vertices}
 use Rattle.mesh.proofs.LineSoup.{line-soup}
 use Rattle.mesh.proofs.Sizes.{line-set-corners, line-set-indices, grid-corners, grid-indices, extrusion-corners, extrusion-indices}
-use Rattle.geometry.specs.Answer.{plain, resultFor, Saying, refused, made, said}
+use Rattle.geometry.specs.Answer.{resultFor, Saying, refused, made, said}
 use Rattle.geometry.proofs.Refusing.{asked-of}
-use Rattle.answer.specs.Lending.{fresh, number}
+use Rattle.answer.specs.Lending.{passed, fresh, number}
 
 -- FORMAT 4: at most C vertices, and N indices
 pub record Sized (M : Mesh) (z : Sizes) : Type 0 where
@@ -77,11 +77,11 @@ module _ (missing : Words4) (bs : List ℕ) where
       go Other = record { vertices = omega arith; indices = refl }
 
 -- FORMAT 14: of a block that the program does not refuse
-few : (bs : List ℕ) → number bs ≡ 0 → (resultFor plain bs .vertices ≤ 256) × (resultFor plain bs .indices ≤ 768)
+few : (bs : List ℕ) → number bs ≡ 0 → (resultFor passed bs .vertices ≤ 256) × (resultFor passed bs .indices ≤ 768)
 unfolding resultFor resultOf fresh
 few bs e =
     let E = asked-of bs fresh e .enough in
-    let S = block-sized (plain .colour) bs in
+    let S = block-sized (passed .colour) bs in
     (omega (arith, E .sources, S .vertices), omega (arith, E .indices, S .indices))
 
 -- of what an answer says
@@ -89,9 +89,9 @@ abbrev pub Few : Saying → Type 0
 Few (refused n) = Unit {0}
 Few (made r) = (r .vertices ≤ 256) × (r .indices ≤ 768)
 
-pub said-few : (bs : List ℕ) (s : Saying) → s ≡ said (number bs) (resultFor plain bs) → Few s
+pub said-few : (bs : List ℕ) (s : Saying) → s ≡ said (number bs) (resultFor passed bs) → Few s
 said-few bs s e = subst Few (sym e) (go (number bs) refl)
   where
-    go : (n : ℕ) → number bs ≡ n → Few (said n (resultFor plain bs))
+    go : (n : ℕ) → number bs ≡ n → Few (said n (resultFor passed bs))
     go zero z = few bs z
     go (suc n) z = tt

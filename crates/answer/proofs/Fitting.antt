@@ -10,12 +10,12 @@ use lib.Seq.{take-at, length-sets, length-take-le}
 use Rattle.block.specs.Header.{headerOf}
 use Rattle.lists.specs.Loops.{pick}
 use Rattle.mesh.specs.Mesh.{Slices}
-use Rattle.geometry.specs.Answer.{plain, resultFor, Saying, refused, made, said}
+use Rattle.geometry.specs.Answer.{resultFor, Saying, refused, made, said}
 use Rattle.text.specs.declared.lines.Parts.{Parts}
 use Rattle.text.specs.Answer.{longText, textRoom}
 use Rattle.text.specs.Wrote.{Printed}
 use Rattle.text.proofs.TextFits.{text-fits, refusal-fits, long-fits}
-use Rattle.answer.specs.Lending.{number, left}
+use Rattle.answer.specs.Lending.{passed, number, left}
 use Rattle.answer.specs.Text.{longest, headOf, partsOf, textOf, blockText, answerText}
 use Rattle.answer.proofs.Counts.{Few, said-few}
 
@@ -31,7 +31,7 @@ fits bs = go (ltb longest (length bs))
     go : (b : Bool) → length (pick b longText (blockText bs)) ≤ textRoom
     go true = omega (arith, long-fits)
     go false =
-        saying-fits (said (number bs) (resultFor plain bs)) (partsOf (headerOf bs)) (left bs) (said-few bs (said (number bs) (resultFor plain bs)) refl)
+        saying-fits (said (number bs) (resultFor passed bs)) (partsOf (headerOf bs)) (left bs) (said-few bs (said (number bs) (resultFor passed bs)) refl)
 
 -- ---- a text in a buffer that has room for every answer
 

@@ -6,17 +6,17 @@ use borrow.Author.Tests.{lt-ltb, le-ltb}
 use lib.ListN.{length}
 use Rattle.block.specs.Header.{headerOf}
 use Rattle.geometry.specs.declared.answer.Answer.{Answer}
-use Rattle.geometry.specs.Answer.{plain, saying}
+use Rattle.geometry.specs.Answer.{saying}
 use Rattle.geometry.specs.Converted.{Lending, Converted}
 use Rattle.text.specs.declared.lines.Parts.{Parts}
 use Rattle.text.specs.Answer.{longText}
 use Rattle.text.specs.Wrote.{Printed}
 use Rattle.answer.specs.declared.lending.Conversion.{Conversion}
-use Rattle.answer.specs.Lending.{fresh, left, slicesIn, Left}
+use Rattle.answer.specs.Lending.{passed, fresh, left, slicesIn, Left}
 use Rattle.answer.specs.Text.{longest, partsOf, textOf, blockText, answerText}
 use Rattle.answer.proofs.Counts.{Few, said-few}
 
-pub left-of : (bs : List ℕ) (m : Lending) (r : Answer) → Converted plain bs fresh m r
+pub left-of : (bs : List ℕ) (m : Lending) (r : Answer) → Converted passed bs fresh m r
     → Left bs (record { answer = r; positions = m .slices .positions; normals = m .slices .normals; colours = m .slices .colours; textures = m .slices .textures; sources = m .slices .sources; indices = m .slices .indices })
 unfolding left
 left-of bs m r k = record {

@@ -1,4 +1,4 @@
--- FORMAT 14: the slices that the program lends, and what a call leaves in them.
+-- FORMAT 14: what the program chooses, the slices that it lends, and what a call leaves in them.
 use Prim.Native.Nat.{ℕ}
 use mathlib.Core.Path.{_≡_}
 use mathlib.Core.List.{List}
@@ -6,9 +6,14 @@ use lib.ListN.{replicate}
 use lib.Ieee.{binary32, ofBits}
 use Rattle.mesh.specs.Mesh.{Slices}
 use Rattle.mesh.specs.Result.{made}
-use Rattle.geometry.specs.Answer.{plain, resultFor, saying, said}
+use Rattle.geometry.specs.declared.answer.Call.{Call}
+use Rattle.geometry.specs.Answer.{white, resultFor, saying, said}
 use Rattle.geometry.specs.Converted.{Lending, numberFor, afterAll}
 use Rattle.answer.specs.declared.lending.Conversion.{Conversion}
+
+-- FORMAT 14: what the program chooses
+abbrev pub passed : Call
+passed = record { colour = white }
 
 -- FORMAT 14: for C and P of 256 each, and 768 indices
 unfoldable pub fresh : Lending
@@ -32,7 +37,7 @@ number bs = numberFor bs fresh
 
 -- FORMAT 5, 14: the six slices of the mesh after the call
 unfoldable pub left : List ℕ → Slices
-left bs = afterAll (number bs) (made (plain .colour) bs) (fresh .slices)
+left bs = afterAll (number bs) (made (passed .colour) bs) (fresh .slices)
 
 -- the six slices that came back
 abbrev pub slicesIn : Conversion → Slices
@@ -48,5 +53,5 @@ slicesIn c =
 
 -- FORMAT 14: c is the answer of the call, and what it left
 pub record Left (bs : List ℕ) (c : Conversion) : Type 0 where
-  pub answer : saying (c .answer) ≡ said (number bs) (resultFor plain bs)
+  pub answer : saying (c .answer) ≡ said (number bs) (resultFor passed bs)
   pub slices : slicesIn c ≡ left bs

@@ -9,11 +9,11 @@ use Rattle.block.specs.Header.{headerOf}
 use Rattle.lists.specs.Loops.{pick}
 use Rattle.mesh.specs.Mesh.{Slices}
 use Rattle.mesh.specs.Result.{Result, makesNormals, makesColours, makesTextures}
-use Rattle.geometry.specs.Answer.{plain, resultFor, Saying, refused, made, said}
+use Rattle.geometry.specs.Answer.{resultFor, Saying, refused, made, said}
 use Rattle.text.specs.declared.answer.Head.{Head}
 use Rattle.text.specs.declared.lines.Parts.{Parts}
 use Rattle.text.specs.Answer.{meshText, refusalText, longText}
-use Rattle.answer.specs.Lending.{number, left}
+use Rattle.answer.specs.Lending.{passed, number, left}
 
 -- FORMAT 14: the first line tells the result
 abbrev pub headOf : Result → Head
@@ -30,7 +30,7 @@ textOf (made r) parts S = meshText (headOf r) parts S
 
 -- FORMAT 14: the text of a block
 unfoldable pub blockText : List ℕ → List ℕ
-blockText bs = textOf (said (number bs) (resultFor plain bs)) (partsOf (headerOf bs)) (left bs)
+blockText bs = textOf (said (number bs) (resultFor passed bs)) (partsOf (headerOf bs)) (left bs)
 
 -- FORMAT 14: the longest input that is looked at
 abbrev pub longest : ℕ

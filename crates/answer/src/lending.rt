@@ -1,6 +1,7 @@
 // One call with the slices that the program lends (FORMAT 14).
 ghost use Rattle.answer.specs.Lending.{Left};
 use geometry::Answer;
+use geometry::Call;
 
 // The answer of a call, and what it left in the six slices of the mesh.
 pub struct Conversion {
@@ -13,7 +14,7 @@ pub struct Conversion {
     pub textures: [u32; 512],
 }
 
-// Slices for C and P of 256 each and 768 indices, all zeros.
+// Slices for C and P of 256 each and 768 indices, all zeros; a missing colour is white.
 pub fn lend_and_convert(block: &[u8]) -> Conversion
     ensures { λ r. ⌜ Left (now (block .entry)) r ⌝ }
 {
@@ -26,6 +27,9 @@ pub fn lend_and_convert(block: &[u8]) -> Conversion
     let mut words = [0u32; 4104];
     let mut floats = [0.0f32; 4104];
     let answer = geometry::convert(
+        Call {
+            colour: geometry::WHITE,
+        },
         block,
         &mut positions,
         &mut normals,

@@ -15,17 +15,18 @@ use Rattle.mesh.specs.Sizes.{faceSetSizes, sizesOf, isNoShape, isOverCorners, s
 use Rattle.mesh.specs.Result.{made}
 use Rattle.mesh.specs.OneRun.{OthersStay}
 use Rattle.mesh.proofs.Blocks.{flatBlock, beside, beside′, pairs}
-use Rattle.geometry.specs.Answer.{white, plain, rows, isShort, refusal, resultFor, said}
+use Rattle.geometry.specs.declared.answer.Call.{Call}
+use Rattle.geometry.specs.Answer.{rows, isShort, refusal, resultFor, said}
 use Rattle.geometry.specs.Converted.{Lending, lengthsOf, numberFor, afterAll, cleared}
 use Rattle.geometry.specs.Apart.{AcceptedCall, elementsOf}
 use Rattle.geometry.proofs.Apart.{apart}
 
 -- where nothing is refused, the call that leaves and answers what the contract says
-unfoldable pub callOf : (bs : List ℕ) (l : Lending) → numberFor bs l ≡ 0 → AcceptedCall plain bs
-callOf bs l e =
+unfoldable pub callOf : (call : Call) (bs : List ℕ) (l : Lending) → numberFor bs l ≡ 0 → AcceptedCall call bs
+callOf call bs l e =
     let n = numberFor bs l in
-    let R = resultFor plain bs in
-    let M = made white bs in
+    let R = resultFor call bs in
+    let M = made (call .colour) bs in
     record {
       lent = l;
       left = record {
@@ -63,8 +64,9 @@ pub accepted : (numberFor (flatBlock beside) (lending 0) ≡ 0) × (numberFor (f
 unfolding refusal rows lengthsOf isShort blockRows firstOf shapeRows isNoShape isOverCorners sizesOf faceSetSizes headerOf countsOf editionOf edition1 field entries table placeOf listAt listSize widths wordsIn wordCount runsFrom endsRun allBelow kept corners triangles sumOver flat
 accepted = (refl, refl)
 
--- FORMAT 13: so of two calls on them, whose slices held different words before, the first face is the same
-pub first-stays : OthersStay white (flatBlock beside) (flatBlock beside′) (elementsOf (callOf (flatBlock beside) (lending 0) (accepted .0)))
-    (elementsOf (callOf (flatBlock beside′) (lending 7) (accepted .1))) 1
+-- FORMAT 13: so of two calls on them under one colour, whichever, whose slices held different words before, the first face is the same
+pub first-stays : (call : Call)
+    → OthersStay (call .colour) (flatBlock beside) (flatBlock beside′) (elementsOf (callOf call (flatBlock beside) (lending 0) (accepted .0)))
+    (elementsOf (callOf call (flatBlock beside′) (lending 7) (accepted .1))) 1
 unfolding headerOf field flat
-first-stays = apart (flatBlock beside) (flatBlock beside′) 1 refl (pairs .0) (callOf (flatBlock beside) (lending 0) (accepted .0)) (callOf (flatBlock beside′) (lending 7) (accepted .1))
+first-stays call = apart (flatBlock beside) (flatBlock beside′) 1 refl (pairs .0) (callOf call (flatBlock beside) (lending 0) (accepted .0)) (callOf call (flatBlock beside′) (lending 7) (accepted .1))

@@ -1,6 +1,7 @@
 -- FORMAT 3, 4, 5: a refused call and a call that nothing refuses, each as the contract says it; and that the contract leaves nothing open.
 use mathlib.Core.Path.{_≡_, refl, sym, ap, subst, _∙_}
-use mathlib.Core.List.{List, []}
+use mathlib.Core.Bool.{false}
+use mathlib.Core.List.{List}
 use Prim.Native.Nat.{ℕ, zero, suc}
 use native.Mathlib.Omega.{arith}
 use Rattle.bits.specs.declared.Words4.{Words4}
@@ -19,7 +20,7 @@ use Rattle.geometry.specs.declared.answer.Answer.the-variants.{Refused, 
 use Rattle.geometry.specs.declared.answer.Call.{Call}
 use Rattle.geometry.specs.declared.answer.Report.{Report}
 use Rattle.geometry.specs.Answer as spec
-use Rattle.geometry.specs.Answer.{Saying, white, plain, refusal, resultFor, saying}
+use Rattle.geometry.specs.Answer.{Saying, refusal, resultFor, saying}
 use Rattle.geometry.specs.Converted.{Lending, lengthsOf, Converted}
 
 -- ---- refused
@@ -74,10 +75,6 @@ module _ (call : Call) (bs : List ℕ) (l m : Lending) (n : Counts) (f : Flags) 
       made-of (subst (λ (h : Header). Shaped h (blockMesh (call .colour) bs) (l .slices) (m .slices) n) eh (subst (λ (w : Words4). Shaped h (blockMesh w bs) (l .slices) (m .slices) n) ew (S .0))) (S .1)
       (subst (λ (h : Header). Flagged h f) eh F)
 
--- FORMAT 7.2: the call's colour is white
-pub plain-call : (w : Words4) (bs : List ℕ) (l m : Lending) (r : Answer) → w ≡ white → Converted (record { colour = w }) bs l m r → Converted plain bs l m r
-plain-call w bs l m r e C = subst (λ (w : Words4). Converted (record { colour = w }) bs l m r) e C
-
 -- ---- two converters that keep the contract do not differ
 
 -- what an answer says, taken apart: one more than the number of a refusal, 0 for a mesh; and the result
@@ -94,7 +91,8 @@ saying-one-to-one (Refused a) (Refused b) e = ap Refused (number-one-to-one a b 
 saying-one-to-one (Refused a) (Made p) e = absurd (let z : suc (numberOf a) ≡ 0 = ap numberIn e in omega arith)
 saying-one-to-one (Made p) (Refused b) e = absurd (let z : 0 ≡ suc (numberOf b) = ap numberIn e in omega arith)
 saying-one-to-one (Made p) (Made q) e =
-    let z = ap (resultIn (resultFor plain [])) e in
+    let other : Result = record { vertices = 0; indices = 0; solid = false; unlit = false; hasColours = false } in
+    let z = ap (resultIn other) e in
     ap Made (λ i. record { vertices = z i .vertices; indices = z i .indices; solid = z i .solid; unlit = z i .unlit; «has_colors» = z i .hasColours })
 
 -- FORMAT 3, 5: one block and one lending have one answer, and leave the lent slices one way

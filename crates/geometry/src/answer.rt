@@ -7,6 +7,22 @@ pub struct Call {
     pub colour: Words4,
 }
 
+// The terminal's default: (0.8, 0.8, 0.8, 1).
+pub const GREY: Words4 = Words4 {
+    r: 0x3f4c_cccd,
+    g: 0x3f4c_cccd,
+    b: 0x3f4c_cccd,
+    a: 0x3f80_0000,
+};
+
+// The survey desk's, and the reference's: (1, 1, 1, 1).
+pub const WHITE: Words4 = Words4 {
+    r: 0x3f80_0000,
+    g: 0x3f80_0000,
+    b: 0x3f80_0000,
+    a: 0x3f80_0000,
+};
+
 // What a mesh has.
 pub struct Report {
     pub vertices: usize,

@@ -2,7 +2,6 @@
 ghost use mathlib.Core.Path.{_≡_};
 ghost use Rattle.block.specs.Header.{headerOf};
 ghost use Rattle.sizes.specs.Known.{Counted};
-ghost use Rattle.geometry.specs.Answer.{white, plain};
 ghost use Rattle.geometry.specs.Converted.{numberFor, Converted};
 use crate::answer::Answer;
 use crate::answer::Call;
@@ -10,22 +9,9 @@ use crate::answer::Lengths;
 use crate::answer::Report;
 use crate::kinds::make_kind;
 use crate::refusals::verdict_for;
-use bits::Words4;
 use block::Header;
 use sizes::Sizes;
 use sizes::Verdict;
-
-// FORMAT 7.2: a missing colour.
-fn white_words() -> Words4
-    ensures { λ r. ⌜ r ≡ white ⌝ }
-{
-    Words4 {
-        r: 0x3f80_0000,
-        g: 0x3f80_0000,
-        b: 0x3f80_0000,
-        a: 0x3f80_0000,
-    }
-}
 
 // A call that nothing refuses, by the block's header and sizes.
 fn make(
@@ -77,8 +63,8 @@ fn make(
     }
 }
 
-// A call of any kind.
-fn answer_call(
+// The mesh of a block, into the lent slices; or a refusal, and every lent element as it was.
+pub fn convert(
     call: Call,
     block: &[u8],
     positions: &mut [u32],
@@ -127,37 +113,4 @@ fn answer_call(
         )),
         Verdict::Refused(no) => Answer::Refused(no),
     }
-}
-
-// The mesh of a block, into the lent slices; or a refusal, and every lent element as it was.
-pub fn convert(
-    block: &[u8],
-    positions: &mut [u32],
-    normals: &mut [u32],
-    colours: &mut [u32],
-    textures: &mut [u32],
-    sources: &mut [u32],
-    indices: &mut [u32],
-    words: &mut [u32],
-    floats: &mut [f32],
-) -> Answer
-    ensures { λ r. ⌜ Converted plain (now (block .entry))
-        (record { slices = record { positions = now (positions .entry); normals = now (normals .entry); colours = now (colours .entry); textures = now (textures .entry); sources = now (sources .entry); indices = now (indices .entry) }; words = now (words .entry); floats = now (floats .entry) })
-        (record { slices = record { positions = now (positions .exit); normals = now (normals .exit); colours = now (colours .exit); textures = now (textures .exit); sources = now (sources .exit); indices = now (indices .exit) }; words = now (words .exit); floats = now (floats .exit) })
-        r ⌝ }
-{
-    answer_call(
-        Call {
-            colour: white_words(),
-        },
-        block,
-        positions,
-        normals,
-        colours,
-        textures,
-        sources,
-        indices,
-        words,
-        floats,
-    )
 }

@@ -5,11 +5,16 @@ use mathlib.Core.List.{List, [], _∷_}
 use lib.Seq.{sets}
 use Rattle.block.specs.Refusal.{numberOf}
 use Rattle.mesh.specs.Sizes.{one}
-use Rattle.geometry.specs.Answer.{plain}
 use Rattle.geometry.specs.Converted.{Lending, Converted}
 use Rattle.geometry.specs.declared.answer.Answer.{Answer}
 use Rattle.geometry.specs.declared.answer.Answer.the-variants.{Refused, Made}
+use Rattle.geometry.specs.declared.answer.Call.{Call}
 use Rattle.geometry.specs.declared.answer.Report.{Report}
+use Rattle.host.specs.declared.Choice.{Choice}
+
+-- FORMAT 15: what the host chose, word by word
+abbrev pub callOf : Choice → Call
+callOf x = let c = x .colour in record { colour = record { r = c .r; g = c .g; b = c .b; a = c .a } }
 
 -- FORMAT 15: vertices, indices, solid, unlit and has_colors
 unfoldable pub wordsOf : Report → List ℕ
@@ -25,9 +30,9 @@ abbrev pub resultAfter : Answer → List ℕ → List ℕ
 resultAfter (Refused n) held = held
 resultAfter (Made p) held = sets held 0 (wordsOf p)
 
--- FORMAT 15: a call on the block bs, with l and the result slice x lent, left m and y and returned r
-pub record Hosted (bs : List ℕ) (l m : Lending) (x y : List ℕ) (r : ℕ) : Type 0 where
+-- FORMAT 15: a call with what its host chose, on the block bs, with l and the result slice x lent, left m and y and returned r
+pub record Hosted (call : Call) (bs : List ℕ) (l m : Lending) (x y : List ℕ) (r : ℕ) : Type 0 where
   pub answer : Answer
-  pub converted : Converted plain bs l m answer
+  pub converted : Converted call bs l m answer
   pub number : r ≡ returned answer
   pub result : y ≡ resultAfter answer x

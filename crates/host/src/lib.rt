@@ -3,10 +3,27 @@ ghost use mathlib.Core.Path.{_≡_};
 ghost use lib.ListN.{set};
 ghost use lib.Seq.{sets};
 ghost use Rattle.mesh.specs.Sizes.{one};
-ghost use Rattle.host.specs.Hosted.{Hosted, wordsOf};
+ghost use Rattle.host.specs.Hosted.{callOf, Hosted, wordsOf};
+use bits::Words4;
 use block::number_of;
 use geometry::Answer;
+use geometry::Call;
 use geometry::Report;
+
+// A colour as a host has it: the bits of four f32, laid out as in C.
+#[repr(C)]
+pub struct Colour {
+    pub r: u32,
+    pub g: u32,
+    pub b: u32,
+    pub a: u32,
+}
+
+// What a host chooses.
+#[repr(C)]
+pub struct Choice {
+    pub colour: Colour,
+}
 
 fn one_if(b: bool) -> usize
     ensures { λ r. ⌜ r ≡ one b ⌝ }
@@ -36,9 +53,24 @@ fn put_report(result: &mut [usize], p: Report)
     put(result, 4, one_if(p.has_colors));
 }
 
+fn call_of(choice: Choice) -> Call
+    ensures { λ r. ⌜ r ≡ callOf choice ⌝ }
+{
+    let c = choice.colour;
+    Call {
+        colour: Words4 {
+            r: c.r,
+            g: c.g,
+            b: c.b,
+            a: c.a,
+        },
+    }
+}
+
 // The mesh of a block, into the lent slices, and 0; or the number of the refusal, and every lent element as it was.
 #[no_mangle]
 pub extern "C" fn sitemesh_convert(
+    choice: Choice,
     block: &[u8],
     positions: &mut [u32],
     normals: &mut [u32],
@@ -50,12 +82,13 @@ pub extern "C" fn sitemesh_convert(
     floats: &mut [f32],
     result: &mut [usize],
 ) -> u32
-    ensures { λ r. ⌜ Hosted (now (block .entry))
+    ensures { λ r. ⌜ Hosted (callOf choice) (now (block .entry))
         (record { slices = record { positions = now (positions .entry); normals = now (normals .entry); colours = now (colours .entry); textures = now (textures .entry); sources = now (sources .entry); indices = now (indices .entry) }; words = now (words .entry); floats = now (floats .entry) })
         (record { slices = record { positions = now (positions .exit); normals = now (normals .exit); colours = now (colours .exit); textures = now (textures .exit); sources = now (sources .exit); indices = now (indices .exit) }; words = now (words .exit); floats = now (floats .exit) })
         (now (result .entry)) (now (result .exit)) r ⌝ }
 {
     match geometry::convert(
+        call_of(choice),
         block,
         positions,
         normals,

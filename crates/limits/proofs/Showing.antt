@@ -9,12 +9,12 @@ use Rattle.mesh.specs.Mesh.{Slices}
 use Rattle.geometry.specs.declared.answer.Answer.{Answer}
 use Rattle.geometry.specs.declared.answer.Answer.the-variants.{Refused, Made}
 use Rattle.geometry.specs.declared.answer.Report.{Report}
-use Rattle.geometry.specs.Answer.{plain, saying}
+use Rattle.geometry.specs.Answer.{saying}
 use Rattle.geometry.specs.Converted.{Lending, Converted}
 use Rattle.limits.specs.declared.full.Seen.{Seen}
-use Rattle.limits.specs.Shown.{full, numberIn, indicesIn, left, Shows}
+use Rattle.limits.specs.Shown.{passed, full, numberIn, indicesIn, left, Shows}
 
-module _ {bs : List ℕ} {m : Lending} {r : Answer} (C : Converted plain bs full m r) where
+module _ {bs : List ℕ} {m : Lending} {r : Answer} (C : Converted passed bs full m r) where
   -- the first three indices are read from what was left
   shows-by : (number indices : ℕ) → number ≡ numberIn (saying r) → indices ≡ indicesIn (saying r)
       → Shows bs (record { number = number; indices = indices; a = getD (m .slices .indices) 0 0; b = getD (m .slices .indices) 1 0; c = getD (m .slices .indices) 2 0 })

@@ -6,10 +6,15 @@ use lib.ListN.{getD, replicate}
 use lib.Ieee.{binary32, ofBits}
 use Rattle.block.specs.Edition.{edition1}
 use Rattle.mesh.specs.Result.{made}
-use Rattle.geometry.specs.Answer.{plain, resultFor, Saying, refused, said}
+use Rattle.geometry.specs.declared.answer.Call.{Call}
+use Rattle.geometry.specs.Answer.{white, resultFor, Saying, refused, said}
 use Rattle.geometry.specs.Answer as spec
 use Rattle.geometry.specs.Converted.{Lending, numberFor, afterAll}
 use Rattle.limits.specs.declared.full.Seen.{Seen}
+
+-- FORMAT 7.2: what the program chooses
+abbrev pub passed : Call
+passed = record { colour = white }
 
 -- FORMAT 3: as many points and corners as edition 1 allows
 abbrev limit : ℕ
@@ -42,12 +47,12 @@ indicesIn (spec.made r) = r .indices
 
 -- FORMAT 5: the indices after the call
 unfoldable pub left : List ℕ → List ℕ
-left bs = afterAll (numberFor bs full) (made (plain .colour) bs) (full .slices) .indices
+left bs = afterAll (numberFor bs full) (made (passed .colour) bs) (full .slices) .indices
 
 -- r shows what the call on bs says, and its first three indices
 pub record Shows (bs : List ℕ) (r : Seen) : Type 0 where
-  pub number : r .number ≡ numberIn (said (numberFor bs full) (resultFor plain bs))
-  pub indices : r .indices ≡ indicesIn (said (numberFor bs full) (resultFor plain bs))
+  pub number : r .number ≡ numberIn (said (numberFor bs full) (resultFor passed bs))
+  pub indices : r .indices ≡ indicesIn (said (numberFor bs full) (resultFor passed bs))
   pub a : r .a ≡ getD (left bs) 0 0
   pub b : r .b ≡ getD (left bs) 1 0
   pub c : r .c ≡ getD (left bs) 2 0

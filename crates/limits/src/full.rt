@@ -3,6 +3,7 @@ ghost use Rattle.limits.specs.Shown.{Shows};
 use block::LIMIT;
 use block::number_of;
 use geometry::Answer;
+use geometry::Call;
 
 // The refusal's number, the number of indices, and the first triangle.
 pub struct Seen {
@@ -25,6 +26,9 @@ pub fn convert_full(block: &[u8]) -> Seen
     let mut words = [0u32; 16 * LIMIT + 8];
     let mut floats = [0.0f32; 16 * LIMIT + 8];
     match geometry::convert(
+        Call {
+            colour: geometry::WHITE,
+        },
         block,
         &mut positions,
         &mut normals,

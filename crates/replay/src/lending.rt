@@ -5,6 +5,7 @@ use block::LIMIT;
 use block::number_of;
 use block::read_header;
 use geometry::Answer;
+use geometry::Call;
 use geometry::Report;
 use text::Head;
 
@@ -17,7 +18,7 @@ fn least(a: usize, b: usize) -> usize
     b
 }
 
-// Slices for so many corners and as many points (FORMAT 4): the fronts of the given ones.
+// Slices for so many corners and as many points (FORMAT 4): the fronts of the given ones. A missing colour is white, as in the reference.
 fn convert_for(
     corners: u32,
     block: &[u8],
@@ -40,6 +41,9 @@ fn convert_for(
     let g = least(16 * k + 8, words.len());
     let h = least(16 * k + 8, floats.len());
     geometry::convert(
+        Call {
+            colour: geometry::WHITE,
+        },
         block,
         &mut positions[..a],
         &mut normals[..b],

@@ -6,7 +6,11 @@ use Rattle.host.proofs.sitemesh_convert.Reads as reads
 use Rattle.host.proofs.sitemesh_convert.Lts as lts
 use Rattle.block.proofs.number_of.Reads as number-of-reads
 use Rattle.geometry.proofs.convert.Reads as convert-reads
+use Rattle.host.proofs.call_of.Reads as call-of-reads
 use Rattle.host.proofs.put_report.Reads as put-report-reads
+
+call-of-requires : tie.Need-call-of-requires
+call-of-requires c κs = search needs
 
 convert-requires : tie.Need-convert-requires
 convert-requires c κs = search needs
@@ -48,7 +52,10 @@ same-length-8 : tie.Need-same-length-8
 same-length-8 c = search needs
 
 returns : tie.Need-returns
-returns c = refused-ends (c .before .before .before .before .before .before .before .before .before .before .before .before .before .before .before .before .before .before .before .before .convert .ensures) (c .before .before .no .given .1) (c .number-of .ensures)
+returns c =
+    let c2 = c .before .before in
+    let c20 = c2 .before .before .before .before .before .before .before .before .before .before .before .before .before .before .before .before .before .before in
+    refused-ends (c20 .before .before .before .before .before .before .before .before .before .call-of .ensures) (c20 .convert .ensures) (c2 .no .given .1) (c .number-of .ensures)
 
 same-length-9 : tie.Need-same-length-9
 same-length-9 c = search needs
@@ -78,12 +85,17 @@ same-length-17 : tie.Need-same-length-17
 same-length-17 c = search needs
 
 returns-2 : tie.Need-returns-2
-returns-2 c = made-ends (c .before .before .before .before .before .before .before .before .before .before .before .before .before .before .before .before .before .before .before .before .before .before .before .convert .ensures) (c .before .before .before .before .before .p .given .1) (c .before .before .put-report .ensures)
+returns-2 c =
+    let c2 = c .before .before in
+    let c5 = c2 .before .before .before in
+    let c23 = c5 .before .before .before .before .before .before .before .before .before .before .before .before .before .before .before .before .before .before in
+    made-ends (c23 .before .before .before .before .before .before .before .before .before .call-of .ensures) (c23 .convert .ensures) (c5 .p .given .1) (c2 .put-report .ensures)
 
 pub sitemesh-convert-spec : {M : Type 1} → statement M
 sitemesh-convert-spec =
     tie.close
     (tie.spec
+    call-of-requires
     convert-requires
     enum-known-no
     number-of-requires

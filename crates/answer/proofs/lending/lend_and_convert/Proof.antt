@@ -1,3 +1,4 @@
+use Rattle.geometry.specs.Answer.{white}
 use Rattle.answer.specs.Lending.{fresh}
 use Rattle.answer.proofs.Said.{left-of}
 use borrow.Author.Needs.{needs}
@@ -35,7 +36,7 @@ convert-requires : tie.Need-convert-requires
 convert-requires c κs = search needs
 
 returns : tie.Need-returns
-unfolding fresh
+unfolding fresh white
 returns c = left-of _ _ _ (c .before .before .before .before .before .before .before .before .convert .ensures)
 
 pub lend-and-convert-spec : {M : Type 1} → statement M

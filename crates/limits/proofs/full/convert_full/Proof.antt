@@ -1,4 +1,5 @@
 use Rattle.block.specs.Edition.{edition1}
+use Rattle.geometry.specs.Answer.{white}
 use Rattle.limits.specs.Shown.{full}
 use Rattle.limits.proofs.Showing.{shows-refused, shows-made}
 use borrow.Author.Needs.{needs}
@@ -42,33 +43,33 @@ enum-known-no c = search needs
 number-of-requires : tie.Need-number-of-requires
 number-of-requires c κs = search needs
 
-array-read-t33 : tie.Need-array-read-t33
-array-read-t33 c = search needs
+array-read-t35 : tie.Need-array-read-t35
+array-read-t35 c = search needs
 
-array-read-t36 : tie.Need-array-read-t36
-array-read-t36 c = search needs
+array-read-t38 : tie.Need-array-read-t38
+array-read-t38 c = search needs
 
-array-read-t39 : tie.Need-array-read-t39
-array-read-t39 c = search needs
+array-read-t41 : tie.Need-array-read-t41
+array-read-t41 c = search needs
 
 enum-known-p : tie.Need-enum-known-p
 enum-known-p c = search needs
 
-array-read-t42 : tie.Need-array-read-t42
-array-read-t42 c = search needs
+array-read-t44 : tie.Need-array-read-t44
+array-read-t44 c = search needs
 
-array-read-t45 : tie.Need-array-read-t45
-array-read-t45 c = search needs
+array-read-t47 : tie.Need-array-read-t47
+array-read-t47 c = search needs
 
-array-read-t48 : tie.Need-array-read-t48
-array-read-t48 c = search needs
+array-read-t50 : tie.Need-array-read-t50
+array-read-t50 c = search needs
 
 returns : tie.Need-returns
-unfolding full edition1
+unfolding full edition1 white
 returns c = shows-refused (c .before .before .before .before .before .before .before .before .before .before .before .before .convert .ensures) (c .before .before .no .given .1) (c .number-of .ensures)
 
 returns-2 : tie.Need-returns-2
-unfolding full edition1
+unfolding full edition1 white
 returns-2 c = shows-made (c .before .before .before .before .before .before .before .before .before .before .before .convert .ensures) (c .before .p .given .1)
 
 pub convert-full-spec : {M : Type 1} → statement M
@@ -86,12 +87,12 @@ convert-full-spec =
     convert-requires
     enum-known-no
     number-of-requires
-    array-read-t33
-    array-read-t36
-    array-read-t39
+    array-read-t35
+    array-read-t38
+    array-read-t41
     enum-known-p
-    array-read-t42
-    array-read-t45
-    array-read-t48
+    array-read-t44
+    array-read-t47
+    array-read-t50
     returns
     returns-2)
