@@ -2,6 +2,7 @@
 pub mod Refusing
 mod ByKind
 pub mod Calls
+pub mod Colours
 pub mod Apart
 pub mod ApartRows
 pub mod Bench
