@@ -1,14 +1,18 @@
 #!/usr/bin/env bash
-# Makes the blocks, the meshes and the picture again from the texts, with target/bin/sitemesh (rt check sitemesh)
-# or the program that SITEMESH names.
+# Makes the blocks, the meshes and the pictures again from the texts, with target/bin/sitemesh (rt check sitemesh)
+# or the program that SITEMESH names, and with hosts/call.c (a C compiler as cc, and rt staticlib host) for what a terminal
+# gets: grey where a colour is missing.
 set -eu
 cd "$(dirname "$0")/.."
 program=${SITEMESH:-target/bin/sitemesh}
 site='ground hospital duct mast ambulance paths'
 meshes=()
-for name in $site; do
+for name in $site annex; do
     python3 tools/block.py "examples/$name.txt" "examples/$name.block"
     "$program" < "examples/$name.block" > "examples/$name.mesh"
-    meshes+=("examples/$name.mesh")
 done
+for name in $site; do meshes+=("examples/$name.mesh"); done
 python3 tools/mesh.py svg "${meshes[@]}" > examples/site.svg
+cc -I hosts hosts/call.c target/staticlib/libhost.a -o target/call
+target/call examples/annex.block grey > examples/grey/annex.mesh
+python3 tools/mesh.py svg examples/grey/annex.mesh > examples/annex.svg

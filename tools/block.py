@@ -25,7 +25,8 @@ spaces is an error where fractions may stand, unless its comma parts two entries
 
 Warnings, each a line on standard error with the line of the text; the block is written, and the status is 0:
   - a run of coordIndex that is not drawn or, in a line set, is broken (FORMAT 6);
-  - a run, point or quad that is drawn without its colour, normal or texture point (FORMAT 7);
+  - a run, point or quad that is drawn without its colour, normal or texture point (FORMAT 7); a missing colour is the
+    one that the caller chooses: sitemesh passes white, a terminal grey;
   - a shape that draws nothing, a cap that is asked for and not drawn, a list that is not read or is too short.
 Runs, points and values are numbered from 0; an empty run counts and is not warned of.
 

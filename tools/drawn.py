@@ -2,7 +2,8 @@
 """Tests the warnings of block.py against the program, NOT PROVED: python3 tools/drawn.py target/bin/sitemesh
 
 Of face sets and line sets made up at random, sitemesh has to draw the whole of each run that is not warned of and
-nothing of one that is said not to be drawn, and to give white, the missing colour, just where a warning says so.
+nothing of one that is said not to be drawn, and to give white, which it passes for a missing colour, just where a
+warning says so.
 """
 import random
 import re

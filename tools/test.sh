@@ -96,12 +96,16 @@ for text in examples/*.txt tools/cases/*.txt; do
     tally "block of $text" $?
 done
 
-for text in examples/*.txt; do
-    python3 tools/block.py --strict "$text" "$work/made.block"
-    tally "no warning: $text" $?
-done
-
 for name in "${site[@]}"; do
+    python3 tools/block.py --strict "examples/$name.txt" "$work/made.block"
+    tally "no warning: examples/$name.txt" $?
+done
+python3 tools/block.py examples/annex.txt "$work/made.block" 2> "$work/said" &&
+    [ "$(grep -c 'warning: run [0-3] has no color of its own: colorIndex has -1 there$' "$work/said")" -eq 4 ] &&
+    [ "$(wc -l < "$work/said")" -eq 4 ]
+tally 'a warning for each wall of examples/annex.txt, and no other' $?
+
+for name in "${site[@]}" annex; do
     [ "$(wc -c < "examples/$name.block")" -le 8192 ] && grep -q '^mesh ' "examples/$name.mesh"
     tally "examples/$name fits what sitemesh lends" $?
 done
@@ -124,10 +128,15 @@ tally 'OBJ of the site: counts' $?
 python3 tools/mesh.py svg "${meshes[@]}" > "$work/site.svg"
 cmp "$work/site.svg" examples/site.svg
 tally 'picture of the site' $?
+python3 tools/mesh.py svg examples/grey/annex.mesh | cmp - examples/annex.svg
+tally 'picture of the annex' $?
+white='c 3f800000 3f800000 3f800000 3f800000' grey='c 3f4ccccd 3f4ccccd 3f4ccccd 3f800000'
+sed "s/$white/$grey/" examples/annex.mesh | cmp - examples/grey/annex.mesh && grep -q "$grey" examples/grey/annex.mesh
+tally 'the annex has grey where sitemesh put white' $?
 well_formed='import sys, xml.etree.ElementTree as tree; tree.parse(sys.argv[1])'
 [ "$(wc -c < examples/site.svg)" -lt 100000 ] && python3 -c "$well_formed" examples/site.svg
 tally 'the picture is well formed and small' $?
-python3 tools/painter.py "${meshes[@]}"
+python3 tools/painter.py "${meshes[@]}" && python3 tools/painter.py examples/grey/annex.mesh
 tally "painter's order: what is painted last over a point is the nearest there" $?
 
 faulty 'shape IndexedFaceSet\npoint 0 0 0\n  1 0\n' 3 'has 3 numbers'
