@@ -1,6 +1,7 @@
-/* Converts the block of a file with the slices that sitemesh lends, prints the answer as sitemesh does, and looks at the
- * guards before and behind every slice. With a second argument the named one of the eight slices is lent one element short, and every
- * element must be as it was. */
+/* call BLOCK COLOUR [SLICE]: converts the block of a file with the slices that sitemesh lends and a colour for missing
+ * entries (grey, white, or four words as eight hexadecimal digits each, parted by commas), prints the answer as sitemesh
+ * does, and looks at the guards before and behind every slice. With a third argument the named one of the eight slices is
+ * lent one element short, and every element must be as it was. */
 #include "sitemesh.h"
 #include <stdio.h>
 #include <stdlib.h>
@@ -32,6 +33,22 @@ static void require(int holds, const char *what, const char *slice) {
     exit(1);
 }
 
+/* The layout that the archive has: four words in a row, in this order, and nothing else. */
+typedef char call_is_four_words[sizeof(sitemesh_call) == 16 && offsetof(sitemesh_call, colour) == 0 ? 1 : -1];
+typedef char colour_is_in_order[offsetof(sitemesh_colour, r) == 0 && offsetof(sitemesh_colour, g) == 4 &&
+                                        offsetof(sitemesh_colour, b) == 8 && offsetof(sitemesh_colour, a) == 12
+                                    ? 1
+                                    : -1];
+
+static sitemesh_colour colour_of(const char *word) {
+    if (strcmp(word, "grey") == 0) return SITEMESH_GREY;
+    if (strcmp(word, "white") == 0) return SITEMESH_WHITE;
+    unsigned r, g, b, a;
+    if (sscanf(word, "%8x,%8x,%8x,%8x", &r, &g, &b, &a) != 4) exit(2);
+    sitemesh_colour colour = {r, g, b, a};
+    return colour;
+}
+
 static void print_words(const char *letter, const uint32_t *words, size_t v, size_t n) {
     printf(" %s", letter);
     for (size_t i = 0; i < n; i++) printf(" %08x", words[n * v + i]);
@@ -57,7 +74,7 @@ static void print_mesh(uint32_t *const *s, const size_t *result, int texture) {
 
 int main(int argc, char **argv) {
     static uint8_t block[8192];
-    FILE *file = argc > 1 ? fopen(argv[1], "rb") : NULL;
+    FILE *file = argc > 2 ? fopen(argv[1], "rb") : NULL;
     if (!file) return 2;
     size_t n = fread(block, 1, sizeof block, file);
     fclose(file);
@@ -66,11 +83,12 @@ int main(int argc, char **argv) {
     size_t lent[SLICES];
     for (int k = 0; k < SLICES; k++) {
         s[k] = lend(lengths[k]);
-        lent[k] = lengths[k] - (argc > 2 && k < RESULT && strcmp(argv[2], names[k]) == 0);
+        lent[k] = lengths[k] - (argc > 3 && k < RESULT && strcmp(argv[3], names[k]) == 0);
     }
     size_t result[SITEMESH_RESULT];
-    uint32_t number = sitemesh_convert(block, n, (float *)s[0], lent[0], (float *)s[1], lent[1], (float *)s[2], lent[2],
-                                       (float *)s[3], lent[3], s[4], lent[4], s[5], lent[5], s[6], lent[6],
+    sitemesh_call call = {colour_of(argv[2])};
+    uint32_t number = sitemesh_convert(call, block, n, (float *)s[0], lent[0], (float *)s[1], lent[1], (float *)s[2],
+                                       lent[2], (float *)s[3], lent[3], s[4], lent[4], s[5], lent[5], s[6], lent[6],
                                        (float *)s[7], lent[7], (size_t *)(void *)s[8], SITEMESH_RESULT);
     memcpy(result, s[8], sizeof result);
 

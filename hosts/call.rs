@@ -1,8 +1,9 @@
-//! Converts the block of a file with the slices that sitemesh lends, by the wrapper, and prints the first line that
-//! sitemesh prints; looks at the guards before and behind every slice.
+//! call BLOCK COLOUR: converts the block of a file with the slices that sitemesh lends, by the wrapper, and with a colour
+//! for missing entries (grey, white, or four words as hexadecimal digits, parted by commas); prints the first line that
+//! sitemesh prints, and each vertex's colour as sitemesh does; looks at the guards before and behind every slice.
 mod sitemesh;
 
-use sitemesh::{convert, Lent};
+use sitemesh::{convert, Call, Colour, Lent, GREY, WHITE};
 
 const GUARD: usize = 64;
 const WORD: u32 = 0x5a5a_5a5a;
@@ -26,8 +27,25 @@ fn changed_around<T: Copy>(all: &[T], made: usize, bits: fn(T) -> u32) -> usize 
     kept.filter(|x| bits(**x) != WORD).count()
 }
 
+// The layout that the archive has: four words in a row.
+const _: () = assert!(size_of::<Call>() == 16 && align_of::<Call>() == 4);
+
+fn colour_of(word: &str) -> Colour {
+    match word {
+        "grey" => GREY,
+        "white" => WHITE,
+        _ => {
+            let words: Vec<u32> = word.split(',').map(|w| u32::from_str_radix(w, 16).expect("a word")).collect();
+            let [r, g, b, a] = words[..] else { panic!("a colour has four words") };
+            Colour { r, g, b, a }
+        }
+    }
+}
+
 fn main() {
-    let path = std::env::args().nth(1).expect("a block's file");
+    let mut words_given = std::env::args().skip(1);
+    let path = words_given.next().expect("a block's file");
+    let colour = colour_of(&words_given.next().expect("a colour"));
     let block = std::fs::read(path).expect("the block is read");
     let (mut positions, mut normals, mut colours, mut textures) = (floats(768), floats(768), floats(1024), floats(512));
     let (mut sources, mut indices, mut work, mut scratch) = (words(256), words(768), words(4104), floats(4104));
@@ -41,9 +59,13 @@ fn main() {
         words: middle(&mut work),
         floats: middle(&mut scratch),
     };
-    let (v, n, cleared) = match convert(&block, lent) {
+    let (v, n, cleared) = match convert(Call { colour }, &block, lent) {
         Ok(m) => {
             println!("mesh {} {} {} {} {}", m.vertices, m.indices, m.solid as u8, m.unlit as u8, m.has_colors as u8);
+            for c in colours[GUARD..][..4 * m.vertices].chunks(4).take_while(|_| m.has_colors) {
+                let [r, g, b, a] = [c[0], c[1], c[2], c[3]].map(f32::to_bits);
+                println!("c {r:08x} {g:08x} {b:08x} {a:08x}");
+            }
             (m.vertices, m.indices, 4104)
         }
         Err(refusal) => {

@@ -1,4 +1,5 @@
-/* Reads a block on standard input, converts it and says how much was made and where its first corner is. */
+/* Reads a block on standard input, converts it as a terminal does, with grey for missing colours, and says how much was
+ * made and where its first corner is. */
 #include "sitemesh.h"
 #include <stdio.h>
 
@@ -10,8 +11,9 @@ static uint32_t sources[SITEMESH_MOST_SOURCES], indices[SITEMESH_MOST_INDICES], 
 int main(void) {
     size_t n = fread(block, 1, sizeof block, stdin);
     size_t result[SITEMESH_RESULT];
+    sitemesh_call call = {SITEMESH_GREY};
     uint32_t refusal = sitemesh_convert(
-        block, n, positions, SITEMESH_MOST_POSITIONS, normals, SITEMESH_MOST_NORMALS, colours, SITEMESH_MOST_COLOURS,
+        call, block, n, positions, SITEMESH_MOST_POSITIONS, normals, SITEMESH_MOST_NORMALS, colours, SITEMESH_MOST_COLOURS,
         textures, SITEMESH_MOST_TEXTURES, sources, SITEMESH_MOST_SOURCES, indices, SITEMESH_MOST_INDICES, words,
         SITEMESH_MOST_WORDS, floats, SITEMESH_MOST_FLOATS, result, SITEMESH_RESULT);
     if (refusal != SITEMESH_OK) {

@@ -1,8 +1,9 @@
-//! Reads a block on standard input, converts it and says how much was made and where its first corner is.
+//! Reads a block on standard input, converts it as a terminal does, with grey for missing colours, and says how much was
+//! made and where its first corner is.
 #[path = "sitemesh.rs"] // from this file's folder
 mod sitemesh;
 
-use sitemesh::Lent;
+use sitemesh::{Call, Lent};
 use std::io::Read;
 
 fn main() {
@@ -22,7 +23,7 @@ fn main() {
         words: &mut words,
         floats: &mut floats,
     };
-    match sitemesh::convert(&block, lent) {
+    match sitemesh::convert(Call { colour: sitemesh::GREY }, &block, lent) {
         Err(refusal) => println!("refused: {refusal:?}"),
         Ok(mesh) => {
             println!("{} vertices, {} indices", mesh.vertices, mesh.indices);

@@ -12,7 +12,7 @@
  *   changes that for the whole program, and so did, with gcc 12.2, a shared library linked with it. Then the mesh
  *   may be another: a duct whose cross-section is (0, 0), (1, 0), (1, 1), (0, 1), (1e-40, 0) lost two of its fourteen
  *   triangles. A host that cannot be sure puts _mm_setcsr(0x1f80) before the call and its own mode back after it.
- * - Stack. Some 3 KiB: 2,888 bytes were the most in 1.3 million fuzzed calls, arguments included, and there is no
+ * - Stack. Some 3 KiB: 2,952 bytes were the most in 1.3 million fuzzed calls, arguments included, and there is no
  *   recursion. Leave 8 KiB, which is all that the fuzzing gives a call (compare/README.md).
  *
  * There is no state outside the arguments, so threads may call at the same time, each with slices of its own; they may
@@ -61,13 +61,28 @@ enum {
     SITEMESH_MOST_BLOCK = 68 + 4 * 16 * 8192
 };
 
+/* A colour: red, green, blue and alpha, each the bits of a float; they are copied as they are, those of a NaN too. */
+typedef struct {
+    uint32_t r, g, b, a;
+} sitemesh_colour;
+
+/* Two colours by name (docs/FORMAT.md 7.2): the terminal's default, (0.8, 0.8, 0.8, 1), and the survey desk's, all 1. */
+static const sitemesh_colour SITEMESH_GREY = {0x3f4ccccd, 0x3f4ccccd, 0x3f4ccccd, 0x3f800000};
+static const sitemesh_colour SITEMESH_WHITE = {0x3f800000, 0x3f800000, 0x3f800000, 0x3f800000};
+
+/* What the caller chooses: the colour where a block has colours and a corner's is missing. */
+typedef struct {
+    sitemesh_colour colour;
+} sitemesh_call;
+
 /*
  * Converts the block into the lent slices, each a pointer and its length in elements. Returns SITEMESH_OK and puts the
  * counts and bits above into `result`, as far as it goes; or returns the refusal, and then every lent element is what
  * it was. The lengths asked for are in docs/FORMAT.md 4. `words` and `floats` are the two working slices: scratch, and
  * zeros after success.
  */
-uint32_t sitemesh_convert(const uint8_t *block, size_t block_length,
+uint32_t sitemesh_convert(sitemesh_call call,
+                          const uint8_t *block, size_t block_length,
                           float *positions, size_t positions_length,
                           float *normals, size_t normals_length,
                           float *colours, size_t colours_length,

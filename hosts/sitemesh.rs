@@ -43,6 +43,28 @@ impl Refusal {
     }
 }
 
+/// A colour: red, green, blue and alpha, each the bits of an f32; they are copied as they are, those of a NaN too.
+#[repr(C)]
+#[derive(Clone, Copy, Debug, PartialEq, Eq)]
+pub struct Colour {
+    pub r: u32,
+    pub g: u32,
+    pub b: u32,
+    pub a: u32,
+}
+
+/// The terminal's default, (0.8, 0.8, 0.8, 1) (docs/FORMAT.md 7.2).
+pub const GREY: Colour = Colour { r: 0x3f4c_cccd, g: 0x3f4c_cccd, b: 0x3f4c_cccd, a: 0x3f80_0000 };
+/// The survey desk's, (1, 1, 1, 1).
+pub const WHITE: Colour = Colour { r: 0x3f80_0000, g: 0x3f80_0000, b: 0x3f80_0000, a: 0x3f80_0000 };
+
+/// What the caller chooses: the colour where a block has colours and a corner's is missing.
+#[repr(C)]
+#[derive(Clone, Copy, Debug, PartialEq, Eq)]
+pub struct Call {
+    pub colour: Colour,
+}
+
 /// The slices that a call is lent; docs/FORMAT.md 4 has the lengths asked for.
 pub struct Lent<'a> {
     pub positions: &'a mut [f32],
@@ -68,6 +90,7 @@ pub struct Mesh {
 // A slice is handed over as a pointer and a length, two arguments each.
 unsafe extern "C" {
     fn sitemesh_convert(
+        call: Call,
         block: *const u8, block_length: usize,
         positions: *mut f32, positions_length: usize,
         normals: *mut f32, normals_length: usize,
@@ -82,11 +105,12 @@ unsafe extern "C" {
 }
 
 /// Converts a block into the lent slices, or says why it is refused and leaves every lent element as it was.
-pub fn convert(block: &[u8], lent: Lent) -> Result<Mesh, Refusal> {
+pub fn convert(call: Call, block: &[u8], lent: Lent) -> Result<Mesh, Refusal> {
     let mut result = [0usize; 5];
     // SAFETY: the slices are of distinct borrows, so none overlaps another or the block.
     let number = unsafe {
         sitemesh_convert(
+            call,
             block.as_ptr(), block.len(),
             lent.positions.as_mut_ptr(), lent.positions.len(),
             lent.normals.as_mut_ptr(), lent.normals.len(),

@@ -20,18 +20,64 @@ if have 'the Rust wrapper' rustc; then
     done
 fi
 
+# What hosts/call.rs prints of a mesh: its first line, and the colour of each vertex.
+told() {
+    sed -n -e 1p -e 's/^v .* \(c\( [0-9a-f]\{8\}\)\{4\}\).*/\1/p'
+}
+
 for block in examples/*.block tools/cases/*.block; do
-    "$out/call_c" "$block" | cmp - "${block%.block}.mesh"
+    "$out/call_c" "$block" white | cmp - "${block%.block}.mesh"
     tally "$block from C" $?
     for call in "${callers[@]}"; do
-        "$call" "$block" | cmp - <(head -n 1 "${block%.block}.mesh")
+        "$call" "$block" white | cmp - <(told < "${block%.block}.mesh")
         tally "$block by $call" $?
     done
 done
 
+# The colour of a missing entry is the call's, word by word: grey, and words of which three are NaN. Of the annex no listed
+# colour is white, so its mesh is that of sitemesh with another colour for white.
+white='3f800000 3f800000 3f800000 3f800000'
+for colour in grey 7fa00001,ffc00002,7fffffff,80000001; do
+    words=${colour//,/ }
+    [ "$colour" = grey ] && words='3f4ccccd 3f4ccccd 3f4ccccd 3f800000'
+    sed "s/c $white/c $words/" examples/annex.mesh > "$out/annex.mesh"
+    "$out/call_c" examples/annex.block "$colour" | cmp - "$out/annex.mesh" && grep -q "$words" "$out/annex.mesh"
+    tally "missing colours are $colour from C" $?
+    for call in "${callers[@]}"; do
+        "$call" examples/annex.block "$colour" | cmp - <(told < "$out/annex.mesh")
+        tally "missing colours are $colour by $call" $?
+    done
+    # Where no colour is missing, or the block has none, the call's is not seen.
+    for block in examples/{ground,hospital,duct,mast,ambulance,paths}.block; do
+        "$out/call_c" "$block" "$colour" | cmp - "${block%.block}.mesh"
+        tally "$block with $colour" $?
+    done
+done
+"$out/call_c" examples/annex.block grey | cmp - examples/grey/annex.mesh
+tally 'examples/grey/annex.mesh from C' $?
+
+# A listed grey and a missing one are one vertex.
+for call in "$out/call_c" "${callers[@]}"; do
+    [ "$("$call" tools/cases/joined.block grey | sed -n 1p)" = 'mesh 4 6 1 0 1' ] &&
+        [ "$("$call" tools/cases/joined.block white | sed -n 1p)" = 'mesh 6 6 1 0 1' ]
+    tally "a listed grey beside missing colours by $call" $?
+done
+
+# The two colours that have names have the same words in the header, the wrapper and the code.
+named() { # NAME, words
+    local header wrapper code
+    header=$(sed -n "/ SITEMESH_$1 = /p" hosts/sitemesh.h | grep -o '0x[0-9a-f]*')
+    wrapper=$(sed -n "/ $1: Colour = /p" hosts/sitemesh.rs | grep -o '0x[0-9a-f_]*' | tr -d _)
+    code=$(sed -n "/ $1: Words4 = /,/^}/p" crates/geometry/src/answer.rt | grep -o '0x[0-9a-f_]*' | tr -d _)
+    [ "$header" = "$(printf '0x%s\n' $2)" ] && [ "$header" = "$wrapper" ] && [ "$header" = "$code" ]
+    tally "$1 is the same everywhere" $?
+}
+named GREY '3f4ccccd 3f4ccccd 3f4ccccd 3f800000'
+named WHITE "$white"
+
 # The ground has as many corners as are lent for, so its own slices may not be one short; the working slices have room.
 for slice in positions normals colours textures sources; do
-    [ "$("$out/call_c" examples/ground.block "$slice")" = 'no 8' ]
+    [ "$("$out/call_c" examples/ground.block grey "$slice")" = 'no 8' ]
     tally "$slice one short" $?
 done
 
@@ -71,8 +117,14 @@ for example in "${examples[@]}"; do
     tally "the most corners and points by $example" $?
 done
 for call in "${callers[@]}"; do
-    [ "$("$call" "$out/most")" = 'no 8' ]
+    [ "$("$call" "$out/most" white)" = 'no 8' ]
     tally "the most corners and points by $call" $?
+done
+
+# The examples pass grey.
+for example in "${examples[@]}"; do
+    [ "$("$example" < tools/cases/joined.block | sed -n 1p)" = '4 vertices, 6 indices' ]
+    tally "grey by $example" $?
 done
 
 # The first seven refusals, by number from C and by name from Rust; the names are those of docs/FORMAT.md 3.
