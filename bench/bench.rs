@@ -8,7 +8,7 @@ use crate::follow::given;
 use crate::format::{Block, FACES, LIMIT, LINES, Sizes, lengths};
 use crate::judge::judge;
 use crate::maker::Maker;
-use crate::ours::{self, Slices};
+use crate::ours::{self, Slices, WHITE};
 use crate::outlines;
 use crate::rng::Rng;
 use crate::shape::Shape;
@@ -57,8 +57,8 @@ pub fn timed(shape: &Shape, maker: &Maker, slices: &mut Slices, time: Duration) 
     let (theirs, made) = best(time, || scene.convert());
     made?;
     slices.lend(&bytes, &lengths(sizes), 5, 0);
-    let (mine, number) = best(time, || ours::convert(slices));
-    let differs = judge(&expected(&bytes, &lengths(sizes), &maker.angles), number, slices).err();
+    let (mine, number) = best(time, || ours::convert(WHITE, slices));
+    let differs = judge(&expected(&bytes, &lengths(sizes), &maker.angles, WHITE), number, slices).err();
     Some(Timed { sizes, theirs, mine, differs })
 }
 

@@ -1,5 +1,6 @@
 //! The mode `compare`: fixed and generated blocks, each given to both.
 
+use std::cmp::Ordering;
 use std::collections::BTreeMap;
 use std::time::Instant;
 
@@ -9,11 +10,16 @@ use crate::fixed;
 use crate::format::{Block, accept, lengths};
 use crate::judge::judge;
 use crate::maker::Maker;
-use crate::ours::{self, Slices};
+use crate::ours::{self, Colour, GREY, Slices, WHITE};
 use crate::rng::Rng;
 
 const MOST_SHOWN: usize = 10;
 const ANY: [usize; 8] = [usize::MAX; 8];
+const NANS: [u32; 6] = [0x7fc0_0000, 0xffc0_0000, 0x7f80_0001, 0xff80_0001, 0xffff_ffff, 0x7fc1_2345];
+
+/// Vertices that the colour joins, and vertices that white joined.
+const FEWER: &str = "with another colour, fewer vertices than with white";
+const MORE: &str = "with another colour, more vertices than with white";
 
 #[derive(Default)]
 struct Run {
@@ -33,7 +39,7 @@ impl Run {
         *self.counts.entry(what).or_default() += 1;
     }
 
-    fn call(&mut self, name: &str, block: &[u8], lent: &[usize; 8], result: usize, base: &Expected) {
+    fn call(&mut self, name: &str, block: &[u8], lent: &[usize; 8], result: usize, colour: Colour, base: &Expected) {
         self.calls += 1;
         let refused;
         let want = match accept(block, lent) {
@@ -45,15 +51,16 @@ impl Run {
             Ok(_) => base,
         };
         if self.trace {
-            println!("{name}, {} bytes, lent {lent:?}, result {result}", block.len());
+            println!("{name}, {} bytes, lent {lent:?}, result {result}, colour {colour:x?}", block.len());
         }
         self.slices.lend(block, lent, result, self.calls as u32);
-        let number = ours::convert(&mut self.slices);
+        let number = ours::convert(colour, &mut self.slices);
         if let Err(what) = judge(want, number, &self.slices) {
             self.differ += 1;
             if self.differ <= MOST_SHOWN {
                 let file = format!("{}/differs-{}.block", self.folder, self.differ);
-                println!("{name}, lent {lent:?}, result {result}: {what} ({} bytes in {file})", block.len());
+                let given = format!("lent {lent:?}, result {result}, colour {colour:x?}");
+                println!("{name}, {given}: {what} ({} bytes in {file})", block.len());
                 let _ = std::fs::write(file, block);
             }
         }
@@ -61,7 +68,7 @@ impl Run {
 
     fn base(&mut self, block: &[u8], maker: &Maker) -> Expected {
         self.blocks += 1;
-        let base = expected(block, &ANY, &maker.angles);
+        let base = expected(block, &ANY, &maker.angles, WHITE);
         let kind = Block::read(block).map_or(9, |b| b.kind);
         self.count(match &base {
             Expected::Refused(n) => format!("blocks refused by {n}"),
@@ -70,6 +77,23 @@ impl Run {
             Expected::Outlined(_) => format!("meshes of kind {kind}, taken out"),
         });
         base
+    }
+
+    /// A call with a colour that is not white; `base` is the answer with white.
+    fn coloured(&mut self, name: &str, block: &[u8], colour: Colour, maker: &Maker, base: &Expected) {
+        let want = expected(block, &ANY, &maker.angles, colour);
+        if let (Expected::Made(white, _), Expected::Made(mesh, _)) = (base, &want) {
+            self.count("meshes with another colour than white".into());
+            if white.colours != mesh.colours {
+                self.count("with another colour, where one is missing".into());
+            }
+            match mesh.sources.len().cmp(&white.sources.len()) {
+                Ordering::Less => self.count(FEWER.into()),
+                Ordering::Equal => {}
+                Ordering::Greater => self.count(MORE.into()),
+            }
+        }
+        self.call(name, block, &Self::asked(block), 5, colour, &want);
     }
 
     /// Lengths that serve a block: those asked for, or any for a refused one.
@@ -90,10 +114,12 @@ impl Run {
         let short = rng.below(8);
         let less = if rng.one_in(3) { 1 + rng.below(asked[short]) } else { 1 };
         let again = rng.one_in(4);
-        self.call(name, block, &lent, result, &base);
+        self.call(name, block, &lent, result, WHITE, &base);
+        let colour = some_colour(block, &mut maker.rng);
+        self.coloured(name, block, colour, maker, &base);
         if again && asked[short] > 0 {
             lent[short] = asked[short].saturating_sub(less);
-            self.call(name, block, &lent, result, &base);
+            self.call(name, block, &lent, result, colour, &base);
         }
     }
 
@@ -101,23 +127,44 @@ impl Run {
     fn fixed(&mut self, name: &str, block: &[u8], maker: &Maker) {
         let base = self.base(block, maker);
         let asked = Self::asked(block);
-        self.call(name, block, &asked, 5, &base);
-        self.call(name, block, &[0; 8], 5, &base);
-        self.call(name, block, &asked.map(|n| n + 7), 8, &base);
+        self.call(name, block, &asked, 5, WHITE, &base);
+        self.call(name, block, &[0; 8], 5, GREY, &base);
+        self.call(name, block, &asked.map(|n| n + 7), 8, WHITE, &base);
+        for colour in [GREY, [0x7fa1_2345, 0xffc0_0001, 0x8000_0000, 0x7fff_ffff]] {
+            self.coloured(name, block, colour, maker, &base);
+        }
         let small = asked[4] <= 64;
         for k in 0..8 {
             let mut lent = asked;
             if asked[k] > 0 {
                 lent[k] -= 1;
-                self.call(name, block, &lent, 5, &base);
+                self.call(name, block, &lent, 5, WHITE, &base);
                 lent[k] += 1;
             }
             lent[k] += 1;
             if small {
-                self.call(name, block, &lent, k, &base);
+                self.call(name, block, &lent, k, WHITE, &base);
             }
         }
     }
+}
+
+/// Grey, a colour that the block lists, NaN of any bits, alpha other than 1, or any bits; never white.
+fn some_colour(bytes: &[u8], rng: &mut Rng) -> Colour {
+    let mut colour = GREY;
+    match rng.below(8) {
+        0 | 1 => {}
+        2..=4 => {
+            let listed = Block::read(bytes).map_or(Vec::new(), |block| block.colours());
+            if !listed.is_empty() {
+                colour = rng.pick(&listed);
+            }
+        }
+        5 => colour = std::array::from_fn(|_| rng.pick(&NANS)),
+        6 => colour[3] = rng.pick(&[0, 0x8000_0000, 0x3f00_0000, 0x7fc0_0000]),
+        _ => colour = std::array::from_fn(|_| rng.bits()),
+    }
+    if colour == WHITE { GREY } else { colour }
 }
 
 /// Compares; the answer is whether all agreed.
@@ -127,7 +174,7 @@ pub fn compare(count: u64, seed: u64, first: u64, folder: &str) -> bool {
     let mut run = Run { folder: folder.into(), trace, ..Run::default() };
     let mut maker = Maker { rng: Rng::new(seed, u64::MAX), angles: Default::default() };
     if first == 0 {
-        for (name, block) in fixed::blocks(&mut maker) {
+        for (name, block) in fixed::blocks(&mut maker).into_iter().chain(fixed::colourless()) {
             run.fixed(&name, &block, &maker);
         }
         println!("{} fixed blocks, {:.1} s", run.blocks, start.elapsed().as_secs_f32());
@@ -142,5 +189,6 @@ pub fn compare(count: u64, seed: u64, first: u64, folder: &str) -> bool {
     }
     let seconds = start.elapsed().as_secs_f32();
     println!("{} blocks, {} calls, {} differ, {seconds:.1} s", run.blocks, run.calls, run.differ);
-    run.differ == 0
+    let joined = [FEWER, MORE].iter().all(|&what| run.counts.contains_key(what));
+    run.differ == 0 && (first > 0 || joined)
 }

@@ -5,8 +5,10 @@ use std::collections::HashMap;
 use crate::angles::Angles;
 use crate::follow::given;
 use crate::format::{Block, EXTRUSION, FACES, accept, flag};
+use crate::missing::filled;
+use crate::ours::{Colour, WHITE};
 use crate::outline::{Outline, outline};
-use reference::scene::{Mesh, Scene};
+use reference::scene::{Given, Mesh, Scene};
 
 const NAN: u32 = 0x7fc0_0000;
 const MINUS_ZERO: u32 = 0x8000_0000;
@@ -113,13 +115,27 @@ fn could_merge(mesh: &Mesh, raw: &Option<Vec<u32>>) -> bool {
     })
 }
 
+fn converted(given: Given) -> Mesh {
+    Scene::new(given).convert().expect("the reference made no mesh of an accepted block").mesh()
+}
+
+/// The reference's mesh. White it has by itself. For another colour it is given a scene that lists that colour where one
+/// is missing; with white listed there, the scene has to give what the block's own gives.
+fn reference_mesh(block: &Block, given: Given, colour: Colour) -> Mesh {
+    if colour == WHITE {
+        return converted(given);
+    }
+    let white = converted(filled(block, given.clone(), WHITE));
+    assert_eq!(white, converted(given.clone()), "the missing entries are not those that the reference fills with white");
+    converted(filled(block, given, colour))
+}
+
 /// The reference's mesh of an accepted block, or none where it cannot be followed.
-fn mesh_of(block: &Block, angles: &Angles) -> Option<(Mesh, bool)> {
+fn mesh_of(block: &Block, angles: &Angles, colour: Colour) -> Option<(Mesh, bool)> {
     if sign_shows(block) {
         return None;
     }
-    let scene = Scene::new(given(block, angles)?);
-    let mut mesh = scene.convert().expect("the reference made no mesh of an accepted block").mesh();
+    let mut mesh = reference_mesh(block, given(block, angles)?, colour);
     if block.kind == EXTRUSION {
         for word in &mut mesh.positions {
             one_nan(word);
@@ -136,11 +152,11 @@ fn mesh_of(block: &Block, angles: &Angles) -> Option<(Mesh, bool)> {
     Some((if changed { merge(mesh) } else { mesh }, changed))
 }
 
-/// The answer to a call with these lent lengths (FORMAT 4 has their order).
-pub fn expected(bytes: &[u8], lent: &[usize; 8], angles: &Angles) -> Expected {
+/// The answer to a call with these lent lengths (FORMAT 4 has their order) and this colour.
+pub fn expected(bytes: &[u8], lent: &[usize; 8], angles: &Angles, colour: Colour) -> Expected {
     match accept(bytes, lent) {
         Err(number) => Expected::Refused(number),
-        Ok((block, sizes)) => match mesh_of(&block, angles) {
+        Ok((block, sizes)) => match mesh_of(&block, angles, colour) {
             Some((mesh, settled)) => {
                 assert_eq!(mesh.indices.len(), sizes.indices, "N is not the reference's");
                 Expected::Made(mesh, settled)

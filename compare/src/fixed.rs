@@ -187,6 +187,41 @@ fn great(maker: &mut Maker, out: &mut Vec<Named>) {
     }
 }
 
+/// Colours of which some are missing: an own index list with entries that are negative, too large and not there, or a
+/// list of colours that is too short. A listed grey and a listed white stand beside them at the same points.
+pub fn colourless() -> Vec<Named> {
+    let mut out = Vec::new();
+    let (grey, white, red) = ([0.8, 0.8, 0.8, 1.0], [1.0; 4], [1.0, 0.0, 0.0, 0.5]);
+    let listed = [grey, white, red, grey, white, red];
+    for (kind, alpha, by_vertex) in [FACES, LINES, GRID].into_iter().flat_map(|kind| {
+        [(kind, false, false), (kind, false, true), (kind, true, false), (kind, true, true)]
+    }) {
+        let mut shape = Shape::new(kind);
+        shape.flags[flag::COLOURS] = true;
+        shape.flags[flag::ALPHA] = alpha;
+        shape.flags[flag::COLOUR_PER_VERTEX] = by_vertex;
+        let own: &[&[i32]] = if kind == GRID {
+            shape.counts[..2].copy_from_slice(&[3, 3]);
+            shape.set_floats(3, &[0.0; 9]);
+            &[&[]]
+        } else {
+            shape.set_floats(0, &[0.0, 0.0, 0.0, 1.0, 0.0, 0.0, 1.0, 1.0, 0.0, 0.0, 1.0, 0.0]);
+            shape.set_entries(1, &[0, 1, 2, -1, 0, 2, 3, -1, -1, 1, 2, 3, -1, 0, 1, 3]);
+            &[&[], &[0, -1, 6, -1, -7, 0, 1, -1, 0, 1, 1, i32::MAX], &[-1, 0, i32::MIN, 6, 1], &[0, 1]]
+        };
+        for (n, index) in [0, 1, 3, 6].iter().flat_map(|&n| own.iter().map(move |&index| (n, index))) {
+            let colours: Vec<f32> = listed[..n].iter().flat_map(|c| c[..if alpha { 4 } else { 3 }].to_vec()).collect();
+            shape.set_floats(2, &colours);
+            if kind != GRID {
+                shape.set_entries(3, index);
+            }
+            let name = format!("kind {kind}, {n} colours, alpha {alpha}, by vertex {by_vertex}, index {index:?}");
+            out.push((name, shape.block()));
+        }
+    }
+    out
+}
+
 pub fn blocks(maker: &mut Maker) -> Vec<Named> {
     let mut out = Vec::new();
     let samples = samples(maker);

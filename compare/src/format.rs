@@ -106,6 +106,16 @@ impl<'a> Block<'a> {
         self.list(k).into_iter().map(|w| w as i32).collect()
     }
 
+    /// The colours, each with its alpha (FORMAT 7.2); none where they are absent or the kind has none.
+    pub fn colours(&self) -> Vec<[u32; 4]> {
+        if !self.makes_colours() {
+            return Vec::new();
+        }
+        let width = if self.flag(flag::ALPHA) { 4 } else { 3 };
+        let alpha = |c: &[u32]| c.get(3).copied().unwrap_or(0x3f80_0000);
+        self.list(2).chunks(width).map(|c| [c[0], c[1], c[2], alpha(c)]).collect()
+    }
+
     pub fn flag(&self, which: usize) -> bool {
         self.flags[which]
     }

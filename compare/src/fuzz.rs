@@ -25,9 +25,9 @@ use std::collections::BTreeMap;
 use std::process::ExitCode;
 use std::time::Instant;
 
-use format::{LIMIT, Sizes, accept, lengths};
+use format::{Block, LIMIT, Sizes, accept, lengths};
 use maker::Maker;
-use ours::{NAMES, RESULT, Slices};
+use ours::{Colour, GREY, NAMES, RESULT, Slices, WHITE};
 use outline::{Outline, Verdict, answered, holds, outline, outlined, told, zeros};
 use rng::Rng;
 use stack::Stack;
@@ -70,6 +70,9 @@ struct Run {
     blocks: usize,
     calls: usize,
     counts: BTreeMap<String, usize>,
+    /// The colour of the calls on a block that makes colours; every other call has one of its own.
+    colour: Colour,
+    colour_counts: bool,
     /// The most stack that a call used.
     deepest: usize,
     wrong: usize,
@@ -87,6 +90,8 @@ impl Run {
             blocks: 0,
             calls: 0,
             counts: BTreeMap::new(),
+            colour: WHITE,
+            colour_counts: false,
             deepest: 0,
             wrong: 0,
             name: String::new(),
@@ -98,8 +103,17 @@ impl Run {
         *self.counts.entry(what).or_default() += 1;
     }
 
+    fn any_colour(&mut self) -> Colour {
+        match self.rng.below(4) {
+            0 => WHITE,
+            1 => GREY,
+            _ => std::array::from_fn(|_| self.rng.bits()),
+        }
+    }
+
     /// One call; the answer is whether all was as it should be. `look` is asked where the call is to be accepted.
     fn call(&mut self, block: &[u8], lent: &[usize; 8], result: usize, look: impl Fn(&Slices) -> Verdict) -> bool {
+        let colour = if self.colour_counts { self.colour } else { self.any_colour() };
         self.calls += 1;
         let want = accept(block, lent).err().unwrap_or(0);
         if want != 0 {
@@ -107,7 +121,7 @@ impl Run {
         }
         self.slices.lend(block, lent, result, self.rng.bits());
         let (mut number, slices) = (0, &mut self.slices);
-        let depth = self.stack.run(STACK, || number = ours::convert(slices));
+        let depth = self.stack.run(STACK, || number = ours::convert(colour, slices));
         self.deepest = self.deepest.max(depth);
         let mut verdict = answered(want, number, &self.slices);
         if verdict.is_ok() && want == 0 {
@@ -117,7 +131,8 @@ impl Run {
             self.wrong += 1;
             if self.wrong <= MOST_SHOWN {
                 let file = format!("{}/wrong-{}.block", self.folder, self.wrong);
-                println!("{}, lent {lent:?}, result {result}: {what} ({} bytes in {file})", self.name, block.len());
+                let given = format!("lent {lent:?}, result {result}, colour {colour:x?}");
+                println!("{}, {given}: {what} ({} bytes in {file})", self.name, block.len());
                 let _ = std::fs::write(file, block);
             }
         }
@@ -155,6 +170,8 @@ impl Run {
         stack::name_call(&name);
         self.name = name;
         self.blocks += 1;
+        self.colour = self.any_colour();
+        self.colour_counts = Block::read(block).is_ok_and(|read| read.makes_colours());
         match accept(block, &ANY) {
             Ok((read, sizes)) => {
                 self.count(format!("meshes of kind {}", read.kind));
@@ -183,7 +200,7 @@ fn fuzz(count: u64, seed: u64, first: u64, folder: &str) -> bool {
     let mut run = Run::new(seed, folder);
     let mut maker = Maker { rng: Rng::new(seed, u64::MAX), angles: Default::default() };
     if first == 0 {
-        for (name, block) in fixed::blocks(&mut maker) {
+        for (name, block) in fixed::blocks(&mut maker).into_iter().chain(fixed::colourless()) {
             run.block(name, &block);
         }
     }

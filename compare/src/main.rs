@@ -14,6 +14,7 @@ mod follow;
 mod format;
 mod judge;
 mod maker;
+mod missing;
 mod ours;
 mod outline;
 mod outlines;

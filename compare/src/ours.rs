@@ -9,6 +9,18 @@ pub const SOURCES: usize = 4;
 pub const INDICES: usize = 5;
 pub const RESULT: usize = 8;
 
+/// The colour of the call: the words of red, green, blue and alpha.
+pub type Colour = [u32; 4];
+pub const WHITE: Colour = [0x3f80_0000; 4];
+pub const GREY: Colour = [0x3f4c_cccd, 0x3f4c_cccd, 0x3f4c_cccd, 0x3f80_0000];
+
+/// The same as the call takes it.
+#[cfg(ours)]
+#[repr(C)]
+struct Call {
+    colour: Colour,
+}
+
 /// One lent slice, at the start or at the end of its pages: there the next byte outside may not be touched at all, and
 /// what is left of the pages may not change.
 #[derive(Default)]
@@ -88,6 +100,7 @@ impl Slices {
 #[cfg(ours)]
 unsafe extern "C" {
     fn sitemesh_convert(
+        call: Call,
         block: *const u8,
         block_len: usize,
         positions: *mut u32,
@@ -118,12 +131,13 @@ pub fn present() -> bool {
 
 /// One call: the refusal's number, or 0.
 #[cfg(ours)]
-pub fn convert(slices: &mut Slices) -> u32 {
+pub fn convert(colour: Colour, slices: &mut Slices) -> u32 {
     let Slices(lent, block) = slices;
     let n: [usize; 9] = std::array::from_fn(|k| lent[k].len());
     // SAFETY: each pointer and length is of pages that nothing else uses; the result slice has two words to a number.
     unsafe {
         sitemesh_convert(
+            Call { colour },
             block.pointer(),
             block.bytes,
             lent[0].pointer(),
@@ -149,6 +163,6 @@ pub fn convert(slices: &mut Slices) -> u32 {
 }
 
 #[cfg(not(ours))]
-pub fn convert(_: &mut Slices) -> u32 {
+pub fn convert(_: Colour, _: &mut Slices) -> u32 {
     unreachable!("there is no archive to call")
 }

@@ -12,6 +12,7 @@ use crate::expected::{Expected, expected};
 use crate::fixed;
 use crate::format::{Block, EXTRUSION, FACES, GRID, LIMIT, LINES, Sizes, accept, flag, runs};
 use crate::maker::{Maker, Taste};
+use crate::ours::WHITE;
 use crate::outlines;
 use crate::rng::Rng;
 use crate::shape::Shape;
@@ -167,7 +168,7 @@ fn lending(block: &Block, corners: usize) -> &'static str {
 /// The reference's answer; none where the definition settles what the Rust leaves open. A NaN that is left was
 /// copied from a list, bits and all.
 fn answer(bytes: &[u8], corners: usize, angles: &Angles) -> Option<Result<Mesh, u32>> {
-    match expected(bytes, &lent(corners), angles) {
+    match expected(bytes, &lent(corners), angles, WHITE) {
         Expected::Refused(n) => Some(Err(n)),
         Expected::Made(mesh, false) => {
             let block = Block::read(bytes).ok()?;
