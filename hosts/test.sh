@@ -63,13 +63,15 @@ for call in "$out/call_c" "${callers[@]}"; do
     tally "a listed grey beside missing colours by $call" $?
 done
 
-# The two colours that have names have the same words in the header, the wrapper and the code.
+# The two colours that have names have the same words in the header, the wrapper, the code and the definition.
 named() { # NAME, words
-    local header wrapper code
+    local header wrapper code definition
     header=$(sed -n "/ SITEMESH_$1 = /p" hosts/sitemesh.h | grep -o '0x[0-9a-f]*')
     wrapper=$(sed -n "/ $1: Colour = /p" hosts/sitemesh.rs | grep -o '0x[0-9a-f_]*' | tr -d _)
     code=$(sed -n "/ $1: Words4 = /,/^}/p" crates/geometry/src/answer.rt | grep -o '0x[0-9a-f_]*' | tr -d _)
-    [ "$header" = "$(printf '0x%s\n' $2)" ] && [ "$header" = "$wrapper" ] && [ "$header" = "$code" ]
+    definition=$(sed -n "/^${1,,} = /p" crates/geometry/specs/Answer.antt | grep -o '0x[0-9a-f_]*' | tr -d _)
+    [ "$header" = "$(printf '0x%s\n' $2)" ] && [ "$header" = "$wrapper" ] && [ "$header" = "$code" ] &&
+        [ "$header" = "$definition" ]
     tally "$1 is the same everywhere" $?
 }
 named GREY '3f4ccccd 3f4ccccd 3f4ccccd 3f800000'

@@ -13,8 +13,8 @@ more at each point, and without alpha.
 
 A vertex with a position that is not finite is left out, and so is each triangle or line that uses it; the rest is
 drawn, in a picture and in an OBJ file alike (where the vertices are numbered anew). A normal, colour or texture point
-that is not finite counts as missing, and is what sitemesh puts there (FORMAT 7.2, 14): a colour is white. Standard error
-says how many of each there were; the status is 0.
+that is not finite counts as missing (FORMAT 7.2); for such a colour white is taken, which sitemesh passes. Standard
+error says how many of each there were; the status is 0.
 
 Errors, each a line on standard error, status 1, nothing written: a file that cannot be read (it is named), something
 that is not a mesh, a refusal ('no N') or 'long' in place of one, and meshes of which no vertex is finite.

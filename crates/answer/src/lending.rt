@@ -14,7 +14,7 @@ pub struct Conversion {
     pub textures: [u32; 512],
 }
 
-// Slices for C and P of 256 each and 768 indices, all zeros; a missing colour is white.
+// Slices for C and P of 256 each and 768 indices, all zeros; white is passed for a missing colour.
 pub fn lend_and_convert(block: &[u8]) -> Conversion
     ensures { λ r. ⌜ Left (now (block .entry)) r ⌝ }
 {

@@ -173,7 +173,7 @@ module _ (h : Header) where
     within-c = O .within-c;
   }
 
--- FORMAT 13: b is a face set and c is equal to it but inside run r; x and y are any two calls on them that were not refused
+-- FORMAT 13: b is a face set and c is equal to it but inside run r; x and y are any two calls on them, under one `Call`, that were not refused
 pub apart : {call : Call} (b c : List ℕ) (r : ℕ) → headerOf b .kind ≡ FaceSet → OneRun b c r → (x : AcceptedCall call b) (y : AcceptedCall call c)
     → OthersStay (call .colour) b c (elementsOf x) (elementsOf y) r
 apart {call} b c r face-set h x y =

@@ -95,7 +95,7 @@ saying-one-to-one (Made p) (Made q) e =
     let z = ap (resultIn other) e in
     ap Made (λ i. record { vertices = z i .vertices; indices = z i .indices; solid = z i .solid; unlit = z i .unlit; «has_colors» = z i .hasColours })
 
--- FORMAT 3, 5: one block and one lending have one answer, and leave the lent slices one way
+-- FORMAT 3, 5: under one `Call`, one block and one lending have one answer, and leave the lent slices one way
 pub alike : {call : Call} {bs : List ℕ} {l m m′ : Lending} {r r′ : Answer} → Converted call bs l m r → Converted call bs l m′ r′ → (m ≡ m′) × (r ≡ r′)
 alike {r = r} {r′ = r′} C D = (
   (λ i. record {

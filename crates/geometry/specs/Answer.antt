@@ -14,10 +14,11 @@ use Rattle.geometry.specs.declared.answer.Answer.the-variants.{Refused, 
 use Rattle.geometry.specs.declared.answer.Call.{Call}
 use Rattle.geometry.specs.declared.answer.Lengths.{Lengths}
 
--- FORMAT 7.2: two colours that a caller may pass: the terminal's, (0.8, 0.8, 0.8, 1), and the survey desk's, (1, 1, 1, 1)
+-- FORMAT 7.2: a colour that a caller may pass: the terminal's, (0.8, 0.8, 0.8, 1)
 unfoldable pub grey : Words4
 grey = record { r = 0x3f4c_cccd; g = 0x3f4c_cccd; b = 0x3f4c_cccd; a = 0x3f80_0000 }
 
+-- another: the survey desk's and the reference's, (1, 1, 1, 1)
 unfoldable pub white : Words4
 white = record { r = 0x3f80_0000; g = 0x3f80_0000; b = 0x3f80_0000; a = 0x3f80_0000 }
 

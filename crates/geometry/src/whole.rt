@@ -1,4 +1,4 @@
-// One call: a block and eight lent slices (FORMAT 3, 4, 5).
+// One call: what the caller chose, a block and eight lent slices (FORMAT 3, 4, 5).
 ghost use mathlib.Core.Path.{_≡_};
 ghost use Rattle.block.specs.Header.{headerOf};
 ghost use Rattle.sizes.specs.Known.{Counted};

@@ -18,7 +18,7 @@ fn least(a: usize, b: usize) -> usize
     b
 }
 
-// Slices for so many corners and as many points (FORMAT 4): the fronts of the given ones. A missing colour is white, as in the reference.
+// Slices for so many corners and as many points (FORMAT 4): the fronts of the given ones. White is passed for a missing colour, as the reference has it.
 fn convert_for(
     corners: u32,
     block: &[u8],
