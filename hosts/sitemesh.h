@@ -12,7 +12,7 @@
  *   changes that for the whole program, and so did, with gcc 12.2, a shared library linked with it. Then the mesh
  *   may be another: a duct whose cross-section is (0, 0), (1, 0), (1, 1), (0, 1), (1e-40, 0) lost two of its fourteen
  *   triangles. A host that cannot be sure puts _mm_setcsr(0x1f80) before the call and its own mode back after it.
- * - Stack. Some 3 KiB: 2,952 bytes were the most in 1.3 million fuzzed calls, arguments included, and there is no
+ * - Stack. Some 3.5 KiB: 3,544 bytes were the most in 1.3 million fuzzed calls, arguments included, and there is no
  *   recursion. Leave 8 KiB, which is all that the fuzzing gives a call (compare/README.md).
  *
  * There is no state outside the arguments, so threads may call at the same time, each with slices of its own; they may
@@ -61,12 +61,18 @@ enum {
     SITEMESH_MOST_BLOCK = 68 + 4 * 16 * 8192
 };
 
-/* A colour: red, green, blue and alpha, each the bits of a float; they are copied as they are, those of a NaN too. */
+/*
+ * A colour: red, green, blue and alpha, each the bits of a float; they are copied as they are, those of a NaN too. Not the
+ * floats themselves: {0.8, 0.8, 0.8, 1} compiles in C and is black and all but transparent. memcpy each from a float.
+ */
 typedef struct {
     uint32_t r, g, b, a;
 } sitemesh_colour;
 
-/* Two colours by name (docs/FORMAT.md 7.2): the terminal's default, (0.8, 0.8, 0.8, 1), and the survey desk's, all 1. */
+/*
+ * Two colours by name (docs/FORMAT.md 7.2): what terminals pass, (0.8, 0.8, 0.8, 1), and what the survey desk does, all 1.
+ * No colour is passed by itself. They are objects: in C, what starts from one stands in a function and not at file scope.
+ */
 static const sitemesh_colour SITEMESH_GREY = {0x3f4ccccd, 0x3f4ccccd, 0x3f4ccccd, 0x3f800000};
 static const sitemesh_colour SITEMESH_WHITE = {0x3f800000, 0x3f800000, 0x3f800000, 0x3f800000};
 

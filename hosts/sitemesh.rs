@@ -53,7 +53,7 @@ pub struct Colour {
     pub a: u32,
 }
 
-/// The terminal's default, (0.8, 0.8, 0.8, 1) (docs/FORMAT.md 7.2).
+/// What terminals pass, (0.8, 0.8, 0.8, 1) (docs/FORMAT.md 7.2). No colour is passed by itself.
 pub const GREY: Colour = Colour { r: 0x3f4c_cccd, g: 0x3f4c_cccd, b: 0x3f4c_cccd, a: 0x3f80_0000 };
 /// The survey desk's, (1, 1, 1, 1).
 pub const WHITE: Colour = Colour { r: 0x3f80_0000, g: 0x3f80_0000, b: 0x3f80_0000, a: 0x3f80_0000 };
