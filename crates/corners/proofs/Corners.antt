@@ -5,15 +5,16 @@ use mathlib.Core.List.{List, [], _∷_, _++_}
 use Prim.Native.Nat.{ℕ, _+_, _*_, _≤_, _<_}
 use native.Mathlib.Omega.{arith}
 use lib.Dec.{T}
-use lib.ListN.{length, getD, set}
+use lib.ListN.{length, getD, set, replicate, length-replicate}
 use Rattle.block.specs.Stream.{get3At, get4At}
 use Rattle.lists.specs.Lists.{has, place, meet, firsts}
 use Rattle.mesh.specs.Words.{words2, words3, words4, no3}
 use Rattle.mesh.specs.Vertices.{Key, sameKey}
 use Rattle.lists.proofs.Lists.{T-true, place-lt, length-firsts, has-firsts-new}
 use Rattle.mesh.proofs.Keys.{sameKey-sound, sameKey-self}
-use Rattle.lists.specs.Parts.{Kept, TableOf, Filled}
+use Rattle.lists.specs.Parts.{spliced, Kept, TableOf}
 use Rattle.lists.proofs.Keep.{kept-set, kept-less, kept-then, kept-at, kept-seg, set-miss, table-none, table-more, table-kept}
+use Rattle.lists.proofs.Splices.{put-kept, put-same}
 use Rattle.vertices.specs.declared.places.Widths.{Widths}
 use Rattle.vertices.specs.declared.places.Chains.{Chains}
 use Rattle.vertices.specs.Places as places
@@ -118,7 +119,7 @@ pub record Turned (L : Lent) (a : Attributes) (widths : Widths) (t : CornerTable
 
 -- the same of whatever words w were w₁ once their heads were cleared
 abbrev pub Turning : Lent → Attributes → Widths → CornerTables → Store → List ℕ → List ℕ → ℕ → ℕ → Store → List ℕ → List ℕ → Type 0
-Turning L a widths t z x₀ w₁ c n s x m = (w : List ℕ) → Filled (t .heads) (t .buckets) 0 w w₁ → Ready L widths w t z x₀ → Turned L a widths t z x₀ w c n s x m
+Turning L a widths t z x₀ w₁ c n s x m = (w : List ℕ) → w₁ ≡ spliced w (t .heads) (replicate (t .buckets) 0) → Ready L widths w t z x₀ → Turned L a widths t z x₀ w c n s x m
 
 module _ {t : CornerTables} {len : ℕ} (Q : Laid t len) where
   order : t .named ≤ t .heads
@@ -131,14 +132,16 @@ module _ {L : Lent} {a : Attributes} {widths : Widths} {t : CornerTables} {z : S
   -- the heads are cleared
   pub turned-start : {w₁ : List ℕ} → Turning L a widths t z x₀ w₁ 0 0 z x₀ w₁
   unfolding pointsIn
-  turned-start {w₁} w F R =
+  turned-start {w₁} w f R =
       let Q = R .laid in
-      let e = kept-seg (F .kept) (t .points) (3 * t .spots) (omega arith) (omega arith) in
+      let h : t .heads + t .buckets ≤ length w = omega arith in
+      let K = put-kept w (t .heads) _ f (length-replicate (t .buckets) 0) h in
+      let e = kept-seg K (t .points) (3 * t .spots) (omega arith) (omega arith) in
       record {
         ready = R;
         upto = omega arith;
-        made = made-start widths (chainsOf t) _ _ z x₀ (length w) w₁ e (F .kept .len) (F .words .at);
-        same = same-front (order Q) (F .kept);
+        made = made-start widths (chainsOf t) _ _ z x₀ (length w) w₁ e (K .len) (put-same w 0 h f .at);
+        same = same-front (order Q) K;
         named = table-none;
       }
 

@@ -7,7 +7,8 @@ ghost use Rattle.block.specs.Settings.{settingsOf};
 ghost use Rattle.mesh.specs.Extrusion as spec;
 ghost use Rattle.mesh.specs.Extrusion.{spineCount, sectionCount, extrusionOf};
 ghost use Rattle.extrusion.specs.Listings.{useOf};
-ghost use Rattle.texture.specs.Textured.{Textured};
+ghost use Rattle.lists.specs.Parts.{spliced};
+ghost use Rattle.texture.specs.Textured.{textureWords};
 ghost use Rattle.extrusion.specs.Corners.{textureOf, extrusionCorner, extrusionTexture, Measured, Cornered};
 use crate::reading::pair_at;
 use crate::reading::section_count;
@@ -99,7 +100,7 @@ pub fn put_textures(
     count: usize,
 )
     requires { ⌜ Measured (now block) h (now floats) at fit × (s ≡ settingsOf (now block)) × Cornered h corners numbers textures count (now work) ⌝ }
-    ensures { λ _. ⌜ Textured textures count (extrusionTexture (extrusionOf (now (block .entry))) (now (work .entry)) corners numbers) (now (work .entry)) (now (work .exit)) ⌝ }
+    ensures { λ _. ⌜ now (work .exit) ≡ spliced (now (work .entry)) textures (textureWords (extrusionTexture (extrusionOf (now (block .entry))) (now (work .entry)) corners numbers) count) ⌝ }
 {
     let mut c = 0;
     while c < count {

@@ -5,25 +5,18 @@ use mathlib.Core.List.{List}
 use Prim.Native.Nat.{ℕ, suc, _+_, _≤_, _<_}
 use native.Mathlib.Numerals.{add-one}
 use native.Mathlib.Omega.{arith}
-use lib.ListN.{length, getD, set, take, length-set}
-use lib.Seq.{length-take-le}
+use lib.ListN.{length, getD, set, length-set}
 use Rattle.lists.specs.Loops.{tab}
 use Rattle.lists.specs.Parts.{spliced, Out}
 use Rattle.lists.proofs.Keep.{set-hit, set-miss}
 use Rattle.lists.proofs.Tabs.{length-tab, tab-at}
-use Rattle.lists.proofs.Splices.{set-is, put-size, put-above, put-at, put-out, put-kept, put-seg}
+use Rattle.lists.proofs.Splices.{set-is, put-size, put-at, put-out}
 use Rattle.tables.specs.declared.layout.Plan.{Plan}
 use Rattle.tables.specs.Soups.{pointIn, startIn, numberIn, placeIn}
 use Rattle.tables.specs.Listed.{Beside}
 use Rattle.tables.proofs.Besides.{beside-then, beside-corners, beside-starts, beside-places, beside-numbers}
 use Rattle.faceset.specs.declared.listing.Progress.{Progress}
-use Rattle.faceset.specs.Written.{Copied}
 use Rattle.faceset.specs.Passing.{Fits, faceAdded}
-
-pub copied-of : {a n : ℕ} {xs w w′ : List ℕ} → a + n ≤ length w → n ≤ length xs → w′ ≡ spliced w a (take n xs) → Copied a n xs w w′
-copied-of {a} {n} {xs} {w} h l e =
-    let s = length-take-le n xs l in
-    record { kept = put-kept w a (take n xs) e s h; words = put-seg w a (take n xs) e s h; above = put-above w a (take n xs) e s h }
 
 -- ---- one face: its points, its places, its number, and the first corner after it
 

@@ -4,10 +4,14 @@ use mathlib.Core.List.{List}
 use Prim.Native.Nat.{ℕ, _+_, _*_, _/_, _≤_}
 use native.Mathlib.Omega.{arith}
 use lib.ListN.{length, take}
+use lib.Seq.{length-take-le}
 use Rattle.bits.specs.Bits.{entries}
+use Rattle.bits.proofs.Entries.{entries-length}
 use Rattle.block.specs.declared.header.Header.{Header}
 use Rattle.block.specs.declared.settings.Settings.{Settings}
 use Rattle.block.specs.Lists.{listBytes}
+use Rattle.lists.specs.Parts.{spliced}
+use Rattle.lists.proofs.Splices.{put-gives}
 use Rattle.mesh.specs.declared.texture.Fit.{Fit}
 use Rattle.mesh.specs.Texture.{fitOf, defaultAt}
 use Rattle.mesh.specs.Sizes.{listedPoints}
@@ -17,7 +21,6 @@ use Rattle.tables.specs.Listed.{Listing, Listed}
 use Rattle.texture.specs.Corner.{textureIn}
 use Rattle.texture.specs.Textured.{setTexture, Fitted}
 use Rattle.texture.proofs.Axes.{axes-below}
-use Rattle.faceset.specs.Written.{Copied}
 use Rattle.faceset.specs.Passing.{Planned}
 use Rattle.shaping.specs.Tabled.{useIn}
 use Rattle.facesetshape.specs.Shape.{faceSetTexture, Placed}
@@ -29,10 +32,14 @@ module _ (bs : List ℕ) (h : Header) {t : Plan} {list coord : List ℕ} (a : li
   points-asked P n = let R = P .room in (rw a (omega (arith, P .spots, n)), omega (arith, R))
 
   -- and what it leaves
-  pub points-copied : {len : ℕ} {w w₁ : List ℕ} → Planned (listedPoints h) coord len t → take (3 * listedPoints h) (entries (listBytes bs h 0)) ≡ entries (listBytes bs h 0)
-      → Copied (t .points) (3 * t .spots) (entries list) w w₁ → (length w₁ ≡ length w) × (pointsIn w₁ t ≡ entries (listBytes bs h 0))
+  pub points-copied : (w : List ℕ) {w₁ : List ℕ} → Planned (listedPoints h) coord (length w) t → 3 * listedPoints h ≤ length (listBytes bs h 0) / 4
+      → take (3 * listedPoints h) (entries (listBytes bs h 0)) ≡ entries (listBytes bs h 0)
+      → w₁ ≡ spliced w (t .points) (take (3 * t .spots) (entries list)) → (length w₁ ≡ length w) × (pointsIn w₁ t ≡ entries (listBytes bs h 0))
   unfolding pointsIn
-  points-copied P p C = (C .kept .len, C .words ∙ (λ i. take (3 * P .spots i) (entries (a i))) ∙ p)
+  points-copied w P n p C =
+      let R = P .room in
+      let G = put-gives _ C (length-take-le (3 * t .spots) (entries list) (omega (arith, entries-length list, points-asked P n .0))) (omega (arith, R)) in
+      (G .0 .len, G .1 ∙ (λ i. take (3 * P .spots i) (entries (a i))) ∙ p)
 
 -- FORMAT 7.4: tables that list faces over these points, with room above the owners, are what the textures ask
 pub textures-asked : {bs : List ℕ} {h : Header} {t : Plan} {w : List ℕ} {ls : List Listing} → t .spots ≡ listedPoints h → pointsIn w t ≡ entries (listBytes bs h 0) → Listed w t ls

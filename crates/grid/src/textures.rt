@@ -3,7 +3,8 @@ ghost use mathlib.Core.Path.{_≡_};
 ghost use Prim.Native.Nat.{ℕ, _+_, _*_, _/_, _%_, _≤_, _<_};
 ghost use lib.ListN.{getD};
 ghost use Rattle.mesh.specs.Grid.{xDimension, zDimension, partWord, gridDefault};
-ghost use Rattle.texture.specs.Textured.{Textured};
+ghost use Rattle.lists.specs.Parts.{spliced};
+ghost use Rattle.texture.specs.Textured.{textureWords};
 ghost use Rattle.grid.specs.Sides.{Sides};
 ghost use Rattle.grid.specs.Textures.{gridTexture, Placed};
 use crate::points::whole_float;
@@ -57,7 +58,7 @@ pub fn put_textures(
     count: usize,
 )
     requires { ⌜ Sides h × Placed h (now work) corners textures count ⌝ }
-    ensures { λ _. ⌜ Textured textures count (λ (c : ℕ). gridTexture (now (block .entry)) h s (getD (now (work .entry)) (corners + c) 0)) (now (work .entry)) (now (work .exit)) ⌝ }
+    ensures { λ _. ⌜ now (work .exit) ≡ spliced (now (work .entry)) textures (textureWords (λ (c : ℕ). gridTexture (now (block .entry)) h s (getD (now (work .entry)) (corners + c) 0)) count) ⌝ }
 {
     let mut c = 0;
     while c < count {

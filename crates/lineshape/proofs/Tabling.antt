@@ -3,14 +3,16 @@ use mathlib.Core.Path.{_≡_, ap, _∙_}
 use mathlib.Core.List.{List}
 use Prim.Native.Nat.{ℕ, _+_, _*_, _≤_}
 use native.Mathlib.Omega.{arith}
-use lib.ListN.{take}
+use lib.ListN.{take, length}
 use Rattle.block.specs.Runs.{runs, sumOver}
 use Rattle.mesh.specs.Sizes.{named}
 use Rattle.tables.specs.Layout.{most}
 use Rattle.vertices.specs.Adding.{pointsIn}
 use Rattle.corners.specs.declared.laid.CornerTables.{CornerTables}
 use Rattle.corners.specs.Laid.{tablesAt, Laid}
-use Rattle.faceset.specs.Written.{Copied}
+use Rattle.lists.specs.Parts.{spliced}
+use Rattle.lists.proofs.Splices.{put-gives}
+use lib.Seq.{length-take-le}
 use Rattle.lines.specs.Uses.{Listed}
 use Rattle.lineshape.specs.Shape.{tablesFor, lineTables, Tabled}
 
@@ -46,7 +48,8 @@ module _ (p : ℕ) (es : List ℕ) {t : CornerTables} (e : t ≡ lineTables p es
   pub points-before : t .points + 3 * t .spots ≤ t .corners
   points-before = omega (arith, stand .0, stand .1, stand .2)
 
-  pub tabled : {list w w₁ w₂ : List ℕ} → Copied (t .points) (3 * t .spots) list w w₁ → Listed p es t w₁ w₂ → Tabled p list es t w w₂
+  pub tabled : {list w w₁ w₂ : List ℕ} → 3 * t .spots ≤ length list → t .points + 3 * t .spots ≤ length w → w₁ ≡ spliced w (t .points) (take (3 * t .spots) list) → Listed p es t w₁ w₂ → Tabled p list es t w w₂
   unfolding pointsIn
-  tabled {list} {w} {w₁} {w₂} C E =
-      record { held = w₁; len = C .kept .len; points = C .words ∙ ap (λ (k : ℕ). take (3 * k) list) (stand .1); listed = E }
+  tabled {list} {w} {w₁} {w₂} n r C E =
+      let G = put-gives _ C (length-take-le (3 * t .spots) list n) r in
+      record { held = w₁; len = G .0 .len; points = G .1 ∙ ap (λ (k : ℕ). take (3 * k) list) (stand .1); listed = E }

@@ -13,7 +13,7 @@ use Rattle.lists.proofs.Tabs.{length-tab, tab-at, tab-add, tab-snoc, ta
 use Rattle.lists.specs.Lists.{joinN, flat}
 use Rattle.lists.proofs.Lists.{All-by, flat-at, middle}
 use Rattle.lists.proofs.Totals.{flat-total, total-tab}
-use Rattle.lists.specs.Parts.{spliced}
+use Rattle.lists.specs.Parts.{spliced, Kept}
 use Rattle.lists.proofs.Splices.{splice-start, splice-more, splice-whole, set-is, spliced-front, put-size, put-part}
 
 module _ {A : Type 0} where
@@ -143,9 +143,9 @@ module _ {A : Type 0} {F : ℕ → List A} {n : ℕ} {l : List A} {k : ℕ} wher
       let e : i ≡ n = (let s = P .so-far in omega arith) in
       P .is ∙ ap (λ (j : ℕ). spliced l k (flat (tab F j 0))) e
 
-  -- what stands below is kept
-  pub pieces-front : {i : ℕ} {made : List A} → Pieces F n l k i made → k ≤ length l → take k made ≡ take k l
-  pieces-front {i} P h = ap (take k) (P .is) ∙ spliced-front l k (flat (tab F i 0)) h
+-- words: what stands below is kept
+pub pieces-kept : {F : ℕ → List ℕ} {n : ℕ} {l : List ℕ} {k i : ℕ} {made : List ℕ} → Pieces F n l k i made → k ≤ length l → Kept k l made
+pieces-kept {F} {n} {l} {k} {i} P h = record { len = P .size; front = ap (take k) (P .is) ∙ spliced-front l k (flat (tab F i 0)) h }
 
 -- ---- one element at a time
 

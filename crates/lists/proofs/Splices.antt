@@ -10,7 +10,7 @@ use lib.ListN.{length, getD, set, take, drop, replicate, length-append, length-t
 use lib.Seq.{take-at, drop-at, drop-append-add, drop-drop, length-take-le, sets, sets-eq, getD-take, getD-drop}
 use borrow.Rule.Slice.PartMut.{putMid, post-is}
 use Rattle.lists.specs.Loops.{tab}
-use Rattle.lists.specs.Parts.{seg, spliced, Kept, Out, TableOf, Written}
+use Rattle.lists.specs.Parts.{seg, spliced, Kept, Out, TableOf}
 use Rattle.lists.proofs.Tabs.{length-tab, tab-at}
 
 module _ {A : Type 0} where
@@ -135,6 +135,3 @@ put-table l f {a = a} {n = n} h e = record { at = λ j b. put-at l a (tab f n 0)
 
 pub put-same : (l : List ℕ) (v : ℕ) {m : List ℕ} {a n : ℕ} → a + n ≤ length l → m ≡ spliced l a (replicate n v) → TableOf m a n (λ j. v)
 put-same l v {a = a} {n = n} h e = record { at = λ j b. put-at l a (replicate n v) e (length-replicate n v) h 0 j b ∙ getD-replicate n j v 0 b }
-
-pub put-written : (l : List ℕ) (f : ℕ → ℕ) {m : List ℕ} {a n : ℕ} → a + n ≤ length l → m ≡ spliced l a (tab f n 0) → Written a n f l m
-put-written l f {a = a} {n = n} h e = record { kept = put-kept l a (tab f n 0) e (length-tab f n 0) h; words = put-table l f h e; above = put-above l a (tab f n 0) e (length-tab f n 0) h }

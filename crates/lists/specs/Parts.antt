@@ -30,17 +30,3 @@ pub record Kept (a : ℕ) (w w′ : List ℕ) : Type 0 where
 -- the n words from a are f 0, f 1, ..
 pub record TableOf (w : List ℕ) (a n : ℕ) (f : ℕ → ℕ) : Type 0 where
   pub at : (j : ℕ) → j < n → getD w (a + j) 0 ≡ f j
-
--- w′ is w with the n words from a replaced by f 0, f 1, ..
-pub record Written (a n : ℕ) (f : ℕ → ℕ) (w w′ : List ℕ) : Type 0 where
-  pub kept : Kept a w w′
-  pub words : TableOf w′ a n f
-  pub above : drop (a + n) w′ ≡ drop (a + n) w
-
--- each of them is v
-abbrev pub AllAre : List ℕ → ℕ → ℕ → ℕ → Type 0
-AllAre w a n v = TableOf w a n (λ j. v)
-
--- w′ is w with each of the n words from a replaced by v
-abbrev pub Filled : ℕ → ℕ → ℕ → List ℕ → List ℕ → Type 0
-Filled a n v w w′ = Written a n (λ j. v) w w′

@@ -23,7 +23,7 @@ use Rattle.polygon.specs.Plane.{handed}
 use Rattle.mesh.specs.Soup.{pointsOf}
 use Rattle.mesh.specs.Normals.{outline, facing}
 use Rattle.tables.specs.declared.layout.Plan.{Plan}
-use Rattle.lists.specs.Parts.{seg, Kept, AllAre}
+use Rattle.lists.specs.Parts.{seg, Kept}
 use Rattle.tables.specs.Soups.{gatherIn, ownerIn, startIn, pointsIn, faceIn, frameIn, Sound}
 use Rattle.lists.proofs.Keep.{kept-all, kept-set, kept-then, kept-at, kept-seg, set-hit, set-miss}
 use Rattle.tables.proofs.Stays.{rise, start-le, owner-kept, start-kept, sound-kept, face-kept, frame-kept, names-in}

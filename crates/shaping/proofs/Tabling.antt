@@ -25,7 +25,8 @@ use Rattle.corners.specs.Laid.{tablesAt, tablesOf}
 use Rattle.corners.specs.Corner.{textureAt}
 use Rattle.soups.specs.Prepared.{normalsAfter, Prepared}
 use Rattle.build.specs.declared.shared.Shared.{Shared}
-use Rattle.texture.specs.Textured.{Textured}
+use Rattle.texture.specs.Textured.{textureWords}
+use Rattle.texture.proofs.Filled as filled
 use Rattle.shaping.specs.Tabled.{Tabled, useIn, TexturesAt}
 
 -- the points, put whole at their place
@@ -81,7 +82,7 @@ module _ {sh : Shared} {f : ℕ → Use → Words2} {t : Plan} where
   textures-none e = record { kept = kept-all; at = λ p c l. let z : ⊥ = omega arith in absurd z }
 
   -- g c is what is written for corner c
-  pub textures-put : {g : ℕ → Words2} {w w′ : List ℕ} → Textured (t .owners + t .count) (t .count) g w w′ → ((c : ℕ) → c < t .count → g c ≡ f (ownerIn w t c) (useIn w t c))
-      → TexturesAt sh f t w w′
+  pub textures-put : {g : ℕ → Words2} {w w′ : List ℕ} → t .owners + t .count + 2 * t .count ≤ length w → w′ ≡ spliced w (t .owners + t .count) (textureWords g (t .count))
+      → ((c : ℕ) → c < t .count → g c ≡ f (ownerIn w t c) (useIn w t c)) → TexturesAt sh f t w w′
   unfolding textureAt tablesOf tablesAt
-  textures-put T q = record { kept = T .kept; at = λ p c l. T .at c l ∙ q c l }
+  textures-put {g} {w} r e q = let T = filled.textures-put w (t .owners + t .count) (t .count) g r e in record { kept = T .0; at = λ p c l. T .1 c l ∙ q c l }

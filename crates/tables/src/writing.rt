@@ -4,7 +4,7 @@ ghost use Prim.Native.Nat.{_+_, _≤_};
 ghost use lib.ListN.{length, replicate};
 ghost use lib.Ieee.{binary32, ofBits};
 ghost use Rattle.tables.specs.Layout.{most};
-ghost use Rattle.lists.specs.Parts.{Filled};
+ghost use Rattle.lists.specs.Parts.{spliced};
 
 pub fn narrow(x: usize) -> u32
     requires { ⌜ x ≤ most ⌝ }
@@ -16,7 +16,7 @@ pub fn narrow(x: usize) -> u32
 // The n words from a are v.
 pub fn fill(work: &mut [u32], a: usize, n: usize, v: u32)
     requires { ⌜ a + n ≤ length (now work) ⌝ }
-    ensures { λ _. ⌜ Filled a n v (now (work .entry)) (now (work .exit)) ⌝ }
+    ensures { λ _. ⌜ now (work .exit) ≡ spliced (now (work .entry)) a (replicate n v) ⌝ }
 {
     let mut i = 0;
     while i < n {

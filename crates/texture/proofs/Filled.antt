@@ -1,13 +1,10 @@
--- The table of textures, one corner more at a time.
+-- The table of textures: the loop that writes it, and how it is read.
 use mathlib.Core.Path.{_≡_, refl, sym, ap, _∙_}
-use mathlib.Core.Logic.{⊎-elim}
 use mathlib.Core.List.{List}
 use Prim.Native.Nat.{ℕ, _+_, _*_, _≤_, _<_}
-use native.Mathlib.Nat.{add-zero, eq-or-lt-of-le, le-of-suc-le-suc, not-suc-le-zero}
-use native.Mathlib.Numerals.{add-one}
+use native.Mathlib.Nat.{add-zero}
 use native.Mathlib.Omega.{arith}
-use lib.ListN.{length, getD, drop}
-use lib.Seq.{drop-drop}
+use lib.ListN.{length, getD, drop, take}
 use Rattle.bits.specs.declared.Words2.{Words2}
 use Rattle.block.specs.declared.header.Header.{Header}
 use Rattle.block.specs.declared.settings.Settings.{Settings}
@@ -15,10 +12,11 @@ use Rattle.mesh.specs.declared.texture.Fit.{Fit}
 use Rattle.mesh.specs.Texture.{defaultAt}
 use Rattle.mesh.specs.Words.{words2}
 use Rattle.lists.specs.Parts.{seg, spliced, Kept}
-use Rattle.lists.proofs.Keep.{kept-all, kept-then, kept-at, kept-seg, seg-at}
-use Rattle.lists.proofs.Splices.{put-above, put-gives}
+use Rattle.lists.proofs.Keep.{kept-at, kept-seg, seg-at}
+use Rattle.lists.proofs.Splices.{put-kept}
+use Rattle.lists.proofs.Pieces.{length-pieces, piece-put}
 use Rattle.texture.specs.Corner.{textureIn}
-use Rattle.texture.specs.Textured.{pairAt, Textured, setTexture, Fitted}
+use Rattle.texture.specs.Textured.{pairAt, setTexture, Fitted, textureWords}
 
 -- the words of a texture, read back
 pair-put : (w : List ℕ) (a : ℕ) (v : Words2) → seg w a 2 ≡ words2 v → pairAt w a ≡ v
@@ -28,31 +26,15 @@ pair-put w a v e =
     let y : getD w (a + 1) 0 ≡ v .t = at 1 (omega arith) in
     λ i. record { s = x i; t = y i }
 
-pub textured-none : (a : ℕ) (f : ℕ → Words2) (w : List ℕ) → Textured a 0 f w w
-textured-none a f w = record { kept = kept-all; at = λ c h. absurd (not-suc-le-zero h); above = refl }
-
--- the next corner's
-pub textured-more : (a n : ℕ) (f : ℕ → Words2) (w₀ w w′ : List ℕ) (v : Words2) → Textured a n f w₀ w → v ≡ f n → a + 2 * n + 2 ≤ length w₀ → w′ ≡ spliced w (a + 2 * n) (words2 v)
-    → Textured a (n + 1) f w₀ w′
-textured-more a n f w₀ w w′ v T e r q =
-    let l = T .kept .len in
-    let b : a + 2 * n + 2 ≤ length w = omega arith in
-    let G = put-gives (words2 v) q refl b in
-    let K = G .0 in
-    let s : a + 2 * (n + 1) ≡ a + 2 * n + 2 = omega arith in
-    record {
-      kept = kept-then (T .kept) K (omega arith);
-      at = λ c h. ⊎-elim
-          (λ (z : c ≡ n). ap (λ (k : ℕ). pairAt w′ (a + 2 * k)) z ∙ pair-put w′ (a + 2 * n) v (G .1) ∙ e ∙ ap f (sym z))
-          (λ (z : c < n).
-          let x = kept-at K (a + 2 * c) (omega arith) in
-          let y = kept-at K (a + 2 * c + 1) (omega arith) in
-          let same : pairAt w′ (a + 2 * c) ≡ pairAt w (a + 2 * c) = λ i. record { s = x i; t = y i } in
-          same ∙ T .at c z)
-          (eq-or-lt-of-le (le-of-suc-le-suc (rw add-one at h)));
-      above = rw s (put-above w (a + 2 * n) (words2 v) q refl b
-          ∙ sym (drop-drop 2 (a + 2 * n) w) ∙ ap (drop 2) (T .above) ∙ drop-drop 2 (a + 2 * n) w₀);
-    }
+-- what was put, read again: what stands below is kept, and each corner has its texture
+pub textures-put : (l : List ℕ) (a n : ℕ) (f : ℕ → Words2) {m : List ℕ} → a + 2 * n ≤ length l → m ≡ spliced l a (textureWords f n)
+    → Kept a l m × ((c : ℕ) → c < n → pairAt m (a + 2 * c) ≡ f c)
+unfolding seg
+textures-put l a n f {m} h e =
+    let F : ℕ → List ℕ = λ (c : ℕ). words2 (f c) in
+    let at : (c : ℕ) → c < n → seg m (a + 2 * c) 2 ≡ words2 (f c) = λ c b.
+    let s : a + 2 * c ≡ a + c * 2 = omega arith in ap (λ (k : ℕ). take 2 (drop k m)) s ∙ piece-put F 2 (λ t. refl) l a n (omega arith) e c b in
+    (put-kept l a (textureWords f n) e (length-pieces F 2 (λ t. refl) n) (omega arith), λ c b. pair-put m (a + 2 * c) (f c) (at c b))
 
 -- ---- the loop over a face set's corners reads tables that stand below what it writes
 module _ (w₀ w : List ℕ) (fit : Fit) (points spots corners places textures count c : ℕ) (F : Fitted w₀ fit points spots corners places textures count)

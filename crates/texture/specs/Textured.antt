@@ -1,14 +1,16 @@
 -- FORMAT 7.3, 7.4: the table of the corners' textures, two words a corner.
-use mathlib.Core.Path.{_≡_}
 use mathlib.Core.List.{List}
 use Prim.Native.Nat.{ℕ, _+_, _*_, _≤_, _<_}
-use lib.ListN.{length, getD, drop}
+use lib.ListN.{length, getD}
 use Rattle.bits.specs.declared.Words2.{Words2}
 use Rattle.block.specs.declared.header.Header.{Header}
 use Rattle.block.specs.declared.settings.Settings.{Settings}
 use Rattle.mesh.specs.declared.texture.Fit.{Fit}
 use Rattle.mesh.specs.Texture.{defaultAt}
-use Rattle.lists.specs.Parts.{seg, Kept}
+use Rattle.lists.specs.Parts.{seg}
+use Rattle.lists.specs.Loops.{tab}
+use Rattle.lists.specs.Lists.{flat}
+use Rattle.mesh.specs.Words.{words2}
 use Rattle.tables.specs.Layout.{most}
 use Rattle.texture.specs.Corner.{textureIn}
 
@@ -16,11 +18,9 @@ use Rattle.texture.specs.Corner.{textureIn}
 abbrev pub pairAt : List ℕ → ℕ → Words2
 pairAt w a = record { s = getD w a 0; t = getD w (a + 1) 0 }
 
--- w′ is w with the words from a replaced by the textures f 0, f 1, .. of n corners
-pub record Textured (a n : ℕ) (f : ℕ → Words2) (w w′ : List ℕ) : Type 0 where
-  pub kept : Kept a w w′
-  pub at : (c : ℕ) → c < n → pairAt w′ (a + 2 * c) ≡ f c
-  pub above : drop (a + 2 * n) w′ ≡ drop (a + 2 * n) w
+-- the words of the textures f 0, f 1, .. of n corners
+abbrev pub textureWords : (ℕ → Words2) → ℕ → List ℕ
+textureWords f n = flat (tab (λ c. words2 (f c)) n 0)
 
 -- FORMAT 7.1 to 7.4, indexed_face_set (t_out): corner c of a face set, from the tables of points, of the corners' points and of their places
 unfoldable pub setTexture : List ℕ → List ℕ → Header → Settings → Fit → List ℕ → ℕ → ℕ → ℕ → ℕ → ℕ → Words2

@@ -6,7 +6,7 @@ ghost use Rattle.mesh.specs.Texture.{defaultAt};
 ghost use Rattle.mesh.specs.Words.{words2};
 ghost use Rattle.lists.specs.Parts.{seg, spliced};
 ghost use Rattle.texture.specs.Corner.{textureIn};
-ghost use Rattle.texture.specs.Textured.{Textured, setTexture, Fitted};
+ghost use Rattle.texture.specs.Textured.{textureWords, setTexture, Fitted};
 use crate::corner::corner_texture;
 use crate::extents::default_at;
 use bits::Words2;
@@ -61,7 +61,7 @@ pub fn put_textures<'a>(
     count: usize,
 )
     requires { ⌜ Fitted (now work) fit points spots corners places textures count ⌝ }
-    ensures { λ _. ⌜ Textured textures count (setTexture (now (block .entry)) (now (coord .entry)) h s fit (now (work .entry)) points spots corners places) (now (work .entry)) (now (work .exit)) ⌝ }
+    ensures { λ _. ⌜ now (work .exit) ≡ spliced (now (work .entry)) textures (textureWords (setTexture (now (block .entry)) (now (coord .entry)) h s fit (now (work .entry)) points spots corners places) count) ⌝ }
 {
     let mut c = 0;
     while c < count {

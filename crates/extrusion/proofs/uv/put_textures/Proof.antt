@@ -1,24 +1,23 @@
-use Prim.Native.Nat.{_+_, _*_, _-_, _≤_}
+use Prim.Native.Nat.{_-_, ℕ}
 use Rattle.extrusion.proofs.Textures.{corner-within, texture-read}
 use Rattle.extrusion.specs.Corners.{extrusionTexture}
-use Rattle.texture.specs.Textured.{Textured}
-use Rattle.texture.proofs.Filled.{textured-none, textured-more}
-use lib.ListN.{length}
 use Rattle.mesh.specs.Extrusion.{extrusionOf}
 use borrow.Author.Needs.{needs}
-use mathlib.Core.Path.{_≡_}
+use mathlib.Core.Path.{ap, refl}
 use native.Mathlib.Omega.{arith}
+use Rattle.lists.proofs.Pieces.{Pieces, pieces-none, pieces-more, pieces-all, pieces-kept}
+use Rattle.mesh.specs.Words.{words2}
 use Rattle.extrusion.proofs.uv.put_textures.Statement.{statement}
 use Rattle.extrusion.proofs.uv.put_textures.Tie as tie
 
 abbrev Inv-loop : tie.InvT-loop
-Inv-loop block h s floats at fit work₀ corners numbers textures count c₀ work c = (c ≤ count) × Textured textures c (extrusionTexture (extrusionOf block) work₀ corners numbers) work₀ work
+Inv-loop block h s floats at fit work₀ corners numbers textures count c₀ work c = Pieces (λ (j : ℕ). words2 (extrusionTexture (extrusionOf block) work₀ corners numbers j)) count work₀ textures c work
 
 abbrev μ-loop : tie.MeasureT-loop
 μ-loop block h s floats at fit work₀ corners numbers textures count c₀ work c = count - c
 
 loop-holds : tie.Need-loop-holds Inv-loop μ-loop
-loop-holds c = (omega arith, textured-none _ _ _)
+loop-holds c = pieces-none
 
 add-wide : tie.Need-add-wide Inv-loop μ-loop
 add-wide c = omega (arith, c .loop-test .taken, c .before .before .before .before .before .pre .2 .points, c .before .before .before .before .before .pre .2 .room)
@@ -27,7 +26,7 @@ mul-wide : tie.Need-mul-wide Inv-loop μ-loop
 mul-wide c = search needs
 
 slice-read-wide : tie.Need-slice-read-wide Inv-loop μ-loop
-slice-read-wide c = omega (arith, c .before .loop-test .taken, c .before .before .before .before .before .before .pre .2 .points, c .before .before .before .before .before .before .pre .2 .room, c .before .before .loop .inv .1 .kept .len)
+slice-read-wide c = omega (arith, c .before .loop-test .taken, c .before .before .before .before .before .before .pre .2 .points, c .before .before .before .before .before .before .pre .2 .room, c .before .before .loop .inv .size)
 
 wide-requires : tie.Need-wide-requires Inv-loop μ-loop
 wide-requires c κs = search needs
@@ -45,7 +44,7 @@ slice-read-wide-2 : tie.Need-slice-read-wide-2 Inv-loop μ-loop
 slice-read-wide-2 c =
     let c3 = c .before .before .before in
     let c8 = c3 .before .before .before .before .before in
-    omega (arith, c3 .loop-test .taken, c8 .pre .2 .faces, c8 .pre .2 .room, c3 .before .loop .inv .1 .kept .len)
+    omega (arith, c3 .loop-test .taken, c8 .pre .2 .faces, c8 .pre .2 .room, c3 .before .loop .inv .size)
 
 wide-requires-2 : tie.Need-wide-requires-2 Inv-loop μ-loop
 wide-requires-2 c κs = search needs
@@ -55,7 +54,7 @@ corner-texture-requires c κs =
     let c2 = c .before .before in
     let c4 = c2 .before .before in
     let c9 = c4 .before .before .before .before .before in
-    (c9 .pre .0, c9 .pre .1, corner-within (c9 .pre .2) (c4 .before .loop .inv .1 .kept) _ _ (c4 .loop-test .taken) (c2 .wide .ensures))
+    (c9 .pre .0, c9 .pre .1, corner-within (c9 .pre .2) (pieces-kept (c4 .before .loop .inv) (omega (arith, c9 .pre .2 .room))) _ _ (c4 .loop-test .taken) (c2 .wide .ensures))
 
 mul-put2 : tie.Need-mul-put2 Inv-loop μ-loop
 mul-put2 c = omega (arith, c .before .before .before .before .before .before .loop-test .taken, c .before .before .before .before .before .before .before .before .before .before .before .pre .2 .room)
@@ -66,7 +65,7 @@ add-put2 c = omega (arith, c .before .before .before .before .before .before .lo
 put2-requires : tie.Need-put2-requires Inv-loop μ-loop
 put2-requires c κs =
     let c6 = c .before .before .before .before .before .before in
-    omega (arith, c6 .loop-test .taken, c6 .before .before .before .before .before .pre .2 .room, c6 .before .loop .inv .1 .kept .len)
+    omega (arith, c6 .loop-test .taken, c6 .before .before .before .before .before .pre .2 .room, c6 .before .loop .inv .size)
 
 add-c : tie.Need-add-c Inv-loop μ-loop
 add-c c =
@@ -83,16 +82,15 @@ loop-again c =
     let c7 = c4 .before .before .before in
     let c9 = c7 .before .before in
     let c14 = c9 .before .before .before .before .before in
-    let T = c9 .before .loop .inv .1 in
-    let r = texture-read (c14 .pre .2) (T .kept) _ _ _ _ _ (c9 .loop-test .taken) (c7 .wide .ensures) (c4 .before .wide2 .ensures) (c4 .corner-texture .ensures) in
-    let room : c14 .args .textures + 2 * c9 .before .loop .c + 2 ≤ length (c14 .args .work .now) = omega (arith, c14 .pre .2 .room, c9 .loop-test .taken) in
-    (omega (arith, c9 .loop-test .taken), textured-more _ _ _ _ _ _ _ T r room (c2 .put2 .ensures))
+    let T = c9 .before .loop .inv in
+    let r = texture-read (c14 .pre .2) (pieces-kept T (omega (arith, c14 .pre .2 .room))) _ _ _ _ _ (c9 .loop-test .taken) (c7 .wide .ensures) (c4 .before .wide2 .ensures) (c4 .corner-texture .ensures) in
+    pieces-more 2 (λ t. refl) (omega (arith, c14 .pre .2 .room)) T (c9 .loop-test .taken) (omega arith) (ap words2 r) (c2 .put2 .ensures)
 
 same-length : tie.Need-same-length Inv-loop μ-loop
-same-length c = c .before .loop .inv .1 .kept .len
+same-length c = c .before .loop .inv .size
 
 returns : tie.Need-returns Inv-loop μ-loop
-returns c = let e : c .before .loop .c ≡ c .before .before .before .before .before .args .count = omega (arith, c .before .loop .inv .0, c .loop-test .left) in rw e at (c .before .loop .inv .1)
+returns c = pieces-all (c .before .loop .inv) (c .loop-test .left)
 
 pub put-textures-spec : {M : Type 1} → statement M
 put-textures-spec =

@@ -28,7 +28,7 @@ same-length c = search needs
 
 returns : tie.Need-returns
 unfolding extrusionTexture pointIn ownerIn
-returns c = textures-put (c .before .before .put-textures .ensures) (λ k l. refl)
+returns c = textures-put (c .before .before .before .before .before .before .before .before .before .before .before .pre .5 .room) (c .before .before .put-textures .ensures) (λ k l. refl)
 
 returns-2 : tie.Need-returns-2
 returns-2 c = textures-none (texture-none _ (c .before .before .before .before .pre .2) (c .if1 .left))

@@ -7,7 +7,6 @@ use Rattle.lists.proofs.Pieces.{Singles, singles-none, singles-more, singles-al
 use mathlib.Core.Path.{ap, _∙_}
 use Rattle.lists.specs.Parts.{spliced}
 use Rattle.lists.proofs.Tabs.{tab-take}
-use Rattle.faceset.proofs.Writing.{copied-of}
 use borrow.Author.Needs.{needs}
 use Rattle.faceset.proofs.points.put_points.Statement.{statement}
 use Rattle.faceset.proofs.points.put_points.Tie as tie
@@ -48,8 +47,8 @@ same-length c = c .before .loop .inv .size
 returns : tie.Need-returns Inv-loop μ-loop
 returns c =
     let c4 = c .before .before .before .before in
-    let l = entries-length (c4 .args .list .now) in
-    copied-of (c4 .pre .1) (omega (arith, l)) (singles-all (c .before .loop .inv) (c .loop-test .left) ∙ ap (spliced _ _) (tab-take 0 (entries (c4 .args .list .now)) (c4 .args .n) (omega (arith, l, c4 .pre .0))))
+    singles-all (c .before .loop .inv) (c .loop-test .left)
+    ∙ ap (spliced _ _) (tab-take 0 (entries (c4 .args .list .now)) (c4 .args .n) (omega (arith, entries-length (c4 .args .list .now), c4 .pre .0)))
 
 pub put-points-spec : {M : Type 1} → statement M
 put-points-spec =

@@ -25,7 +25,7 @@ returns-2 c =
     let c2 = c .before .before in
     let c5 = c2 .before .before .before in
     let c13 = c5 .before .before .before .before .before .before .before .before in
-    textures-put (c2 .put-textures .ensures) (λ k l. texture-put (c13 .pre .1) (c5 .fit-in .ensures) (c13 .args .s) (c13 .pre .0) k)
+    textures-put (c13 .pre .1 .fitted .room) (c2 .put-textures .ensures) (λ k l. texture-put (c13 .pre .1) (c5 .fit-in .ensures) (c13 .args .s) (c13 .pre .0) k)
 
 pub texture-where-spec : {M : Type 1} → statement M
 texture-where-spec =

@@ -20,7 +20,7 @@ same-length c = search needs
 
 returns-2 : tie.Need-returns-2
 unfolding pointIn
-returns-2 c = textures-put (c .before .before .put-textures .ensures) (λ k l. refl)
+returns-2 c = textures-put (c .before .before .before .before .before .before .before .before .before .before .pre .1 .room) (c .before .before .put-textures .ensures) (λ k l. refl)
 
 pub texture-where-spec : {M : Type 1} → statement M
 texture-where-spec =

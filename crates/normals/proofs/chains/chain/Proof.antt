@@ -1,10 +1,11 @@
 use native.Mathlib.Omega.{arith}
 use mathlib.Core.Path.{_≡_, _∙_}
-use Prim.Native.Nat.{_-_, _≤_}
-use lib.ListN.{length-set}
+use Prim.Native.Nat.{_-_, _≤_, _+_}
+use lib.ListN.{length-set, length, length-replicate}
 use Rattle.lists.specs.Parts.{seg, Kept}
 use Rattle.normals.specs.Chain.{Chained, Chainable}
 use Rattle.lists.proofs.Keep.{kept-all, kept-then, kept-seg}
+use Rattle.lists.proofs.Splices.{put-kept, put-same}
 use Rattle.normals.proofs.Links.{chain-start, chain-next, chainable-kept}
 use borrow.Author.Needs.{needs}
 use Rattle.normals.proofs.chains.chain.Statement.{statement}
@@ -24,8 +25,12 @@ fill-requires c κs = search needs
 
 loop-holds : tie.Need-loop-holds Inv-loop μ-loop
 loop-holds c =
-    let C = chainable-kept (c .before .before .fill .ensures .kept) (c .before .before .before .before .before .before .pre) in
-    (omega arith, kept-all, C, chain-start C (λ v b. c .before .before .fill .ensures .words .at v b ∙ c .before .before .before .narrow .ensures))
+    let c2 = c .before .before in
+    let c6 = c2 .before .before .before .before in
+    let P = c6 .pre in
+    let h : c6 .args .h + c6 .args .p ≤ length (c6 .args .work .now) = omega (arith, P .heads, P .nexts) in
+    let C = chainable-kept (put-kept _ _ _ (c2 .fill .ensures) (length-replicate _ _) h) P in
+    (omega arith, kept-all, C, chain-start C (λ v b. put-same _ _ h (c2 .fill .ensures) .at v b ∙ c2 .before .narrow .ensures))
 
 sub-i : tie.Need-sub-i Inv-loop μ-loop
 sub-i c = search needs
@@ -87,7 +92,7 @@ loop-again c =
     (omega arith, k .0, k .1, k .2)
 
 same-length : tie.Need-same-length Inv-loop μ-loop
-same-length c = c .before .loop .inv .1 .len ∙ c .before .before .before .before .fill .ensures .kept .len
+same-length c = c .before .loop .inv .1 .len ∙ c .before .before .before .work .given
 
 returns : tie.Need-returns Inv-loop μ-loop
 returns c =
@@ -97,7 +102,8 @@ returns c =
     let I = c1 .loop .inv in
     let z : c1 .loop .i ≡ 0 = omega arith in
     let P = c8 .pre in
-    let K = c4 .fill .ensures .kept in
+    let h : c8 .args .h + c8 .args .p ≤ length (c8 .args .work .now) = omega (arith, P .heads, P .nexts) in
+    let K = put-kept _ _ _ (c4 .fill .ensures) (length-replicate _ _) h in
     let s : seg (c4 .fill .last .0) (c8 .args .a) (c8 .args .n) ≡ seg (c8 .args .work .now) (c8 .args .a) (c8 .args .n) = kept-seg K (c8 .args .a) (c8 .args .n) (omega arith) (omega arith) in
     (kept-then K (I .1) (omega arith), rw z at (rw s at (I .3)))
 

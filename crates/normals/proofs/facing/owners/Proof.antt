@@ -47,7 +47,7 @@ loop-again c =
     let c10 = c8 .before .before in
     let I = c10 .before .before .loop .inv in
     let E = c8 .stretch-of .ensures in
-    let k = spread-next _ _ _ _ (c10 .before .before .before .before .pre) (I .1) (I .3) (c10 .if1 .taken) (E .from) (E .to) (c2 .fill .ensures .kept) (c2 .fill .ensures .words) (c2 .before .narrow .ensures) in
+    let k = spread-next _ _ _ _ (c10 .before .before .before .before .pre) (I .1) (I .3) (c10 .if1 .taken) (E .from) (E .to) (c2 .fill .ensures) (c2 .before .narrow .ensures) in
     (omega (arith, c10 .if1 .taken), k .0, k .1, k .2)
 
 same-length : tie.Need-same-length Inv-loop μ-loop

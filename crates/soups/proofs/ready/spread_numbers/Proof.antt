@@ -62,7 +62,7 @@ loop-again c =
     let S = c13 .before .before .pre in
     let R = S .room in
     let E = c9 .stretch-of .ensures in
-    let k = spread-next _ _ _ _ S (I .1) (I .3) (c11 .if1 .taken) (E .from) (E .to) (c2 .fill .ensures .kept) (c2 .fill .ensures .words) (number-kept (I .1) t (c13 .loop .g) (omega (arith, R .numbers, c11 .if1 .taken))) in
+    let k = spread-next _ _ _ _ S (I .1) (I .3) (c11 .if1 .taken) (E .from) (E .to) (c2 .fill .ensures) (number-kept (I .1) t (c13 .loop .g) (omega (arith, R .numbers, c11 .if1 .taken))) in
     (omega (arith, c11 .if1 .taken), k .0, k .1, k .2)
 
 same-length : tie.Need-same-length Inv-loop μ-loop

@@ -1,8 +1,9 @@
 use native.Mathlib.Omega.{arith}
-use mathlib.Core.Path.{refl}
+use mathlib.Core.Path.{refl, ap, _∙_}
 use Prim.Native.Nat.{_-_}
 use Rattle.lists.proofs.Pieces.{Singles, singles-none, singles-more, singles-all}
-use Rattle.lists.proofs.Splices.{put-written}
+use Rattle.lists.specs.Parts.{spliced}
+use Rattle.lists.proofs.Tabs.{tab-replicate}
 use borrow.Author.Needs.{needs}
 use Rattle.tables.proofs.writing.fill.Statement.{statement}
 use Rattle.tables.proofs.writing.fill.Tie as tie
@@ -38,7 +39,7 @@ same-length : tie.Need-same-length Inv-loop μ-loop
 same-length c = c .before .loop .inv .size
 
 returns : tie.Need-returns Inv-loop μ-loop
-returns c = put-written _ _ (c .before .before .pre) (singles-all (c .before .loop .inv) (c .loop-test .left))
+returns c = singles-all (c .before .loop .inv) (c .loop-test .left) ∙ ap (spliced _ _) (tab-replicate _ _ 0)
 
 pub fill-spec : {M : Type 1} → statement M
 fill-spec =
