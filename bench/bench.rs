@@ -79,6 +79,8 @@ fn rows() -> Vec<(&'static str, Made)> {
         ("one point with other colours, face set", Box::new(|_, n| blocks::one_point(FACES, blocks::OWN, n))),
         ("one point with other colours, every face", Box::new(|_, n| blocks::one_point(FACES, blocks::EVERY, n))),
         ("one point with other colours, line set", Box::new(|_, n| blocks::one_point(LINES, blocks::OWN, n))),
+        ("one point, colours made against the hash", Box::new(blocks::against_the_hash)),
+        ("three points, the worst found", Box::new(blocks::three_points)),
         ("soup with every attribute", Box::new(blocks::soup)),
         ("comb", Box::new(|_, n| blocks::plates(&[outlines::comb(n / 2)]))),
         ("combs in each other", Box::new(|_, n| blocks::plates(&[outlines::zipper(n / 2)]))),

@@ -135,6 +135,35 @@ pub fn one_point(kind: u32, crease: f32, entries: usize) -> Shape {
     shape
 }
 
+/// One word more in the converter's hash (vertices/specs/Hash.antt).
+fn mixed(hash: u32, word: u32) -> u32 {
+    let product = (hash ^ word).wrapping_mul(0xb529_7a4d);
+    product ^ (product >> 16)
+}
+
+/// The line set of one point, made against the hash: the keys of all vertices are in the first bucket.
+pub fn against_the_hash(maker: &mut Maker, entries: usize) -> Shape {
+    let buckets = entries as u64 / 3 + 1;
+    let first = |colour: &[f32; 3]| {
+        let words = [0.0, colour[0], colour[1], colour[2], 1.0].map(f32::to_bits);
+        words.into_iter().fold(0, mixed) as u64 * buckets >> 32 == 0
+    };
+    let any = || Some(std::array::from_fn(|_| maker.rng.real()));
+    let colours: Vec<f32> = std::iter::from_fn(any).filter(first).take(entries).flatten().collect();
+    let mut shape = one_point(LINES, OWN, entries);
+    shape.set_floats(2, &colours);
+    shape
+}
+
+/// Faces of nine corners over three points, the worst that `search` found: all corners meet at three points, and many faces
+/// have no unit normal.
+pub fn three_points(maker: &mut Maker, entries: usize) -> Shape {
+    let points = maker.values(9, Taste::Coarse);
+    let any = |_| (0..9).map(|_| maker.rng.below(3) as i32).collect();
+    let index = listed((0..entries / 10).map(any));
+    faces(CREASE, &points, &index)
+}
+
 /// Triangles of any points, with colours, normals and texture at each corner.
 pub fn soup(maker: &mut Maker, entries: usize) -> Shape {
     let count = entries / 4;
