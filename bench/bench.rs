@@ -67,12 +67,12 @@ type Made = Box<dyn Fn(&mut Maker, usize) -> Shape>;
 
 fn rows() -> Vec<(&'static str, Made)> {
     vec![
-        ("grid 46 by 46", Box::new(blocks::grid)),
-        ("2,048 faces of 3 corners", Box::new(blocks::triangles)),
+        ("grid", Box::new(blocks::grid)),
+        ("faces of 3 corners", Box::new(blocks::triangles)),
         ("faces of 4 corners over heights", Box::new(blocks::quads)),
-        ("64 concave faces of 127 corners", Box::new(|_, n| blocks::stars(n))),
-        ("extrusion 45 by 45", Box::new(|_, n| blocks::duct(n))),
-        ("8,192 line entries", Box::new(blocks::lines)),
+        ("concave faces of 127 corners", Box::new(|_, n| blocks::stars(n))),
+        ("extrusion", Box::new(|_, n| blocks::duct(n))),
+        ("lines", Box::new(blocks::lines)),
         ("hub, own face", Box::new(|_, n| blocks::hub(blocks::OWN, n))),
         ("hub, faces within the crease angle", Box::new(|_, n| blocks::hub(blocks::CREASE, n))),
         ("hub, every face", Box::new(|_, n| blocks::hub(blocks::EVERY, n))),
