@@ -1,11 +1,10 @@
 -- One face of the tables: how many indices it has, that it is kept, and what the functions leave. Then the room that is lent.
 use mathlib.Core.Path.{_≡_, refl, sym, ap, ap₂, _∙_}
-use mathlib.Core.Bool.{Bool}
+use mathlib.Core.Bool.{Bool, true, false}
 use mathlib.Core.List.{List, [], _∷_}
 use Prim.Native.Nat.{ℕ, suc, _+_, _-_, _*_, _≤_, _<_}
 use native.Mathlib.Omega.{arith}
-use borrow.Author.Tests.{lt-ltb, le-ltb}
-use lib.Dec.{ltb}
+use borrow.Author.Tests.{le-leb}
 use lib.Ieee.{Float}
 use lib.ListN.{length, take, drop}
 use lib.Seq.{sets}
@@ -16,8 +15,9 @@ use Rattle.polygon.specs.Facing.{newell}
 use Rattle.polygon.specs.Plane.{handed, projection, flat2, pairs}
 use Rattle.polygon.specs.Ears.{Tri, flat}
 use Rattle.polygon.specs.Face.{faceTris, triangles}
+use Rattle.polygon.specs.Fans.{isFan}
 use Rattle.polygon.proofs.Projection.{length-spots}
-use Rattle.polygon.proofs.Triangles.{by-plane, triangles-count}
+use Rattle.polygon.proofs.Triangles.{by-plane, by-fan, triangles-count}
 use Rattle.tables.specs.declared.layout.Plan.{Plan}
 use Rattle.tables.specs.Layout.{planOf}
 use Rattle.lists.specs.Parts.{seg, Kept}
@@ -42,23 +42,19 @@ module _ (w : List ℕ) (t : Plan) (ccw : Bool) (a n : ℕ) where
       let u : v ≡ facingIn w t ccw a n = ev ∙ ap (handed ccw) (es ∙ ap newell z) in
       e ∙ ap₂ (λ (m : V3) (ps : List V3). sets fs 0 (flat2 (projection ccw m ps))) u z
 
-  floats-few : (f : List Float) → n < 3 → cornersFloats w t ccw a n f ≡ f
-  unfolding cornersFloats
-  floats-few f h = rw (lt-ltb n 3 h)
-
-  floats-more : (f : List Float) → 3 ≤ n → cornersFloats w t ccw a n f ≡ sets f 0 (planeIn w t ccw a n)
-  unfolding cornersFloats
-  floats-more f h = rw (le-ltb n 3 h)
-
   module _ (convex : Bool) (h : t .corners + a + n ≤ length w) where
     -- what `put_corners` leaves
     pub corners-put : (fs gs : List Float) (o o′ : List ℕ) (at : ℕ) → n * 2 ≤ length fs
-        → gs ≡ sets fs 0 (planeIn w t ccw a n)
+        → gs ≡ cornersFloats w t ccw convex a n fs
         → o′ ≡ sets o at (flat (faceTris convex (pairs (take (n * 2) gs)))) → o′ ≡ sets o at (flat (trianglesIn w t ccw convex a n))
-    unfolding planeIn trianglesIn outlineIn
-    corners-put fs gs o o′ at k g e =
-        e ∙ ap (λ (ts : List Tri). sets o at (flat ts))
-        (by-plane ccw convex (pointsIn w t) (seg w (t .corners + a) n) (facingIn w t ccw a n) n fs gs (length-seg w (t .corners + a) n h) k g)
+    unfolding cornersFloats planeIn trianglesIn outlineIn
+    corners-put fs gs o o′ at k g e = e ∙ ap (λ (ts : List Tri). sets o at (flat ts)) (go (isFan convex n) refl g)
+      where
+        go : (b : Bool) → isFan convex n ≡ b → gs ≡ pick b fs (sets fs 0 (planeIn w t ccw a n)) → faceTris convex (pairs (take (n * 2) gs)) ≡ trianglesIn w t ccw convex a n
+        go true q x =
+            ap (λ (l : List Float). faceTris convex (pairs (take (n * 2) l))) x
+            ∙ by-fan ccw convex (pointsIn w t) (seg w (t .corners + a) n) (facingIn w t ccw a n) n fs (length-seg w (t .corners + a) n h) k q
+        go false q x = by-plane ccw convex (pointsIn w t) (seg w (t .corners + a) n) (facingIn w t ccw a n) n fs gs (length-seg w (t .corners + a) n h) k x
 
     pub length-triangles : length (trianglesIn w t ccw convex a n) ≡ n - 2
     unfolding trianglesIn outlineIn
@@ -69,6 +65,11 @@ module _ (w : List ℕ) (t : Plan) (ccw : Bool) (a n : ℕ) where
     pub length-corners : length (cornersMade w t ccw convex a n) ≡ (n - 2) * 3
     unfolding cornersMade
     length-corners = length-numbered ccw (seg w (t .named + a) n) (trianglesIn w t ccw convex a n) ∙ ap (λ (k : ℕ). k * 3) length-triangles
+
+-- fewer than three corners are a fan
+floats-few : (w : List ℕ) (t : Plan) (ccw convex : Bool) (a n : ℕ) (f : List Float) → n < 3 → cornersFloats w t ccw convex a n f ≡ f
+unfolding cornersFloats isFan
+floats-few w t ccw convex a n f h = rw (le-leb n 3 (omega arith))
 
 none : (l : List ℕ) → length l ≡ 0 → l ≡ []
 none [] e = refl
@@ -98,9 +99,9 @@ module _ {w : List ℕ} {t : Plan} (S : Sound w t) (ccw convex : Bool) where
     unfolding oneFace
     one-is = ends-are (cornersMade w t ccw convex)
 
-    floats-are : (f : List Float) → oneFloats w t ccw g f ≡ cornersFloats w t ccw a (b - a) f
+    floats-are : (f : List Float) → oneFloats w t ccw convex g f ≡ cornersFloats w t ccw convex a (b - a) f
     unfolding oneFloats
-    floats-are f = ends-are (λ (x n : ℕ). cornersFloats w t ccw x n f)
+    floats-are f = ends-are (λ (x n : ℕ). cornersFloats w t ccw convex x n f)
 
     pub corners-here : t .corners + a + (b - a) ≤ length w
     corners-here = let q = ends-in in corners-in a (b - a) (omega (arith, q .0, q .1))
@@ -109,23 +110,23 @@ module _ {w : List ℕ} {t : Plan} (S : Sound w t) (ccw convex : Bool) where
     length-here = ap length one-is ∙ length-corners w t ccw a (b - a) convex corners-here
 
     -- fewer than three corners
-    pub few-put : (o : List ℕ) (f : List Float) (at : ℕ) → b - a < 3 → Put t (oneFace w t ccw convex g) (oneFloats w t ccw g f) at at o o w w f
+    pub few-put : (o : List ℕ) (f : List Float) (at : ℕ) → b - a < 3 → Put t (oneFace w t ccw convex g) (oneFloats w t ccw convex g f) at at o o w w f
     few-put o f at few =
         let l : length (oneFace w t ccw convex g) ≡ 0 = length-here ∙ omega arith in
         record {
           next = omega arith;
           made = ap (sets o at) (sym (none (oneFace w t ccw convex g) l));
           kept = kept-all;
-          floats = sym (floats-are f ∙ floats-few w t ccw a (b - a) f few);
+          floats = sym (floats-are f ∙ floats-few w t ccw convex a (b - a) f few);
         }
 
     -- three or more
-    pub more-put : (w′ o X Y : List ℕ) (f f′ : List Float) (at r : ℕ) → 3 ≤ b - a → at + (b - a - 2) * 3 ≤ length o → Kept (t .places) w w′
+    pub more-put : (w′ o X Y : List ℕ) (f f′ : List Float) (at r : ℕ) → at + (b - a - 2) * 3 ≤ length o → Kept (t .places) w w′
         → X ≡ sets o at (flat (trianglesIn w t ccw convex a (b - a)))
-        → Y ≡ sets X at (numbered ccw (seg w′ (t .named + a) (b - a)) (threes (b - a - 2) (drop at X))) → f′ ≡ sets f 0 (planeIn w t ccw a (b - a))
-        → r ≡ at + (b - a - 2) * 3 → Put t (oneFace w t ccw convex g) (oneFloats w t ccw g f) at r o Y w w′ f′
+        → Y ≡ sets X at (numbered ccw (seg w′ (t .named + a) (b - a)) (threes (b - a - 2) (drop at X))) → f′ ≡ cornersFloats w t ccw convex a (b - a) f
+        → r ≡ at + (b - a - 2) * 3 → Put t (oneFace w t ccw convex g) (oneFloats w t ccw convex g f) at r o Y w w′ f′
     unfolding cornersMade
-    more-put w′ o X Y f f′ at r more room K x y z er =
+    more-put w′ o X Y f f′ at r room K x y z er =
         let q = ends-in in
         let R = S .room in
         let l : length (oneFace w t ccw convex g) ≡ (b - a - 2) * 3 = length-here in
@@ -138,7 +139,7 @@ module _ {w : List ℕ} {t : Plan} (S : Sound w t) (ccw convex : Bool) where
               in-place ccw (seg w (t .named + a) (b - a)) o X Y (trianglesIn w t ccw convex a (b - a)) at (b - a - 2) (length-triangles w t ccw a (b - a) convex corners-here)
               room x (y ∙ ap (λ (s : List ℕ). sets X at (numbered ccw s (threes (b - a - 2) (drop at X)))) v) ∙ ap (sets o at) (sym one-is);
           kept = K;
-          floats = z ∙ sym (floats-are f ∙ floats-more w t ccw a (b - a) f more);
+          floats = z ∙ sym (floats-are f);
         }
 
 -- ---- a face is kept with the words below the places
@@ -158,9 +159,9 @@ module _ {w₀ w : List ℕ} {t : Plan} (K : Kept (t .places) w₀ w) (S : Sound
       let v : seg w (t .named + a) n ≡ seg w₀ (t .named + a) n = kept-seg K (t .named + a) n (omega arith) (omega arith) in
       λ i. numbered ccw (v i) (triangles ccw convex (p i) (handed ccw (newell (p i))))
 
-  floats-kept : (f : List Float) (a n : ℕ) → a + n ≤ t .count → cornersFloats w t ccw a n f ≡ cornersFloats w₀ t ccw a n f
+  floats-kept : (f : List Float) (a n : ℕ) → a + n ≤ t .count → cornersFloats w t ccw convex a n f ≡ cornersFloats w₀ t ccw convex a n f
   unfolding cornersFloats planeIn facingIn
-  floats-kept f a n h = ap (λ (ps : List V3). pick (ltb n 3) f (sets f 0 (flat2 (projection ccw (handed ccw (newell ps)) ps)))) (outline-kept a n h)
+  floats-kept f a n h = ap (λ (ps : List V3). pick (isFan convex n) f (sets f 0 (flat2 (projection ccw (handed ccw (newell ps)) ps)))) (outline-kept a n h)
 
   module _ (g : ℕ) (h : g < t .faces) where
     -- what is said of the corners of a face
@@ -177,9 +178,9 @@ module _ {w₀ w : List ℕ} {t : Plan} (K : Kept (t .places) w₀ w) (S : Sound
     unfolding oneFace
     one-kept = face-kept (cornersMade w t ccw convex) (cornersMade w₀ t ccw convex) corners-kept
 
-    pub one-floats : (f : List Float) → oneFloats w t ccw g f ≡ oneFloats w₀ t ccw g f
+    pub one-floats : (f : List Float) → oneFloats w t ccw convex g f ≡ oneFloats w₀ t ccw convex g f
     unfolding oneFloats
-    one-floats f = face-kept (λ (a n : ℕ). cornersFloats w t ccw a n f) (λ (a n : ℕ). cornersFloats w₀ t ccw a n f) (floats-kept f)
+    one-floats f = face-kept (λ (a n : ℕ). cornersFloats w t ccw convex a n f) (λ (a n : ℕ). cornersFloats w₀ t ccw convex a n f) (floats-kept f)
 
 -- FORMAT 4: the words and floats that are lent are enough
 pub plan-ready : (spots count faces floats : ℕ) (w : List ℕ) → Sound w (planOf spots count faces) → faces * 3 ≤ count

@@ -31,7 +31,7 @@ module _ (w₀ : List ℕ) (t : Plan) (ccw convex : Bool) where
     pub within : g ≤ t .faces
     pub kept : Kept (t .places) w₀ w
     pub left : Left sets (allFaces w₀ t ccw convex) 0 o₀ (rest g) at o
-    pub floats : run (oneFloats w₀ t ccw) (t .faces - g) g f ≡ allFloats w₀ t ccw f₀
+    pub floats : run (oneFloats w₀ t ccw convex) (t .faces - g) g f ≡ allFloats w₀ t ccw convex f₀
 
   rest-all : rest 0 ≡ allFaces w₀ t ccw convex
   unfolding allFaces rest
@@ -51,7 +51,7 @@ module _ (w₀ : List ℕ) (t : Plan) (ccw convex : Bool) where
     within = omega arith;
     kept = kept-all;
     left = rw rest-all (left-all sets);
-    floats = ap (λ (k : ℕ). run (oneFloats w₀ t ccw) k 0 f) (sub-zero (t .faces));
+    floats = ap (λ (k : ℕ). run (oneFloats w₀ t ccw convex) k 0 f) (sub-zero (t .faces));
   }
 
   module _ {floats : ℕ} (Q : Ready w₀ t floats) {o₀ o w : List ℕ} {f₀ f : List Float} {g at : ℕ} (F : Facing o₀ o w f₀ f g at) where
@@ -76,7 +76,7 @@ module _ (w₀ : List ℕ) (t : Plan) (ccw convex : Bool) where
           let e = length-one (sound-kept (F .kept) t (omega arith) (Q .sound)) ccw convex g h in
           omega (arith, e, left-here (F .left) split, F .left .len, b)
 
-      pub facing-go : (o′ w′ : List ℕ) (f′ : List Float) (r : ℕ) → Put t (oneFace w t ccw convex g) (oneFloats w t ccw g f) at r o o′ w w′ f′
+      pub facing-go : (o′ w′ : List ℕ) (f′ : List Float) (r : ℕ) → Put t (oneFace w t ccw convex g) (oneFloats w t ccw convex g f) at r o o′ w w′ f′
           → Facing o₀ o′ w′ f₀ f′ (g + 1) r
       facing-go o′ w′ f′ r P =
           record {
@@ -84,12 +84,12 @@ module _ (w₀ : List ℕ) (t : Plan) (ccw convex : Bool) where
             kept = kept-then (F .kept) (P .kept) (omega arith);
             left = left-next (F .left) split stores (record { next = P .next; made = P .made });
             floats =
-                ap (run (oneFloats w₀ t ccw) (t .faces - (g + 1)) (g + 1)) (P .floats ∙ one-floats (F .kept) (Q .sound) ccw convex g h f)
-                ∙ sym (run-go (oneFloats w₀ t ccw) (t .faces) g f h) ∙ F .floats;
+                ap (run (oneFloats w₀ t ccw convex) (t .faces - (g + 1)) (g + 1)) (P .floats ∙ one-floats (F .kept) (Q .sound) ccw convex g h f)
+                ∙ sym (run-go (oneFloats w₀ t ccw convex) (t .faces) g f h) ∙ F .floats;
           }
 
   pub facing-end : (o₀ o w : List ℕ) (f₀ f : List Float) (g at : ℕ) → t .faces ≤ g → length (allFaces w₀ t ccw convex) ≤ length o₀ → Facing o₀ o w f₀ f g at
-      → Made t (allFaces w₀ t ccw convex) (allFloats w₀ t ccw f₀) at o₀ o w₀ w f
+      → Made t (allFaces w₀ t ccw convex) (allFloats w₀ t ccw convex f₀) at o₀ o w₀ w f
   facing-end o₀ o w f₀ f g at h b F =
       let A = left-end (F .left) stores (rest-none g h) in
       record {
@@ -97,5 +97,5 @@ module _ (w₀ : List ℕ) (t : Plan) (ccw convex : Bool) where
         made = A .made ∙ sets-eq (allFaces w₀ t ccw convex) o₀ 0 (omega (arith, b))
             ∙ ap (λ (k : ℕ). allFaces w₀ t ccw convex ++ drop k o₀) (zero-add (length (allFaces w₀ t ccw convex)));
         kept = F .kept;
-        floats = sym (run-end (oneFloats w₀ t ccw) (t .faces) g f h) ∙ F .floats;
+        floats = sym (run-end (oneFloats w₀ t ccw convex) (t .faces) g f h) ∙ F .floats;
       }

@@ -3,7 +3,6 @@ use mathlib.Core.Path.{_≡_}
 use mathlib.Core.Bool.{Bool}
 use mathlib.Core.List.{List, [], _++_}
 use Prim.Native.Nat.{ℕ, suc, _+_, _*_, _-_, _≤_, _<_}
-use lib.Dec.{ltb}
 use lib.Ieee.{Float}
 use lib.ListN.{length, getD, drop}
 use lib.Seq.{sets}
@@ -14,6 +13,7 @@ use Rattle.polygon.specs.Facing.{newell}
 use Rattle.polygon.specs.Plane.{handed, projection, flat2}
 use Rattle.polygon.specs.Ears.{Tri}
 use Rattle.polygon.specs.Face.{triangles}
+use Rattle.polygon.specs.Fans.{isFan}
 use Rattle.lists.specs.Lists.{place, flat}
 use Rattle.mesh.specs.Soup.{noCorner, Face, Frame}
 use Rattle.mesh.specs.Vertices.{Key, sameKey, keyOf}
@@ -50,17 +50,17 @@ allFaces w t ccw convex = flat (tab (oneFace w t ccw convex) (t .faces) 0)
 unfoldable pub planeIn : List ℕ → Plan → Bool → ℕ → ℕ → List Float
 planeIn w t ccw a n = flat2 (projection ccw (facingIn w t ccw a n) (outlineIn w t a n))
 
--- FORMAT 12.2: the floats f after the n corners from a on: three or more stand in front, in the plane
-unfoldable pub cornersFloats : List ℕ → Plan → Bool → ℕ → ℕ → List Float → List Float
-cornersFloats w t ccw a n f = pick (ltb n 3) f (sets f 0 (planeIn w t ccw a n))
+-- FORMAT 12.2: the floats f after the n corners from a on: they stand in front, in the plane, where ears are clipped; of a fan there is no plane
+unfoldable pub cornersFloats : List ℕ → Plan → Bool → Bool → ℕ → ℕ → List Float → List Float
+cornersFloats w t ccw convex a n f = pick (isFan convex n) f (sets f 0 (planeIn w t ccw a n))
 
 -- FORMAT 12.2: after kept face g
-unfoldable pub oneFloats : List ℕ → Plan → Bool → ℕ → List Float → List Float
-oneFloats w t ccw g f = cornersFloats w t ccw (startIn w t g) (startIn w t (suc g) - startIn w t g) f
+unfoldable pub oneFloats : List ℕ → Plan → Bool → Bool → ℕ → List Float → List Float
+oneFloats w t ccw convex g f = cornersFloats w t ccw convex (startIn w t g) (startIn w t (suc g) - startIn w t g) f
 
 -- FORMAT 12.2: after all of them, one after another
-unfoldable pub allFloats : List ℕ → Plan → Bool → List Float → List Float
-allFloats w t ccw f = run (oneFloats w t ccw) (t .faces) 0 f
+unfoldable pub allFloats : List ℕ → Plan → Bool → Bool → List Float → List Float
+allFloats w t ccw convex f = run (oneFloats w t ccw convex) (t .faces) 0 f
 
 -- the tables hold a soup, with five words a corner from the places on, and two floats a corner
 pub record Ready (w : List ℕ) (t : Plan) (floats : ℕ) : Type 0 where

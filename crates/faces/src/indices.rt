@@ -7,7 +7,7 @@ ghost use Rattle.polygon.specs.Ears.{flat};
 ghost use Rattle.lists.specs.Parts.{seg, Kept};
 ghost use Rattle.tables.specs.Soups.{startIn, Sound};
 ghost use Rattle.faces.specs.Naming.{threes, numbered};
-ghost use Rattle.faces.specs.Indices.{trianglesIn, oneFace, allFaces, planeIn, oneFloats, allFloats, Ready, Put, Made};
+ghost use Rattle.faces.specs.Indices.{trianglesIn, oneFace, allFaces, planeIn, cornersFloats, oneFloats, allFloats, Ready, Put, Made};
 use crate::naming::rename;
 use block::CornerNumber;
 use tables::Plan;
@@ -27,6 +27,25 @@ fn put_plane(work: &[u32], t: Plan, a: CornerNumber, n: usize, ccw: bool, floats
     polygon::project(&work[lo..hi], &work[from..to], normal, ccw, floats);
 }
 
+// The same where ears are clipped; of a fan there is no plane.
+fn put_plane_where(
+    work: &[u32],
+    t: Plan,
+    a: CornerNumber,
+    n: usize,
+    ccw: bool,
+    convex: bool,
+    floats: &mut [f32],
+)
+    requires { ⌜ Sound (now work) t × (a .0 + n ≤ t .count) ⌝ }
+    ensures { λ _. ⌜ now (floats .exit) ≡ cornersFloats (now (work .entry)) t ccw convex (a .0) n (now (floats .entry)) ⌝ }
+{
+    if polygon::is_fan(n, convex) {
+        return;
+    }
+    put_plane(work, t, a, n, ccw, floats);
+}
+
 // Its triangles by its own corners, from place `at` of `indices` on. The tables from the places on are read no more: room to work in.
 fn put_corners(
     work: &mut [u32],
@@ -42,9 +61,9 @@ fn put_corners(
     requires { ⌜ Ready (now work) t (length (now floats)) × (a .0 + n ≤ t .count) × (at + (n - 2) * 3 ≤ length (now indices)) ⌝ }
     ensures { λ _. ⌜ Kept (t .places) (now (work .entry)) (now (work .exit))
         × (now (indices .exit) ≡ sets (now (indices .entry)) at (flat (trianglesIn (now (work .entry)) t ccw convex (a .0) n)))
-        × (now (floats .exit) ≡ sets (now (floats .entry)) 0 (planeIn (now (work .entry)) t ccw (a .0) n)) ⌝ }
+        × (now (floats .exit) ≡ cornersFloats (now (work .entry)) t ccw convex (a .0) n (now (floats .entry))) ⌝ }
 {
-    put_plane(work, t, a, n, ccw, floats);
+    put_plane_where(work, t, a, n, ccw, convex, floats);
     let lo = t.places;
     let hi = lo + n * 5;
     polygon::triangulate(floats, n, convex, &mut work[lo..hi], indices, at);
@@ -80,7 +99,7 @@ fn one_face(
     at: usize,
 ) -> usize
     requires { ⌜ Ready (now work) t (length (now floats)) × (face < t .faces) × (at + (startIn (now work) t (suc face) - startIn (now work) t face - 2) * 3 ≤ length (now indices)) ⌝ }
-    ensures { λ r. ⌜ Put t (oneFace (now (work .entry)) t ccw convex face) (oneFloats (now (work .entry)) t ccw face (now (floats .entry))) at r
+    ensures { λ r. ⌜ Put t (oneFace (now (work .entry)) t ccw convex face) (oneFloats (now (work .entry)) t ccw convex face (now (floats .entry))) at r
         (now (indices .entry)) (now (indices .exit)) (now (work .entry)) (now (work .exit)) (now (floats .exit)) ⌝ }
 {
     let r = stretch_of(work, t, face);
@@ -95,7 +114,7 @@ fn one_face(
     next
 }
 
-// The indices of all kept faces, to the front of `indices`, and how many they are. Each face is put in the plane in `floats`.
+// The indices of all kept faces, to the front of `indices`, and how many they are. A face whose ears are clipped is put in the plane in `floats`.
 pub fn all_faces(
     work: &mut [u32],
     t: Plan,
@@ -105,7 +124,7 @@ pub fn all_faces(
     indices: &mut [u32],
 ) -> usize
     requires { ⌜ Ready (now work) t (length (now floats)) × (length (allFaces (now work) t ccw convex) ≤ length (now indices)) ⌝ }
-    ensures { λ r. ⌜ Made t (allFaces (now (work .entry)) t ccw convex) (allFloats (now (work .entry)) t ccw (now (floats .entry))) r
+    ensures { λ r. ⌜ Made t (allFaces (now (work .entry)) t ccw convex) (allFloats (now (work .entry)) t ccw convex (now (floats .entry))) r
         (now (indices .entry)) (now (indices .exit)) (now (work .entry)) (now (work .exit)) (now (floats .exit)) ⌝ }
 {
     let mut at = 0;

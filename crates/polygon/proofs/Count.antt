@@ -1,16 +1,17 @@
 -- A face of n corners has n - 2 triangles, whatever its points are; and which of fan and ears it gets.
 use mathlib.Core.Path.{_≡_, refl, sym, ap, _∙_, subst}
-use mathlib.Core.Bool.{Bool, true, false, _||_}
+use mathlib.Core.Bool.{Bool, true, false, _||_, true≢false}
 use mathlib.Core.List.{List, [], _∷_}
 use Prim.Native.Nat.{ℕ, zero, suc, _-_, _*_, _≤_, _<_}
 use native.Mathlib.Omega.{arith}
-use borrow.Author.Tests.{ltb-true, leb-true, leb-false, lt-ltb, le-ltb, ne-eqb}
+use borrow.Author.Tests.{ltb-true, leb-true, leb-false, le-ltb, ne-eqb}
 use lib.Dec.{eqb, leb, ltb}
 use lib.ListN.{length, getD, length-map}
 use lib.Ieee.{nan}
 use Rattle.lists.specs.Loops.{pick, tab}
 use Rattle.polygon.specs.Ears.{Pt, Tri, triple, remove, fanFrom, fan, goes, firstEar, corner, clip, place, order, isReversed, turn, earClipBy, earClip, outline}
 use Rattle.polygon.specs.Face.{earClipMax, faceTris}
+use Rattle.polygon.specs.Fans.{isFan}
 use Rattle.lists.proofs.Tabs.{length-tab}
 use Rattle.lists.proofs.Tests.{and-left, and-right}
 
@@ -94,22 +95,21 @@ module _ (convex : Bool) (pts : List Pt) (n : ℕ) (e : length pts ≡ n) where
       let b : eqb n 3 ≡ false = ne-eqb n 3 (λ (z : n ≡ 3). omega arith) in
       rw (e, a, b)
 
-  pub face-convex : convex ≡ true → faceTris convex pts ≡ fan (outline n)
-  face-convex c = go (leb n 3) refl
+  pub face-fan : isFan convex n ≡ true → faceTris convex pts ≡ fan (outline n)
+  unfolding isFan
+  face-fan h = go (leb n 3) refl h
     where
-      go : (b : Bool) → leb n 3 ≡ b → faceTris convex pts ≡ fan (outline n)
-      go true q = face-few (leb-true n 3 q)
-      go false q = face-more (leb-false n 3 q) ∙ rw c
+      go : (b : Bool) → leb n 3 ≡ b → (b || (convex || ltb earClipMax n)) ≡ true → faceTris convex pts ≡ fan (outline n)
+      go true q z = face-few (leb-true n 3 q)
+      go false q z = face-more (leb-false n 3 q) ∙ ap (λ (b : Bool). pick b (fan (outline n)) (earClip pts)) z
 
-  pub face-many : earClipMax < n → faceTris convex pts ≡ fan (outline n)
-  face-many h = face-more (omega arith) ∙ ap (λ (b : Bool). pick b (fan (outline n)) (earClip pts)) (or-yes convex (ltb earClipMax n) (lt-ltb earClipMax n h))
+  pub face-ears : isFan convex n ≡ false → faceTris convex pts ≡ earClip pts
+  unfolding isFan
+  face-ears h = go (leb n 3) refl h
     where
-      or-yes : (a b : Bool) → b ≡ true → (a || b) ≡ true
-      or-yes true b q = refl
-      or-yes false b q = q
-
-  pub face-ears : convex ≡ false → 3 < n → n ≤ earClipMax → faceTris convex pts ≡ earClip pts
-  face-ears c g h = face-more g ∙ (let b : ltb earClipMax n ≡ false = le-ltb earClipMax n h in rw (c, b))
+      go : (b : Bool) → leb n 3 ≡ b → (b || (convex || ltb earClipMax n)) ≡ false → faceTris convex pts ≡ earClip pts
+      go true q z = absurd (true≢false z)
+      go false q z = face-more (leb-false n 3 q) ∙ ap (λ (b : Bool). pick b (fan (outline n)) (earClip pts)) z
 
 -- a face is a fan or is clipped, so what holds of both holds of it
 pub either : (Q : List Tri → Type 0) (convex : Bool) (pts : List Pt) → Q (fan (outline (length pts))) → Q (earClip pts) → Q (faceTris convex pts)

@@ -14,8 +14,9 @@ use Rattle.polygon.specs.Points.{spots}
 use Rattle.polygon.specs.Ears.{Tri, triple, fanFrom, fan, outline, turn, flat}
 use Rattle.polygon.specs.Plane.{pairs, projection, flat2}
 use Rattle.polygon.specs.Face.{faceTris, triangles}
+use Rattle.polygon.specs.Fans.{isFan}
 use Rattle.polygon.specs.Edges.{Within, edge, named, tris, around}
-use Rattle.polygon.proofs.Count.{length-outline, count-face, face-convex}
+use Rattle.polygon.proofs.Count.{length-outline, count-face, face-fan}
 use Rattle.polygon.proofs.Corners.{face-within, below}
 use Rattle.lists.proofs.Tabs.{tab-at}
 use Rattle.polygon.proofs.Boundary.{face-boundary}
@@ -63,14 +64,14 @@ by-plane ccw convex points names normal n before after e h w =
     ap (λ (l : List Float). faceTris convex (pairs (take (n * 2) l))) w
     ∙ ap (faceTris convex) (written (projection ccw normal ps) n before (length-projection ccw normal ps ∙ length-spots points names ∙ e) h)
 
--- of a convex face the plane is not looked at
-pub by-fan : (ccw convex : Bool) (points names : List ℕ) (normal : V3) (n : ℕ) (plane : List Float) → length names ≡ n → n * 2 ≤ length plane → convex ≡ true
+-- of a fan the plane is not looked at
+pub by-fan : (ccw convex : Bool) (points names : List ℕ) (normal : V3) (n : ℕ) (plane : List Float) → length names ≡ n → n * 2 ≤ length plane → isFan convex n ≡ true
     → faceTris convex (pairs (take (n * 2) plane)) ≡ triangles ccw convex (spots points names) normal
 unfolding triangles
 by-fan ccw convex points names normal n plane e h c =
     let ps = spots points names in
-    face-convex convex (pairs (take (n * 2) plane)) n (length-pairs (take (n * 2) plane) n (length-take-le (n * 2) plane h)) c
-    ∙ sym (face-convex convex (projection ccw normal ps) n (length-projection ccw normal ps ∙ length-spots points names ∙ e) c)
+    face-fan convex (pairs (take (n * 2) plane)) n (length-pairs (take (n * 2) plane) n (length-take-le (n * 2) plane h)) c
+    ∙ sym (face-fan convex (projection ccw normal ps) n (length-projection ccw normal ps ∙ length-spots points names ∙ e) c)
 
 -- ---- the laws, for any floats
 

@@ -3,5 +3,6 @@ pub mod Facing
 pub mod Ears
 pub mod Plane
 pub mod Face
+pub mod Fans
 pub mod Edges
 pub mod Memo

@@ -6,10 +6,24 @@ ghost use lib.Seq.{sets};
 ghost use Rattle.polygon.specs.Ears.{outline, fan, flat};
 ghost use Rattle.polygon.specs.Plane.{pairs};
 ghost use Rattle.polygon.specs.Face.{faceTris};
+ghost use Rattle.polygon.specs.Fans.{isFan};
 use crate::ears::ear_clip;
 use crate::ears::put_tri;
 
 const EAR_CLIP_MAX: usize = 4096;
+
+// Whether a face of n corners is a fan: then its points in the plane are not looked at.
+pub fn is_fan(n: usize, convex: bool) -> bool
+    ensures { λ r. ⌜ r ≡ isFan convex n ⌝ }
+{
+    if n <= 3 {
+        return true;
+    }
+    if convex {
+        return true;
+    }
+    EAR_CLIP_MAX < n
+}
 
 // A fan over 0, 1, .., n - 1, to the front of `out`.
 fn put_outline_fan(n: usize, out: &mut [u32])
@@ -28,15 +42,7 @@ fn face_tris(plane: &[f32], n: usize, convex: bool, scratch: &mut [u32], out: &m
     requires { ⌜ (n ≤ 2 ^ 31) × (length (now plane) ≡ n * 2) × (n * 5 ≤ length (now scratch)) ⌝ }
     ensures { λ _. ⌜ now (out .exit) ≡ sets (now (out .entry)) 0 (flat (faceTris convex (pairs (now (plane .entry))))) ⌝ }
 {
-    if n <= 3 {
-        put_outline_fan(n, out);
-        return;
-    }
-    if convex {
-        put_outline_fan(n, out);
-        return;
-    }
-    if EAR_CLIP_MAX < n {
+    if is_fan(n, convex) {
         put_outline_fan(n, out);
         return;
     }
@@ -44,8 +50,8 @@ fn face_tris(plane: &[f32], n: usize, convex: bool, scratch: &mut [u32], out: &m
     ear_clip(plane, n, &mut scratch[..e], out);
 }
 
-// The triangles of a face of n corners, from place `at` of `out` on, as triples of its own corners. `plane` begins with its points in the plane.
-// `scratch` is room to work in.
+// The triangles of a face of n corners, from place `at` of `out` on, as triples of its own corners. `plane` begins with its points in the plane, but
+// for a fan. `scratch` is room to work in.
 pub fn triangulate(
     plane: &[f32],
     n: usize,

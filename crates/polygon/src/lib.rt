@@ -6,6 +6,7 @@ mod memo;
 mod plane;
 mod points;
 
+pub use face::is_fan;
 pub use face::triangulate;
 pub use facing::newell;
 pub use plane::handed_of;

@@ -59,7 +59,7 @@ returns-2 c =
     let c15 = c11 .before .before .before .before in
     let c19 = c15 .before .before .before .before in
     let c24 = c19 .before .before .before .before .before in
-    let e = c19 .stretch-of .ensures in more-put (c24 .pre .0 .sound) (c24 .args .ccw) (c24 .args .convex) _ _ _ (c24 .pre .1) (e .from) (e .to) _ _ _ _ _ _ (c24 .args .at) _ (c15 .if1 .left) (omega (arith, c24 .pre .2, e .from, e .to)) (c11 .put-corners .ensures .0) (c11 .put-corners .ensures .1) (c2 .name-corners .ensures) (c11 .put-corners .ensures .2) refl
+    let e = c19 .stretch-of .ensures in more-put (c24 .pre .0 .sound) (c24 .args .ccw) (c24 .args .convex) _ _ _ (c24 .pre .1) (e .from) (e .to) _ _ _ _ _ _ (c24 .args .at) _ (omega (arith, c24 .pre .2, e .from, e .to)) (c11 .put-corners .ensures .0) (c11 .put-corners .ensures .1) (c2 .name-corners .ensures) (c11 .put-corners .ensures .2) refl
 
 pub one-face-spec : {M : Type 1} → statement M
 one-face-spec =
