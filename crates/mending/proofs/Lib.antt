@@ -6,3 +6,4 @@ mod Threes
 mod Lent
 mod Table
 mod Fixing
+mod NearOne

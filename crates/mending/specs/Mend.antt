@@ -1,9 +1,9 @@
 -- FORMAT 10.3, fix_zero_normals: what is lent to it, as a mesh; and how the first usable triangle of each vertex is held in a table.
 use mathlib.Core.Path.{_≡_}
-use mathlib.Core.Bool.{Bool, true, cond}
+use mathlib.Core.Bool.{Bool, true, _&&_, cond}
 use mathlib.Core.List.{List, [], map}
 use Prim.Native.Nat.{ℕ, zero, suc, _+_, _*_, _<_}
-use lib.Dec.{eqb}
+use lib.Dec.{leb, ltb, eqb}
 use lib.ListN.{length, getD, set}
 use Rattle.math.specs.declared.vector.V3.{V3}
 use Rattle.math.specs.declared.vector.Unit.{Unit}
@@ -75,3 +75,7 @@ Firsts F vs is t = (v : ℕ) → v < length t → found F vs is (getD t v 0) yAx
 -- FORMAT 10.3: where the table is made, it has the first usable triangle of each vertex
 unfoldable pub Served : Bool → List ℕ → List ℕ → ℕ → List ℕ → Type 0
 Served made positions is count t = made ≡ true → Firsts (lentFrame positions) (lentKeys [] count) is t
+
+-- FORMAT 10.3: the bits of the square of a length that is 1 but for some roundings: a normal of that length is kept, which is seen without a root
+unfoldable pub nearOne : ℕ → Bool
+nearOne b = leb 0x3f7f_ffc0 b && ltb b 0x3f80_0021

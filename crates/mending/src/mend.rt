@@ -11,7 +11,7 @@ ghost use Rattle.math.specs.Vector.{oneF, yAxis, unitOf};
 ghost use Rattle.math.specs.Order.{magnitude};
 ghost use Rattle.mesh.specs.Words.{words3, floats, bits, pointWords};
 ghost use Rattle.mesh.specs.Mend.{visible, vertexSpot, triNormal, firstNormal, mendBy};
-ghost use Rattle.mending.specs.Mend.{lentFrame, lentKeys, mendedWords, triangleNormal, found, marked, markedAll, noted, Clear, Firsts, Served};
+ghost use Rattle.mending.specs.Mend.{lentFrame, lentKeys, mendedWords, triangleNormal, found, marked, markedAll, noted, Clear, Firsts, Served, nearOne};
 use crate::words::put_three;
 use bits::Words3;
 use block::VertexNumber;
@@ -206,7 +206,17 @@ struct Mended {
     made: bool,
 }
 
-// The normal `w` of vertex v, with one root.
+// Whether the square of a length, by its bits, is 1 but for some roundings, as that of a vector that was scaled is.
+fn is_near_one(square: u32) -> bool
+    ensures { λ r. ⌜ r ≡ nearOne square ⌝ }
+{
+    if square < 0x3f7f_ffc0 {
+        return false;
+    }
+    square < 0x3f80_0021
+}
+
+// The normal `w` of vertex v, with one root at most.
 fn mend_one(
     positions: &[u32],
     indices: &[u32],
@@ -221,6 +231,9 @@ fn mend_one(
         × Served (r .made) (now (positions .entry)) (now (indices .entry)) count (now (table .exit)) ⌝ }
 {
     let n = floats_of(w);
+    if is_near_one(math::bits_of(math::dot(n, n))) {
+        return Mended { words: w, made };
+    }
     let l = math::len(n);
     let Unit::Of(u) = math::unit_by(n, l) else {
         make_table(positions, indices, count, made, table);
