@@ -1,5 +1,6 @@
 -- The theorem that joins what is written to the mesh's definition, and the laws of the functions.
-mod Links
+mod Counting
+mod Grouping
 mod Walks
 mod Arms
 pub mod Fills

@@ -25,10 +25,11 @@ use Rattle.mesh.specs.Normals.{outline, facing}
 use Rattle.tables.specs.declared.layout.Plan.{Plan}
 use Rattle.lists.specs.Parts.{seg, Kept}
 use Rattle.tables.specs.Soups.{gatherIn, ownerIn, startIn, pointsIn, faceIn, frameIn, Sound}
-use Rattle.lists.proofs.Keep.{kept-all, kept-set, kept-then, kept-at, kept-seg, set-hit, set-miss}
+use Rattle.lists.proofs.Keep.{kept-all, kept-set, kept-then, kept-at, kept-seg, length-seg, set-hit, set-miss}
 use Rattle.tables.proofs.Stays.{rise, start-le, owner-kept, start-kept, sound-kept, face-kept, frame-kept, names-in}
-use Rattle.normals.specs.Chain.{Chained, Chainable}
-use Rattle.normals.specs.Rows.{at3, unitAt, normalIn, unitIn, facingIn, gathersIn, OwnedTo, Rowed, Owned, Made}
+use Rattle.normals.specs.Group.{gathersIn, Grouped}
+use Rattle.normals.specs.Rows.{at3, unitAt, normalIn, unitIn, facingIn, OwnedTo, Rowed, Owned, Made}
+use Rattle.normals.proofs.Counting.{grouped-by}
 
 -- ---- rows that are kept
 
@@ -148,7 +149,7 @@ below {w} {t} S O (suc n) c h l =
     ⊎-elim (λ (b : startIn w t n ≤ c). rw (O .at n c h b l) h) (λ (b : c < startIn w t n). below S O n c (omega arith) b) (le-or-lt (startIn w t n) c)
 
 pub made : {v w x y : List ℕ} {t : Plan} {ccw : Bool} → Sound v t → Kept (t .owners) v w → OwnedTo v w t (t .faces)
-    → Kept (t .rows) w x → Rowed w x t ccw (t .faces) → Kept (t .heads) x y → Chained (seg x (t .gathers) (t .count)) y (t .heads) (t .spots) (t .nexts) 0 → Made v y t ccw
+    → Kept (t .rows) w x → Rowed w x t ccw (t .faces) → Kept (t .heads) x y → Grouped (gathersIn x t) (ownerIn x t) y (t .heads) (t .spots) (t .nexts) → Made v y t ccw
 unfolding gathersIn
 made {v} {w} {x} {y} {t} {ccw} S K O L P M C =
     let R = S .room in
@@ -170,7 +171,10 @@ made {v} {w} {x} {y} {t} {ccw} S K O L P M C =
       owned = own;
       ready = record {
         room = S′ .room;
-        chained = rw (kept-seg M (t .gathers) (t .count) (omega arith) (omega arith)) C;
+        gathers = S′ .gathers;
+        grouped =
+            let n = length-seg x (t .gathers) (t .count) (omega arith) in
+            rw (kept-seg M (t .gathers) (t .count) (omega arith) (omega arith)) (grouped-by (λ c k. sym (owner-kept M t c (omega arith))) C);
         owned = λ c k. below S′ own (t .faces) c (omega arith) (rw (S′ .last) k);
         units = λ g k. unitIn-kept M t g (omega arith) ∙ P .unit g k ∙ ap unitOf (sym (normal-kept M t g (omega arith)));
       };
@@ -182,7 +186,3 @@ after-owners S K = sound-kept K _ (omega arith) S
 
 pub after-rows : {v w : List ℕ} {t : Plan} → Sound v t → Kept (t .rows) v w → Sound w t
 after-rows S K = let R = S .room in sound-kept K _ (omega arith) S
-
-pub chainable-of : {w : List ℕ} {t : Plan} → Sound w t → Chainable w (t .gathers) (t .count) (t .heads) (t .spots) (t .nexts)
-unfolding gatherIn
-chainable-of S = let R = S .room in record { few = R .few; corners = omega arith; heads = R .heads; nexts = omega arith; points = S .gathers }

@@ -21,8 +21,8 @@ use Rattle.tables.specs.Soups.{gatherIn, startIn, cornerIn, faceIn, soupIn, fra
 use Rattle.lists.proofs.Keep.{length-seg, seg-at}
 use Rattle.tables.proofs.Stays.{start-le, face-kept, soup-kept}
 use Rattle.tables.proofs.Joins.{join-soup}
-use Rattle.normals.specs.Chain.{uses, usesFrom}
-use Rattle.normals.specs.Rows.{normalIn, facingIn, gathersIn, hitIn, hitsFrom, hitsAt, Owned, Made}
+use Rattle.normals.specs.Group.{uses, usesFrom, gathersIn}
+use Rattle.normals.specs.Rows.{normalIn, facingIn, hitIn, hitsFrom, hitsAt, Owned, Made}
 use Rattle.normals.specs.Written.{normalAt, cornerNormalIn, faceNormals, normalsOf}
 
 abbrev hit : ℕ → V3 → Hit

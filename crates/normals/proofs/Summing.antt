@@ -18,10 +18,11 @@ use Rattle.mesh.specs.Normals.{Hit, sumAll}
 use Rattle.tables.specs.declared.layout.Plan.{Plan}
 use Rattle.lists.specs.Parts.{Kept}
 use Rattle.tables.specs.Soups.{ownerIn}
-use Rattle.lists.proofs.Keep.{kept-then, kept-at, kept-seg}
-use Rattle.tables.proofs.Stays.{start-le, owner-kept, start-kept, sound-kept}
-use Rattle.normals.specs.Chain.{uses, usesFrom}
-use Rattle.normals.specs.Rows.{unitAt, normalIn, gathersIn, hitIn, hitsFrom, hitsAt, Ready, everyAt, sumIn, isEvery, SummedTo, Summed, Made}
+use Rattle.lists.proofs.Keep.{kept-then, kept-seg}
+use Rattle.tables.proofs.Stays.{start-le, gather-kept, owner-kept, start-kept, sound-kept}
+use Rattle.normals.specs.Group.{uses, usesFrom, gathersIn}
+use Rattle.normals.specs.Rows.{unitAt, normalIn, hitIn, hitsFrom, hitsAt, Ready, everyAt, sumIn, isEvery, SummedTo, Summed, Made}
+use Rattle.normals.proofs.Counting.{grouped-by, grouped-kept}
 use Rattle.normals.proofs.Walks.{length-gathers}
 use Rattle.normals.proofs.Making.{unit-kept, normal-kept, unitIn-kept, last-or}
 
@@ -64,10 +65,8 @@ module _ {v w : List ℕ} {t : Plan} (K : Kept (t .sums) v w) (R : Ready v t) wh
       let l = length-gathers R in
       record {
         room = rw (K .len) r;
-        chained = rw gathers-same (record {
-          heads = λ u b. kept-at K (t .heads + u) (omega arith) ∙ R .chained .heads u b;
-          nexts = λ j a b. kept-at K (t .nexts + j) (omega arith) ∙ R .chained .nexts j a b;
-        });
+        gathers = λ c k. rw (gather-kept K t c (omega arith)) (R .gathers c k);
+        grouped = rw gathers-same (grouped-by (λ c k. sym (owner-kept K t c (omega arith))) (grouped-kept K (omega arith) (omega arith) (omega arith) (R .grouped)));
         owned = λ c k. rw (owner-kept K t c (omega arith)) (R .owned c k);
         units = λ g k. unitIn-kept K t g (omega arith) ∙ R .units g k ∙ ap unitOf (sym (normal-kept K t g (omega arith)));
       }
@@ -109,7 +108,7 @@ pub sums-read : {w : List ℕ} {t : Plan} (rule : CreaseRule) (p : ℕ) (k : Uni
 unfolding isEvery
 sums-read rule p k S e h q = q ∙ S .every (ap isEvery e) .at p h
 
--- owners, rows and chains are still made
+-- owners, rows and faces by number are still made
 pub made-kept : {u v w : List ℕ} {t : Plan} {ccw : Bool} → Made u v t ccw → Kept (t .sums) v w → Made u w t ccw
 made-kept {u} {v} {w} {t} {ccw} M K =
     let S = M .sound in

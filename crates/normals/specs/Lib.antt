@@ -1,4 +1,4 @@
--- Corner normals from tables: chains of corners, rows of faces, and what is written.
-pub mod Chain
+-- Corner normals from tables: faces by number, rows of faces, and what is written.
+pub mod Group
 pub mod Rows
 pub mod Written

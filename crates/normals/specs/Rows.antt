@@ -1,4 +1,4 @@
--- FORMAT 10.1, 10.2: the tables that are made: owners, rows of faces, chains, sums; and what they say of the faces at a corner.
+-- FORMAT 10.1, 10.2: the tables that are made: owners, rows of faces, faces by number, sums; and what they say of the faces at a corner.
 use mathlib.Core.Path.{_≡_}
 use mathlib.Core.Bool.{Bool, true, false, cond}
 use mathlib.Core.List.{List, map}
@@ -14,10 +14,10 @@ use Rattle.block.specs.declared.crease.CreaseRule.{CreaseRule}
 use Rattle.block.specs.declared.crease.CreaseRule.the-variants.{Own, Every, Bound}
 use Rattle.mesh.specs.Normals.{facing, Hit, sumAll}
 use Rattle.tables.specs.declared.layout.Plan.{Plan}
-use Rattle.lists.specs.Parts.{seg, Kept}
+use Rattle.lists.specs.Parts.{Kept}
 use Rattle.tables.specs.Layout.{Room}
-use Rattle.tables.specs.Soups.{ownerIn, startIn, faceIn, frameIn, Sound, Spread}
-use Rattle.normals.specs.Chain.{usesFrom, Chained}
+use Rattle.tables.specs.Soups.{gatherIn, ownerIn, startIn, faceIn, frameIn, Sound, Spread}
+use Rattle.normals.specs.Group.{usesFrom, gathersIn, Grouped}
 
 -- three words from a, as a vector
 unfoldable pub at3 : List ℕ → ℕ → V3
@@ -38,13 +38,12 @@ unitIn w t g = unitAt w (t .rows + 7 * g + 3)
 unfoldable pub facingIn : List ℕ → Plan → Bool → ℕ → V3
 facingIn w t ccw g = facing (frameIn w t ccw Own) (faceIn w t g)
 
--- the numbers that the corners are gathered by
-unfoldable pub gathersIn : List ℕ → Plan → List ℕ
-gathersIn w t = seg w (t .gathers) (t .count)
+-- FORMAT 10.2, generate_normals (incident): face g; the face of corner c; the faces at p, in order, once for each use, by the corners from x on; by all corners
+abbrev pub hitOf : List ℕ → Plan → ℕ → Hit
+hitOf w t g = record { face = g; normal = normalIn w t g }
 
--- FORMAT 10.2, generate_normals (incident): the face of corner c; the faces at p, in order, once for each use, by the corners from x on; by all corners
 unfoldable pub hitIn : List ℕ → Plan → ℕ → Hit
-hitIn w t c = record { face = ownerIn w t c; normal = normalIn w t (ownerIn w t c) }
+hitIn w t c = hitOf w t (ownerIn w t c)
 
 unfoldable pub hitsFrom : List ℕ → Plan → ℕ → ℕ → List Hit
 hitsFrom w t p x = map (hitIn w t) (usesFrom (gathersIn w t) p x)
@@ -68,7 +67,8 @@ Owned w t = OwnedTo w w t (t .faces)
 -- the tables that a corner's normal is read from
 pub record Ready (w : List ℕ) (t : Plan) : Type 0 where
   pub room : Room (length w) t
-  pub chained : Chained (gathersIn w t) w (t .heads) (t .spots) (t .nexts) 0
+  pub gathers : (c : ℕ) → c < t .count → gatherIn w t c < t .spots
+  pub grouped : Grouped (gathersIn w t) (ownerIn w t) w (t .heads) (t .spots) (t .nexts)
   pub owned : (c : ℕ) → c < t .count → ownerIn w t c < t .faces
   pub units : (g : ℕ) → g < t .faces → unitIn w t g ≡ unitOf (normalIn w t g)
 
@@ -93,7 +93,7 @@ isEvery (Bound b) = false
 pub record Summed (w : List ℕ) (t : Plan) (rule : CreaseRule) : Type 0 where
   pub every : isEvery rule ≡ true → SummedTo w w t (t .spots)
 
--- owners, rows and chains are made, from the words v
+-- owners, rows and faces by number are made, from the words v
 pub record Made (v w : List ℕ) (t : Plan) (ccw : Bool) : Type 0 where
   pub kept : Kept (t .owners) v w
   pub sound : Sound w t

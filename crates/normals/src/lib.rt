@@ -1,6 +1,6 @@
 // The normals of the corners of a soup, from its tables (FORMAT 10.1, 10.2; generate_normals).
-mod chains;
 mod facing;
+mod groups;
 mod outputs;
 mod points;
 mod sums;

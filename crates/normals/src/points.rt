@@ -1,38 +1,52 @@
 // FORMAT 10.2, generate_normals: what the corners that are gathered under one number share. The sum of every face depends on the number alone, so it is
 // made once for each: made for each corner, it would be a square where many corners meet.
 ghost use mathlib.Core.Path.{_≡_};
-ghost use Prim.Native.Nat.{_<_};
+ghost use mathlib.Core.List.{map};
+ghost use Prim.Native.Nat.{ℕ, _<_};
+ghost use lib.ListN.{length};
 ghost use Rattle.math.specs.Vector.{v3, zeroF};
+ghost use Rattle.lists.specs.Loops.{All};
 ghost use Rattle.lists.specs.Parts.{Kept};
 ghost use Rattle.mesh.specs.Normals.{sumAll};
-ghost use Rattle.normals.specs.Rows.{hitsAt, Ready, SummedTo, Summed};
-use crate::chains::first_at;
-use crate::chains::next_at;
+ghost use Rattle.tables.specs.Layout.{Room};
+ghost use Rattle.normals.specs.Rows.{hitOf, hitsAt, Ready, SummedTo, Summed};
+use crate::groups::end_at;
+use crate::groups::start_at;
 use crate::vectors::load;
 use crate::vectors::store_unit;
 use block::CreaseRule;
 use block::PointNumber;
 use math::V3;
 use tables::Plan;
-use tables::owner_of;
+use tables::wide;
 
-// Every face at p, once for each use, from (0, 0, 0).
-fn sum_all(work: &[u32], t: Plan, p: PointNumber) -> V3
-    requires { ⌜ Ready (now work) t × (p .0 < t .spots) ⌝ }
-    ensures { λ r. ⌜ r ≡ sumAll (v3 zeroF zeroF zeroF) (hitsAt (now (work .entry)) t (p .0)) ⌝ }
+// The facing normals of some faces, from (0, 0, 0).
+fn sum_faces(work: &[u32], t: Plan, faces: &[u32]) -> V3
+    requires { ⌜ Room (length (now work)) t × All (λ (g : ℕ). g < t .faces) (now faces) ⌝ }
+    ensures { λ r. ⌜ r ≡ sumAll (v3 zeroF zeroF zeroF) (map (hitOf (now (work .entry)) t) (now (faces .entry))) ⌝ }
 {
     let mut s = V3 {
         x: 0.0,
         y: 0.0,
         z: 0.0,
     };
-    let mut x = first_at(work, t, p);
-    while x.0 < t.count {
-        let g = owner_of(work, t, x);
+    let mut k = 0;
+    while k < faces.len() {
+        let g = wide(faces[k]);
         s = math::add(s, load(work, t.rows + 7 * g));
-        x = next_at(work, t, x);
+        k += 1;
     }
     s
+}
+
+// Every face at p, once for each use.
+fn sum_all(work: &[u32], t: Plan, p: PointNumber) -> V3
+    requires { ⌜ Ready (now work) t × (p .0 < t .spots) ⌝ }
+    ensures { λ r. ⌜ r ≡ sumAll (v3 zeroF zeroF zeroF) (hitsAt (now (work .entry)) t (p .0)) ⌝ }
+{
+    let from = start_at(work, t, p);
+    let to = end_at(work, t, p);
+    sum_faces(work, t, &work[from..to])
 }
 
 // The unit vector of that sum, for each number.

@@ -1,13 +1,15 @@
 // FORMAT 10.2, generate_normals: the unit vector of the sum of facing normals at a corner by the crease rule, and the corner's normal.
 ghost use mathlib.Core.Path.{_≡_};
-ghost use Prim.Native.Nat.{_+_, _≤_, _<_};
+ghost use mathlib.Core.List.{map};
+ghost use Prim.Native.Nat.{ℕ, _+_, _≤_, _<_};
 ghost use lib.ListN.{length};
 ghost use Rattle.math.specs.Vector.{unitOf};
+ghost use Rattle.lists.specs.Loops.{All};
 ghost use Rattle.mesh.specs.Normals.{nearBy, sumNear, creaseSum, orElse};
-ghost use Rattle.normals.specs.Rows.{at3, unitAt, normalIn, hitsAt, Ready, Summed};
+ghost use Rattle.normals.specs.Rows.{at3, unitAt, normalIn, hitOf, hitsAt, Ready, Summed};
 ghost use Rattle.normals.specs.Written.{normalAt};
-use crate::chains::first_at;
-use crate::chains::next_at;
+use crate::groups::end_at;
+use crate::groups::start_at;
 use crate::vectors::load;
 use crate::vectors::load_unit;
 use block::CreaseRule;
@@ -15,7 +17,7 @@ use block::PointNumber;
 use math::Unit;
 use math::V3;
 use tables::Plan;
-use tables::owner_of;
+use tables::wide;
 
 // s, and the normal of face g where g is another face than own and its unit vector is near to u.
 fn near_step(work: &[u32], row: usize, g: usize, own: usize, u: V3, bound: f32, s: V3) -> V3
@@ -39,19 +41,29 @@ fn near_step(work: &[u32], row: usize, g: usize, own: usize, u: V3, bound: f32, 
     }
 }
 
-// The face's own normal, and then those at p that are near to its unit vector u.
+// The normal of face own, and then those of some faces that are near to its unit vector u.
+fn near_faces(work: &[u32], t: Plan, faces: &[u32], own: usize, u: V3, bound: f32) -> V3
+    requires { ⌜ Ready (now work) t × All (λ (g : ℕ). g < t .faces) (now faces) × (own < t .faces) ⌝ }
+    ensures { λ r. ⌜ r ≡ sumNear bound own u (normalIn (now (work .entry)) t own) (map (hitOf (now (work .entry)) t) (now (faces .entry))) ⌝ }
+{
+    let mut s = load(work, t.rows + 7 * own);
+    let mut k = 0;
+    while k < faces.len() {
+        let g = wide(faces[k]);
+        s = near_step(work, t.rows + 7 * g, g, own, u, bound, s);
+        k += 1;
+    }
+    s
+}
+
+// The faces at p, once for each use.
 fn sum_near(work: &[u32], t: Plan, p: PointNumber, own: usize, u: V3, bound: f32) -> V3
     requires { ⌜ Ready (now work) t × (p .0 < t .spots) × (own < t .faces) ⌝ }
     ensures { λ r. ⌜ r ≡ sumNear bound own u (normalIn (now (work .entry)) t own) (hitsAt (now (work .entry)) t (p .0)) ⌝ }
 {
-    let mut s = load(work, t.rows + 7 * own);
-    let mut x = first_at(work, t, p);
-    while x.0 < t.count {
-        let g = owner_of(work, t, x);
-        s = near_step(work, t.rows + 7 * g, g, own, u, bound, s);
-        x = next_at(work, t, x);
-    }
-    s
+    let from = start_at(work, t, p);
+    let to = end_at(work, t, p);
+    near_faces(work, t, &work[from..to], own, u, bound)
 }
 
 // The unit vector at a corner of face own that is gathered under p. Only the cosine rule takes a root here: that of the own face stands in its row, and

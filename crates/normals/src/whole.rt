@@ -4,22 +4,22 @@ ghost use lib.ListN.{length};
 ghost use Rattle.tables.specs.Soups.{Sound};
 ghost use Rattle.normals.specs.Rows.{Made};
 ghost use Rattle.normals.specs.Written.{Generated};
-use crate::chains::chain;
 use crate::facing::owners;
 use crate::facing::rows;
+use crate::groups::group;
 use crate::outputs::corner_normals;
 use crate::points::share;
 use block::CreaseRule;
 use tables::Plan;
 
-// The owners, the rows and the chains.
+// The owners, the rows and the faces by number.
 fn prepare(work: &mut [u32], t: Plan, ccw: bool)
     requires { ⌜ Sound (now work) t ⌝ }
     ensures { λ _. ⌜ Made (now (work .entry)) (now (work .exit)) t ccw ⌝ }
 {
     owners(work, t);
     rows(work, t, ccw);
-    chain(work, t.gathers, t.count, t.heads, t.spots, t.nexts);
+    group(work, t);
 }
 
 // The normals of the corners of the soup that the tables hold. The tables below the owners are kept; the words above are used.
