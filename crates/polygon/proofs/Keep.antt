@@ -80,6 +80,38 @@ unfolding hits
 hits-gone left x g j =
     sym (and-over (eqb j x) (eqb (getD left j 0) 1) (g j)) ∙ ap (λ (b : Bool). b && g j) (sym (flag-gone left x j))
 
+-- a corner that does not pass the test may as well be gone
+hits-without : (g : ℕ → Bool) (x : ℕ) → g x ≡ false → (left : List ℕ) → hits (set left x 0) g ≡ hits left g
+unfolding hits
+hits-without g x q left = fun-ext (λ j. sym (hits-gone left x g j) ∙ ap (λ (b : Bool). eqb (getD left j 0) 1 && b) (go j (eqb j x) refl))
+  where
+    go : (j : ℕ) (b : Bool) → eqb j x ≡ b → (not b && g j) ≡ g j
+    go j true e = sym (ap g (eqb-true j x e) ∙ q)
+    go j false e = refl
+
+module _ (P : ℕ → Pt) (a b c : ℕ) where
+  own-a : blocks P a b c a ≡ false
+  unfolding blocks
+  own-a = rw (eq-eqb a a refl)
+
+  own-b : blocks P a b c b ≡ false
+  unfolding blocks
+  own-b = rw (eq-eqb b b refl) (and-no (not (eqb b a)))
+
+  own-c : blocks P a b c c ≡ false
+  unfolding blocks
+  own-c = rw (eq-eqb c c refl, and-no (not (eqb c b))) (and-no (not (eqb c a)))
+
+  -- the three corners of a triangle are in no one's way, whether they are left or not
+  pub hits-others : (left : List ℕ) → hits (set (set (set left a 0) b 0) c 0) (blocks P a b c) ≡ hits left (blocks P a b c)
+  hits-others left =
+      hits-without (blocks P a b c) c own-c (set (set left a 0) b 0) ∙ hits-without (blocks P a b c) b own-b (set left a 0) ∙ hits-without (blocks P a b c) a own-a left
+
+pub put-back : (l : List ℕ) (k : ℕ) → set (set l k 0) k (getD l k 0) ≡ l
+put-back [] k = refl
+put-back (x ∷ l) zero = refl
+put-back (x ∷ l) (suc k) = ap (λ (r : List ℕ). x ∷ r) (put-back l k)
+
 hits-less : (left : List ℕ) (x : ℕ) (g : ℕ → Bool) (j : ℕ) → hits left g j ≡ false → hits (set left x 0) g j ≡ false
 unfolding hits
 hits-less left x g j e = ap (λ (b : Bool). b && g j) (flag-gone left x j) ∙ and-drop (not (eqb j x)) (eqb (getD left j 0) 1) (g j) e

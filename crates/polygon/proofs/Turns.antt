@@ -5,7 +5,7 @@ use mathlib.Core.List.{List, [], _∷_, _++_}
 use Prim.Native.Nat.{ℕ, _+_, _-_, _*_, _%_, _≤_, _<_}
 use native.Mathlib.Nat.{mod-lt}
 use native.Mathlib.Omega.{arith}
-use lib.ListN.{length, getD, set, take, drop, List·getD-append}
+use lib.ListN.{length, getD, set, take, drop, length-set, List·getD-append}
 use lib.Seq.{sets, length-take-le, take-take, take-append-le, getD-take, getD-drop, drop-drop, take-at, drop-at}
 use lib.Ieee.{le}
 use borrow.Rule.Slice.PartMut.{putMid, midOf, mid-len}
@@ -15,7 +15,7 @@ use Rattle.lists.proofs.Searches.{first-from}
 use Rattle.polygon.specs.Ears.{Pt, Tri, triple, +0, cross2, blocks, isEar, corner, remove, order}
 use Rattle.polygon.specs.Memo.{hits, Tells, Once, earOf, Known, Sound, Clear, Full, flags, kept, Searched, Gone, Held, Fresh}
 use Rattle.polygon.proofs.Tables.{length-flags, flag-at, stored, as-was}
-use Rattle.polygon.proofs.Keep.{known-bent, known-hit, sound-store, sound-start, sound-gone, tells-start, tells-gone, once-start, once-remove, ear-bent, ear-blocked, ear-found, ear-free, ear-is, go-on}
+use Rattle.polygon.proofs.Keep.{known-bent, known-hit, sound-store, sound-start, sound-gone, tells-start, tells-gone, once-start, once-remove, hits-others, put-back, ear-bent, ear-blocked, ear-found, ear-free, ear-is, go-on}
 
 -- ---- the corners at a place of the order, read from the slice
 
@@ -38,6 +38,22 @@ module _ (w : List ℕ) (m i : ℕ) (fits : m ≤ length w) (h : i < m) where
 
 -- ---- a search
 
+-- three flags put out, and put back after the search
+module _ (P : ℕ → Pt) (a b c : ℕ) (l l₁ l₂ l₃ : List ℕ) (e₁ : l₁ ≡ set l a 0) (e₂ : l₂ ≡ set l₁ b 0) (e₃ : l₃ ≡ set l₂ c 0) where
+  pub others-found : (from k : ℕ) → k ≡ first (hits l₃ (blocks P a b c)) (length l₃ - from) from → k ≡ first (hits l (blocks P a b c)) (length l - from) from
+  others-found from k q =
+      let e : l₃ ≡ set (set (set l a 0) b 0) c 0 = e₃ ∙ ap (λ (m : List ℕ). set m c 0) (e₂ ∙ ap (λ (m : List ℕ). set m b 0) e₁) in
+      let n : length l₃ ≡ length l = ap length e₃ ∙ length-set l₂ c 0 ∙ ap length e₂ ∙ length-set l₁ b 0 ∙ ap length e₁ ∙ length-set l a 0 in
+      q ∙ ap (λ (m : ℕ). first (hits l₃ (blocks P a b c)) (m - from) from) n
+      ∙ ap (λ (m : List ℕ). first (hits m (blocks P a b c)) (length l - from) from) e
+      ∙ ap (λ (f : ℕ → Bool). first f (length l - from) from) (hits-others P a b c l)
+
+  pub others-back : (x y z : ℕ) (l₄ l₅ l₆ : List ℕ) → x ≡ getD l a 0 → y ≡ getD l₁ b 0 → z ≡ getD l₂ c 0 → l₄ ≡ set l₃ c z → l₅ ≡ set l₄ b y → l₆ ≡ set l₅ a x → l₆ ≡ l
+  others-back x y z l₄ l₅ l₆ ex ey ez e₄ e₅ e₆ =
+      let r₂ : l₄ ≡ l₂ = e₄ ∙ (λ i. set (e₃ i) c (ez i)) ∙ put-back l₂ c in
+      let r₁ : l₅ ≡ l₁ = e₅ ∙ (λ i. set ((r₂ ∙ e₂) i) b (ey i)) ∙ put-back l₁ b in
+      e₆ ∙ (λ i. set ((r₁ ∙ e₁) i) a (ex i)) ∙ put-back l a
+
 module _ (P : ℕ → Pt) (n : ℕ) (w : List ℕ) (room : n * 2 ≤ length w) (s : Sound P (flags n w) (kept n w)) (a b c : ℕ) where
   -- what the code finds from `from` on is the first of all
   hit-first : (from k : ℕ) (F : List ℕ) → from ≤ n → Clear P (flags n w) a b c from → F ≡ flags n w → k ≡ first (hits F (blocks P a b c)) (length F - from) from
@@ -48,18 +64,18 @@ module _ (P : ℕ → Pt) (n : ℕ) (w : List ℕ) (room : n * 2 ≤ length w) (
 
   module _ (from k : ℕ) (F : List ℕ) (y : le (cross2 (P a) (P b) (P c)) +0 ≡ false) (h : from ≤ n) (cl : Clear P (flags n w) a b c from) (e : F ≡ flags n w)
       (q : k ≡ first (hits F (blocks P a b c)) (length F - from) from) where
-    pub search-free : n ≤ k → (true ≡ earOf P (flags n w) a b c) × Searched P n w w
-    search-free g =
+    pub search-free : (w₁ : List ℕ) → w₁ ≡ w → n ≤ k → (true ≡ earOf P (flags n w) a b c) × Searched P n w w₁
+    search-free w₁ u g =
         let l : length (flags n w) ≡ n = length-flags n w room in
-        (ear-free P (flags n w) a b c k y (hit-first from k F h cl e q) (omega arith), as-was n w P s)
+        (ear-free P (flags n w) a b c k y (hit-first from k F h cl e q) (omega arith), subst (Searched P n w) (sym u) (as-was n w P s))
 
-    pub search-hit : (w′ : List ℕ) → k < n → w′ ≡ sets w (n + (n + b * 3)) (a ∷ c ∷ (k + 2) ∷ []) → (false ≡ earOf P (flags n w) a b c) × Searched P n w w′
-    search-hit w′ g r =
+    pub search-hit : (w₁ w′ : List ℕ) → w₁ ≡ w → k < n → w′ ≡ sets w₁ (n + (n + b * 3)) (a ∷ c ∷ (k + 2) ∷ []) → (false ≡ earOf P (flags n w) a b c) × Searched P n w w′
+    search-hit w₁ w′ u g r =
         let l : length (flags n w) ≡ n = length-flags n w room in
         let f = hit-first from k F h cl e q in
         let d : k < length (flags n w) = omega arith in (
           ear-found P (flags n w) a b c k y f d,
-          stored n w (a ∷ c ∷ (k + 2) ∷ []) w′ (b * 3) r P (sound-store P (flags n w) (kept n w) a b c (k + 2) s (known-hit P (flags n w) a b c k y f d)),
+          stored n w (a ∷ c ∷ (k + 2) ∷ []) w′ (b * 3) (r ∙ ap (λ (l : List ℕ). sets l (n + (n + b * 3)) (a ∷ c ∷ (k + 2) ∷ [])) u) P (sound-store P (flags n w) (kept n w) a b c (k + 2) s (known-hit P (flags n w) a b c k y f d)),
         )
 
   -- what is known decides

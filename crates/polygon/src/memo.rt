@@ -159,13 +159,13 @@ fn count_near(p: &[f32], left: &[u32], from: usize, to: usize, a: Dot, b: Dot, c
     s
 }
 
-// As `scan`, of a block of corners: it is passed as a whole where none of them is near. The last block may be short, and counting it would gain nothing.
+// As `scan`, of a block of corners: it is passed as a whole where none of them is near. The last block may be short: then some before it are counted again.
 fn scan_block(p: &[f32], left: &[u32], from: usize, to: usize, a: Dot, b: Dot, c: Dot) -> usize
-    requires { ⌜ (from ≤ to) × (to ≤ 2 ^ 31) × (to ≤ length (now left)) × (to * 2 ≤ length (now p)) ⌝ }
+    requires { ⌜ (from ≤ to) × (to ≤ from + 16) × (to ≤ 2 ^ 31) × (to ≤ length (now left)) × (to * 2 ≤ length (now p)) ⌝ }
     ensures { λ r. ⌜ r ≡ first (hits (now (left .entry)) (λ j. inWay (dotOf (xy (now (p .entry))) j) a b c)) (to - from) from ⌝ }
 {
-    if to - from == BLOCK {
-        if count_near(p, left, from, to, a, b, c) == 0 {
+    if BLOCK <= to {
+        if count_near(p, left, to - BLOCK, to, a, b, c) == 0 {
             return to;
         }
     }
@@ -175,7 +175,7 @@ fn scan_block(p: &[f32], left: &[u32], from: usize, to: usize, a: Dot, b: Dot, c
 // The end of the block from k on, of n corners.
 fn block_end(k: usize, n: usize) -> usize
     requires { ⌜ k < n ⌝ }
-    ensures { λ r. ⌜ (k < r) × (r ≤ n) ⌝ }
+    ensures { λ r. ⌜ (k < r) × (r ≤ n) × (r ≤ k + 16) ⌝ }
 {
     if n - k < BLOCK {
         return n;
@@ -214,6 +214,30 @@ fn next_hit(p: &[f32], left: &[u32], from: usize, a: u32, b: u32, c: u32) -> usi
     scan_blocks(p, left, from, da, db, dc)
 }
 
+// A word becomes 0. What it was.
+fn take_word(s: &mut [u32], k: usize) -> u32
+    ensures { λ r. ⌜ (r ≡ getD (now (s .entry)) k 0) × (now (s .exit) ≡ set (now (s .entry)) k 0) ⌝ }
+{
+    let x = get(s, k);
+    put(s, k, 0);
+    x
+}
+
+// As `next_hit`, with the flags of a, b and c put out meanwhile: they are always near, and would keep their blocks from being passed.
+fn other_hit(p: &[f32], left: &mut [u32], from: usize, a: u32, b: u32, c: u32) -> usize
+    requires { ⌜ length (now left) ≤ 2 ^ 31 ⌝ }
+    ensures { λ r. ⌜ (r ≡ first (hits (now (left .entry)) (blocks (xy (now (p .entry))) a b c)) (length (now (left .entry)) - from) from) × (now (left .exit) ≡ now (left .entry)) ⌝ }
+{
+    let x = take_word(left, a as usize);
+    let y = take_word(left, b as usize);
+    let z = take_word(left, c as usize);
+    let k = next_hit(p, left, from, a, b, c);
+    put(left, c as usize, z);
+    put(left, b as usize, y);
+    put(left, a as usize, x);
+    k
+}
+
 fn look(w: &[u32], n: usize, a: u32, b: u32, c: u32) -> u32
     requires { ⌜ n ≤ 2 ^ 31 ⌝ }
     ensures { λ r. ⌜ r ≡ entry (kept n (now (w .entry))) a b c ⌝ }
@@ -245,7 +269,7 @@ fn search(p: &[f32], w: &mut [u32], n: usize, a: u32, b: u32, c: u32, from: usiz
     ensures { λ r. ⌜ (r ≡ earOf (xy (now (p .entry))) (flags n (now (w .entry))) a b c) × Searched (xy (now (p .entry))) n (now (w .entry)) (now (w .exit)) ⌝ }
 {
     let e = n * 2;
-    let k = next_hit(p, &w[n..e], from, a, b, c);
+    let k = other_hit(p, &mut w[n..e], from, a, b, c);
     if n <= k {
         return true;
     }

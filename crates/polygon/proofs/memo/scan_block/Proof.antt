@@ -4,9 +4,6 @@ use Rattle.polygon.specs.Memo.{xy, dotOf, inWay, hits}
 use Rattle.polygon.proofs.memo.scan_block.Statement.{statement}
 use Rattle.polygon.proofs.memo.scan_block.Tie as tie
 
-sub-if1 : tie.Need-sub-if1
-sub-if1 c = omega arith
-
 count-near-requires : tie.Need-count-near-requires
 count-near-requires c κs = omega arith
 
@@ -14,7 +11,7 @@ returns : tie.Need-returns
 returns c =
     let c5 = c .before .before .before .before .before in
     none-to (hits (c5 .args .left .now) (λ i. inWay (dotOf (xy (c5 .args .p .now)) i) (c5 .args .a) (c5 .args .b) (c5 .args .c))) (c5 .args .from) (c5 .args .to) (omega arith)
-    (c .before .count-near .ensures (c .if2 .taken))
+    (λ j l b. c .before .count-near .ensures (c .if2 .taken) j (omega arith) b)
 
 scan-requires : tie.Need-scan-requires
 scan-requires c κs = omega arith
@@ -23,4 +20,4 @@ returns-2 : tie.Need-returns-2
 returns-2 c = c .scan .ensures
 
 pub scan-block-spec : {M : Type 1} → statement M
-scan-block-spec = tie.close (tie.spec sub-if1 count-near-requires returns scan-requires returns-2)
+scan-block-spec = tie.close (tie.spec count-near-requires returns scan-requires returns-2)
