@@ -10,7 +10,7 @@ use lib.Dec.{eqb}
 use lib.ListN.{length, getD, set, take, drop, length-drop}
 use lib.Seq.{sets, drop-cons, length-take-le}
 use Rattle.lists.specs.Lists.{sameWords}
-use Rattle.lists.proofs.Lists.{T-true, sameWords-self}
+use Rattle.lists.proofs.Lists.{T-true, sameWords-self, drop-three}
 use Rattle.lists.specs.Parts.{seg}
 
 pub length-seg : (l : List ℕ) (a n : ℕ) → a + n ≤ length l → length (seg l a n) ≡ n
@@ -28,6 +28,10 @@ seg-next l a n t h k =
     let e : n - t ≡ suc (n - (t + 1)) = omega arith in
     let f : a + (t + 1) ≡ suc (a + t) = omega arith in
     rw (e, f, drop-cons l (a + t) 0 (omega arith))
+
+pub seg-three : (l : List ℕ) (a : ℕ) → a + 3 ≤ length l → seg l a 3 ≡ getD l a 0 ∷ getD l (a + 1) 0 ∷ getD l (a + 2) 0 ∷ []
+unfolding seg
+seg-three l a h = ap (take 3) (drop-three 0 l a h)
 
 -- ---- the loops
 

@@ -1,5 +1,6 @@
 // Parts of slices of words, compared and copied.
 ghost use mathlib.Core.Path.{_≡_};
+ghost use mathlib.Core.List.{[], _∷_};
 ghost use Prim.Native.Nat.{_+_, _*_, _≤_};
 ghost use lib.ListN.{length};
 ghost use lib.Seq.{sets};
@@ -29,11 +30,24 @@ pub fn same_row(key: &[u32], j: usize, l: &[u32], w: usize, i: usize) -> bool
     same_words(key, j, l, w * i, w)
 }
 
-// The n words of src from j, into dst from at.
+fn put_three(dst: &mut [u32], at: usize, x: u32, y: u32, z: u32)
+    requires { ⌜ at + 3 ≤ length (now dst) ⌝ }
+    ensures { λ _. ⌜ now (dst .exit) ≡ sets (now (dst .entry)) at (x ∷ y ∷ z ∷ []) ⌝ }
+{
+    dst[at] = x;
+    dst[at + 1] = y;
+    dst[at + 2] = z;
+}
+
+// The n words of src from j, into dst from at. Three, as positions and normals have, go one by one: the loop becomes a call that copies.
 pub fn put_words(dst: &mut [u32], at: usize, src: &[u32], j: usize, n: usize)
     requires { ⌜ (at + n ≤ length (now dst)) × (j + n ≤ length (now src)) ⌝ }
     ensures { λ _. ⌜ now (dst .exit) ≡ sets (now (dst .entry)) at (seg (now (src .entry)) j n) ⌝ }
 {
+    if n == 3 {
+        put_three(dst, at, src[j], src[j + 1], src[j + 2]);
+        return;
+    }
     let mut t = 0;
     while t < n {
         dst[at + t] = src[j + t];

@@ -5,7 +5,7 @@ use Prim.Native.Nat.{_+_, _-_, _≤_}
 use lib.ListN.{length, length-set}
 use lib.Seq.{sets}
 use Rattle.lists.specs.Parts.{seg}
-use Rattle.vertices.proofs.Words.{put-next, put-end}
+use Rattle.vertices.proofs.Words.{seg-three, put-next, put-end}
 use borrow.Author.Needs.{needs}
 use Rattle.vertices.proofs.parts.put_words.Statement.{statement}
 use Rattle.vertices.proofs.parts.put_words.Tie as tie
@@ -15,6 +15,39 @@ Inv-loop dst₀ at src j n t₀ dst t = (t ≤ n) × (sets dst₀ at (seg src j 
 
 abbrev μ-loop : tie.MeasureT-loop
 μ-loop dst₀ at src j n t₀ dst t = n - t
+
+mul-put-three : tie.Need-mul-put-three Inv-loop μ-loop
+mul-put-three c = search needs
+
+shared-slice-read-put-three : tie.Need-shared-slice-read-put-three Inv-loop μ-loop
+shared-slice-read-put-three c = omega (arith, c .before .before .before .before .before .pre .1, c .before .before .if1 .taken)
+
+add-put-three : tie.Need-add-put-three Inv-loop μ-loop
+add-put-three c = omega (arith, c .before .before .before .before .before .pre .1, c .before .before .if1 .taken)
+
+mul-put-three-2 : tie.Need-mul-put-three-2 Inv-loop μ-loop
+mul-put-three-2 c = search needs
+
+shared-slice-read-put-three-2 : tie.Need-shared-slice-read-put-three-2 Inv-loop μ-loop
+shared-slice-read-put-three-2 c = omega (arith, c .before .before .before .before .before .before .pre .1, c .before .before .before .if1 .taken)
+
+add-put-three-2 : tie.Need-add-put-three-2 Inv-loop μ-loop
+add-put-three-2 c = omega (arith, c .before .before .before .before .before .before .pre .1, c .before .before .before .if1 .taken)
+
+mul-put-three-3 : tie.Need-mul-put-three-3 Inv-loop μ-loop
+mul-put-three-3 c = search needs
+
+shared-slice-read-put-three-3 : tie.Need-shared-slice-read-put-three-3 Inv-loop μ-loop
+shared-slice-read-put-three-3 c = omega (arith, c .before .before .before .before .before .before .before .pre .1, c .before .before .before .before .if1 .taken)
+
+put-three-requires : tie.Need-put-three-requires Inv-loop μ-loop
+put-three-requires c κs = omega (arith, c .before .before .before .before .before .before .before .pre .0, c .before .before .before .before .if1 .taken)
+
+same-length : tie.Need-same-length Inv-loop μ-loop
+same-length c = search needs
+
+returns : tie.Need-returns Inv-loop μ-loop
+returns c = rw (c .before .before .before .before .before .before .before .if1 .taken, seg-three (c .before .before .before .before .before .before .before .before .before .before .args .src .now) (c .before .before .before .before .before .before .before .before .before .before .args .j) (omega (arith, c .before .before .before .before .before .before .before .before .before .before .pre .1, c .before .before .before .before .before .before .before .if1 .taken))) (c .before .before .put-three .ensures)
 
 loop-holds : tie.Need-loop-holds Inv-loop μ-loop
 loop-holds c = (omega arith, rw (add-zero, sub-zero, add-zero), refl)
@@ -44,13 +77,13 @@ loop-less : tie.Need-loop-less Inv-loop μ-loop
 loop-less c = search needs
 
 loop-again : tie.Need-loop-again Inv-loop μ-loop
-loop-again c = (search needs, c .before .before .loop .inv .1 ∙ put-next _ _ _ _ _ _ (c .before .before .before .pre .1) (c .before .loop-test .taken), simp length-set (c .before .before .loop .inv .2))
+loop-again c = (search needs, c .before .before .loop .inv .1 ∙ put-next _ _ _ _ _ _ (c .before .before .before .before .before .before .pre .1) (c .before .loop-test .taken), simp length-set (c .before .before .loop .inv .2))
 
-same-length : tie.Need-same-length Inv-loop μ-loop
-same-length c = search needs
+same-length-2 : tie.Need-same-length-2 Inv-loop μ-loop
+same-length-2 c = search needs
 
-returns : tie.Need-returns Inv-loop μ-loop
-returns c = sym (c .before .loop .inv .1 ∙ put-end _ _ _ _ _ _ (c .before .before .pre .1) (c .loop-test .left))
+returns-2 : tie.Need-returns-2 Inv-loop μ-loop
+returns-2 c = sym (c .before .loop .inv .1 ∙ put-end _ _ _ _ _ _ (c .before .before .before .before .before .pre .1) (c .loop-test .left))
 
 pub put-words-spec : {M : Type 1} → statement M
 put-words-spec =
@@ -58,6 +91,17 @@ put-words-spec =
     (tie.spec
     Inv-loop
     μ-loop
+    mul-put-three
+    shared-slice-read-put-three
+    add-put-three
+    mul-put-three-2
+    shared-slice-read-put-three-2
+    add-put-three-2
+    mul-put-three-3
+    shared-slice-read-put-three-3
+    put-three-requires
+    same-length
+    returns
     loop-holds
     add-dst
     mul-dst
@@ -68,5 +112,5 @@ put-words-spec =
     add-t
     loop-less
     loop-again
-    same-length
-    returns)
+    same-length-2
+    returns-2)
