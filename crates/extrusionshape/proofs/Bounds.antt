@@ -80,6 +80,9 @@ module _ {bs : List ℕ} {h : Header} {s : Settings} {o : Slices} {w f : ℕ} (A
       pub planned-at : Planned h cap w t
       planned-at = let G = roomy in subst (λ (c : ℕ). Planned h c w t) (sym e) (planned given (G .room) (G .gathers) (G .spots) (G .count) (G .faces))
 
-      -- the normals, and behind them the parameters
+      -- the normals, and behind them the parameters, or the rows of the faces
       pub arcs-room : 3 * t .count + (sectionCount h + spineCount h) ≤ f
       arcs-room = omega (arith, roomy .floats, planned-at .spots, sum-product (spineCount h) (sectionCount h) (given .spine) (given .section))
+
+      pub rows-room : 3 * t .count + 6 * t .faces ≤ f
+      rows-room = omega (arith, roomy .floats)

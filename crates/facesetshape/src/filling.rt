@@ -35,7 +35,7 @@ pub fn put_tables<'a>(
 )
     requires { ⌜ (now coord ≡ listBytes (now block) h 1) × Planned (listedPoints h) (now coord) (length (now work)) t
         × (3 * listedPoints h ≤ length (listBytes (now block) h 0) / 4) × (take (3 * listedPoints h) (entries (listBytes (now block) h 0)) ≡ entries (listBytes (now block) h 0))
-        × (3 * t .count ≤ length (now floats)) ⌝ }
+        × (3 * t .count + 6 * t .faces ≤ length (now floats)) ⌝ }
     ensures { λ _. ⌜ Tabled (entries (listBytes (now (block .entry)) h 0)) (faceSetListings (now (block .entry)) h) shared (s .crease) t (now (work .entry)) (now (work .exit)) (now (floats .entry)) (now (floats .exit)) ⌝ }
 {
     let counts = h.counts;

@@ -45,7 +45,7 @@ pub fn put_tables(
     work: &mut [u32],
     floats: &mut [f32],
 )
-    requires { ⌜ Planned h (length (now work)) t × (xDimension h * zDimension h ≤ length (entries (listBytes (now block) h 3))) × (3 * t .count ≤ length (now floats)) ⌝ }
+    requires { ⌜ Planned h (length (now work)) t × (xDimension h * zDimension h ≤ length (entries (listBytes (now block) h 3))) × (3 * t .count + 6 * t .faces ≤ length (now floats)) ⌝ }
     ensures { λ _. ⌜ Tabled (gridPoints h s (entries (listBytes (now (block .entry)) h 3))) (gridListings (xDimension h) (zDimension h)) shared (s .crease) t
         (now (work .entry)) (now (work .exit)) (now (floats .entry)) (now (floats .exit)) ⌝ }
 {

@@ -22,18 +22,14 @@ module _ (b : Float) (own : ℕ) (u : V3) (g : ℕ) (s n : V3) where
   unfolding nearBy
   near-own k e = rw (eq-eqb g own e)
 
-  pub near-none : (k k′ : Unit) → (g ≡ own → ⊥) → k′ ≡ k → k′ ≡ Nothing → s ≡ nearBy b own u g k s n
-  unfolding nearBy isNear
-  near-none k k′ d e f = rw (ne-eqb g own d, ← e, f)
-
-  module _ (k k′ : Unit) (v : V3) (d : g ≡ own → ⊥) (e : k′ ≡ k) (f : k′ ≡ Of v) (c : Float) (h : c ≡ vdot u v) where
-    pub near-far : lt b c ≡ false → s ≡ nearBy b own u g k s n
+  module _ (v v′ : V3) (d : g ≡ own → ⊥) (e : v′ ≡ v) (c : Float) (h : c ≡ vdot u v′) where
+    pub near-far : lt b c ≡ false → s ≡ nearBy b own u g (Of v) s n
     unfolding nearBy isNear
-    near-far q = rw (ne-eqb g own d, ← e, f, ← h, q)
+    near-far q = rw (ne-eqb g own d, ← e, ← h, q)
 
-    pub near-yes : (m r : V3) → lt b c ≡ true → m ≡ n → r ≡ vadd s m → r ≡ nearBy b own u g k s n
+    pub near-yes : (m r : V3) → lt b c ≡ true → m ≡ n → r ≡ vadd s m → r ≡ nearBy b own u g (Of v) s n
     unfolding nearBy isNear
-    near-yes m r q i j = rw (ne-eqb g own d, ← e, f, ← h, q) (j ∙ ap (vadd s) i)
+    near-yes m r q i j = rw (ne-eqb g own d, ← e, ← h, q) (j ∙ ap (vadd s) i)
 
 module _ (own : ℕ) (n : V3) (hs : List Hit) (rule : CreaseRule) (r : Unit) where
   pub unit-own : rule ≡ Own → r ≡ unitOf n → r ≡ unitOf (creaseSum rule own n hs)

@@ -6,8 +6,8 @@ use Prim.Native.Nat.{ℕ, zero, suc, _+_, _*_, _<_}
 use native.Mathlib.Nat.{zero-add}
 use native.Mathlib.Omega.{arith}
 use lib.Dec.{eqb}
-use lib.ListN.{length, getD, take, drop, length-map, length-drop}
-use lib.Seq.{take-all, getD-take, getD-drop, take-append-le, drop-append-le}
+use lib.ListN.{length, getD, take, drop, length-map}
+use lib.Seq.{take-all, getD-take, getD-drop}
 use lib.Ieee.{Float, binary32, toBits}
 use Rattle.bits.specs.declared.Words3.{Words3}
 use Rattle.math.specs.declared.vector.V3.{V3}
@@ -19,7 +19,7 @@ use Rattle.lists.specs.Lists.{joinN, total, flat}
 use Rattle.mesh.specs.Words.{words3, no3, bits}
 use Rattle.mesh.specs.Soup.{Corner, noCorner, Face, Frame, pointsOf}
 use Rattle.mesh.specs.Normals.{outline, facing, Hit, hits, hitsOf, incident, creaseSum, orElse, generated, cornerNormal}
-use Rattle.lists.proofs.Lists.{All-of, All-of-map, getD-map-lt, length-joinN, piece, length-flat, in-flat}
+use Rattle.lists.proofs.Lists.{All-of, All-of-map, getD-map-lt, length-joinN, piece, length-flat, in-flat, middle}
 use Rattle.tables.specs.declared.layout.Plan.{Plan}
 use Rattle.tables.specs.Soups.{startIn, bare, pointsIn, soupIn, frameIn, Holds}
 use Rattle.tables.proofs.Stays.{start-le}
@@ -131,9 +131,9 @@ module _ {w : List ℕ} {t : Plan} {F : Frame} {fs : List Face} (H : Holds w t F
       ∙ ap (λ (r : List Words3). getD r i no3) p ∙ getD-map-lt (cornerNormal F fs j f) f i no3 noCorner b
 
   -- the words of the three floats of corner i of face j
-  pub corner-written : (w′ : List ℕ) (d e : List Float) → Generated w w′ t (F .ccw) (F .crease) d e → F .supplied ≡ false → (j i : ℕ) → j < t .faces → i < length (getD fs j [])
+  pub corner-written : (w′ : List ℕ) (e : List Float) → Generated w w′ t (F .ccw) (F .crease) e → F .supplied ≡ false → (j i : ℕ) → j < t .faces → i < length (getD fs j [])
       → map (toBits binary32) (take 3 (drop (3 * (startIn w t j + i)) e)) ≡ words3 (cornerNormal F fs j (getD fs j []) (getD (getD fs j []) i noCorner))
-  corner-written w′ d e G s j i h b =
+  corner-written w′ e G s j i h b =
       let L = joinN (λ (num : ℕ) (f : Face). map (cornerNormal F fs num f) f) 0 fs in
       let N = normalsOf (frameIn w t (F .ccw) (F .crease)) (soupIn w t) in
       let c = startIn w t j + i in
@@ -144,7 +144,6 @@ module _ {w : List ℕ} {t : Plan} {F : Frame} {fs : List Face} (H : Holds w t F
       let x : length (spread N) ≡ 3 * t .count
       = sym (length-map (spread N) (toBits binary32)) ∙ ap length o ∙ length-flat 3 (map words3 L) (All-of-map _ words3 L (All-of (λ (v : Words3). refl) L)) ∙ ap (λ (k : ℕ). 3 * k) (length-map L words3 ∙ n) in
       let y : take 3 (drop (3 * c) e) ≡ take 3 (drop (3 * c) (spread N))
-      = ap (λ (k : List Float). take 3 (drop (3 * c) k)) (G .normals) ∙ ap (take 3) (drop-append-le (3 * c) (spread N) (drop (3 * t .count) d) (omega arith))
-      ∙ take-append-le 3 (drop (3 * c) (spread N)) (drop (3 * t .count) d) (let z = length-drop (3 * c) (spread N) in omega arith) in
+      = middle (3 * c) 3 (3 * t .count) e (spread N) (omega arith) (G .normals ∙ sym (take-all (3 * t .count) (spread N) (omega arith))) in
       ap (map (toBits binary32)) y ∙ map-part (toBits binary32) 3 (3 * c) (spread N) ∙ ap (λ (k : List ℕ). take 3 (drop (3 * c) k)) o
       ∙ in-flat words3 3 (λ (v : Words3). refl) L c no3 (omega arith) ∙ ap words3 (normal-at j i h b)

@@ -5,6 +5,7 @@ mod Walks
 mod Arms
 pub mod Fills
 mod Making
+mod Floats
 mod Summing
 mod Soups
 pub mod Joined

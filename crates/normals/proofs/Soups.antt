@@ -17,7 +17,7 @@ use Rattle.mesh.specs.Soup.{Corner, Frame}
 use Rattle.mesh.specs.Normals.{outline, facing, Hit, hits, hitsOf, incident, creaseSum, orElse, generated}
 use Rattle.tables.specs.declared.layout.Plan.{Plan}
 use Rattle.tables.specs.Layout.{Room}
-use Rattle.tables.specs.Soups.{gatherIn, startIn, cornerIn, faceIn, soupIn, frameIn, Sound}
+use Rattle.tables.specs.Soups.{gatherIn, ownerIn, startIn, cornerIn, faceIn, soupIn, frameIn, Sound}
 use Rattle.lists.proofs.Keep.{length-seg, seg-at}
 use Rattle.tables.proofs.Stays.{start-le, face-kept, soup-kept}
 use Rattle.tables.proofs.Joins.{join-soup}
@@ -125,3 +125,8 @@ generated-all {v} {w} {t} {ccw} S M rule =
     let E : (g : ℕ) → g < t .faces → normalIn w t g ≡ facing F (faceIn w t g)
     = λ g h. M .normals g h ∙ facing-rule v t ccw rule g ∙ ap (facing F) (sym (face-kept (M .kept) t (omega arith) S g h)) in
     corners-all (M .sound) (M .owned) F E ∙ ap (normalsOf F) (soup-kept (M .kept) t (omega arith) S)
+
+-- corner c, by its face and its number, as the code reads them
+pub corner-is : (w : List ℕ) (t : Plan) (rule : CreaseRule) (c own p : ℕ) {v : V3} → v ≡ normalAt w t rule own p → own ≡ ownerIn w t c → p ≡ gatherIn w t c → v ≡ cornerNormalIn w t rule (0 + c)
+unfolding cornerNormalIn
+corner-is w t rule c own p e eo ep = let z : 0 + c ≡ c = omega arith in e ∙ (λ i. normalAt w t rule (eo i) (ep i)) ∙ ap (λ (k : ℕ). normalAt w t rule (ownerIn w t k) (gatherIn w t k)) (sym z)

@@ -21,7 +21,7 @@ use Rattle.tables.specs.Soups.{ownerIn}
 use Rattle.lists.proofs.Keep.{kept-then, kept-seg}
 use Rattle.tables.proofs.Stays.{start-le, gather-kept, owner-kept, start-kept, sound-kept}
 use Rattle.normals.specs.Group.{uses, usesFrom, gathersIn}
-use Rattle.normals.specs.Rows.{unitAt, normalIn, hitIn, hitsFrom, hitsAt, Ready, everyAt, sumIn, isEvery, SummedTo, Summed, Made}
+use Rattle.normals.specs.Rows.{unitAt, normalIn, hitIn, hitsFrom, hitsAt, Ready, everyAt, sumIn, isEvery, isBound, SummedTo, Mirrored, Summed, Made}
 use Rattle.normals.proofs.Counting.{grouped-by, grouped-kept}
 use Rattle.normals.proofs.Walks.{length-gathers}
 use Rattle.normals.proofs.Making.{unit-kept, normal-kept, unitIn-kept, last-or}
@@ -85,28 +85,33 @@ module _ {v w : List ℕ} {t : Plan} (K : Kept (t .sums) v w) (R : Ready v t) wh
     },
   )
 
-  pub sums-all : (n : ℕ) (rule : CreaseRule) → t .spots ≤ n → SummedTo v w t n → Summed w t rule
-  sums-all n rule h S = record { every = λ e. record { at = λ p b. S .at p (omega arith) ∙ ap (λ (hs : List Hit). unitOf (sumAll (v3 zeroF zeroF zeroF) hs)) (sym (hits-same p)) } }
+  pub sums-all : (n : ℕ) (rule : CreaseRule) (d : List Float) → rule ≡ Every → t .spots ≤ n → SummedTo v w t n → Summed w t rule d
+  unfolding isBound
+  sums-all n rule d e h S = record {
+    every = λ f. record { at = λ p b. S .at p (omega arith) ∙ ap (λ (hs : List Hit). unitOf (sumAll (v3 zeroF zeroF zeroF) hs)) (sym (hits-same p)) };
+    bound = λ f. absurd (true≢false (sym f ∙ ap isBound e));
+  }
 
 pub sums-none : {v w : List ℕ} {t : Plan} → SummedTo v w t 0
 sums-none = record { at = λ p b. absurd (not-suc-le-zero b) }
 
--- the other rules ask for none
-none-asked : {w : List ℕ} {t : Plan} (rule : CreaseRule) → isEvery rule ≡ false → Summed w t rule
-none-asked rule e = record { every = λ f. absurd (true≢false (sym f ∙ e)) }
+-- what the other rules ask for
+pub sums-own : {w : List ℕ} {t : Plan} {d : List Float} (rule : CreaseRule) → rule ≡ Own → Summed w t rule d
+unfolding isEvery isBound
+sums-own rule e = record { every = λ f. absurd (true≢false (sym f ∙ ap isEvery e)); bound = λ f. absurd (true≢false (sym f ∙ ap isBound e)) }
 
-pub sums-own : {w : List ℕ} {t : Plan} (rule : CreaseRule) → rule ≡ Own → Summed w t rule
+pub sums-bound : {w : List ℕ} {t : Plan} {d : List Float} (rule : CreaseRule) (b : Float) → rule ≡ Bound b → Mirrored d w t (t .faces) → Summed w t rule d
 unfolding isEvery
-sums-own rule e = none-asked rule (ap isEvery e)
+sums-bound rule b e M = record { every = λ f. absurd (true≢false (sym f ∙ ap isEvery e)); bound = λ f. M }
 
-pub sums-bound : {w : List ℕ} {t : Plan} (rule : CreaseRule) (b : Float) → rule ≡ Bound b → Summed w t rule
-unfolding isEvery
-sums-bound rule b e = none-asked rule (ap isEvery e)
-
--- a sum read
-pub sums-read : {w : List ℕ} {t : Plan} (rule : CreaseRule) (p : ℕ) (k : Unit) → Summed w t rule → rule ≡ Every → p < t .spots → k ≡ sumIn w t p → k ≡ everyAt w t p
+-- a sum read, and the rows
+pub sums-read : {w : List ℕ} {t : Plan} {d : List Float} (rule : CreaseRule) (p : ℕ) (k : Unit) → Summed w t rule d → rule ≡ Every → p < t .spots → k ≡ sumIn w t p → k ≡ everyAt w t p
 unfolding isEvery
 sums-read rule p k S e h q = q ∙ S .every (ap isEvery e) .at p h
+
+pub rows-read : {w : List ℕ} {t : Plan} {d : List Float} (rule : CreaseRule) (b : Float) → Summed w t rule d → rule ≡ Bound b → Mirrored d w t (t .faces)
+unfolding isBound
+rows-read rule b S e = S .bound (ap isBound e)
 
 -- owners, rows and faces by number are still made
 pub made-kept : {u v w : List ℕ} {t : Plan} {ccw : Bool} → Made u v t ccw → Kept (t .sums) v w → Made u w t ccw

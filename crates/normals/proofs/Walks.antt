@@ -8,16 +8,18 @@ use lib.ListN.{length, getD, take, drop, drop-of-length-le}
 use lib.Ieee.{Float}
 use Rattle.math.specs.declared.vector.V3.{V3}
 use Rattle.math.specs.declared.vector.Unit.{Unit}
+use Rattle.math.specs.declared.vector.Unit.the-variants.{Of}
 use Rattle.math.specs.Vector.{vadd, unitOf}
-use Rattle.mesh.specs.Normals.{Hit, sumAll, sumNear, nearBy, nearStep}
+use Rattle.mesh.specs.Normals.{Hit, sumAll, sumNear, nearBy, nearStep, orElse}
 use Rattle.tables.specs.declared.layout.Plan.{Plan}
 use Rattle.tables.specs.Soups.{gatherIn, ownerIn}
 use Rattle.lists.specs.Loops.{All}
 use Rattle.lists.specs.Parts.{seg}
 use Rattle.lists.proofs.Keep.{length-seg, seg-at, part-seg}
-use Rattle.lists.proofs.Lists.{drop-next, All-map, All-of-map}
+use Rattle.lists.proofs.Lists.{drop-next, All-map, All-getD, All-of-map}
 use Rattle.normals.specs.Group.{below, usesFrom, gathersIn}
-use Rattle.normals.specs.Rows.{normalIn, unitIn, hitOf, hitIn, hitsFrom, hitsAt, Ready}
+use Rattle.normals.specs.Rows.{normalIn, unitIn, hitOf, hitIn, hitsFrom, hitsAt, Ready, noUnit}
+use Rattle.normals.proofs.Floats.{near-mirrored}
 use Rattle.normals.proofs.Counting.{below-le, below-next, below-all, uses-within}
 
 map-map : {A B C : Type 0} (g : B → C) (f : A → B) (l : List A) → map g (map f l) ≡ map (λ (x : A). g (f x)) l
@@ -69,6 +71,9 @@ module _ {w : List ℕ} {t : Plan} (R : Ready w t) where
     unfolding hitsFrom hitIn
     faces-hit = ap (map (hitOf w t)) faces-are ∙ map-map (hitOf w t) (ownerIn w t) (usesFrom (gathersIn w t) p 0)
 
+pub face-low : (n : ℕ) (us : List ℕ) → All (λ (g : ℕ). g < n) us → (k g : ℕ) → k < length us → g ≡ getD us k 0 → g < n
+face-low n us a k g h e = rw e (All-getD (λ (g : ℕ). g < n) us a 0 k h)
+
 -- a sum f over faces, from s₀ on: s and the faces from k on give the same
 pub record Left (f : V3 → List Hit → V3) (w : List ℕ) (t : Plan) (s₀ : V3) (us : List ℕ) (s : V3) (k : ℕ) : Type 0 where
   pub sum : f s (map (hitOf w t) (drop k us)) ≡ f s₀ (map (hitOf w t) us)
@@ -91,12 +96,13 @@ module _ (w : List ℕ) (t : Plan) (x g : ℕ) (s r : V3) (e : g ≡ x) where
   unfolding sumAll
   all-one n en er hs = ap (λ (k : V3). sumAll k hs) (sym (er ∙ ap (vadd s) (en ∙ ap (normalIn w t) e)))
 
-  pub near-one : (b : Float) (own : ℕ) (u : V3) → Ready w t → g < t .faces → r ≡ nearBy b own u g (unitIn w t g) s (normalIn w t g)
+  pub near-one : (b : Float) (own : ℕ) (u v n : V3) → Ready w t → g < t .faces → v ≡ orElse (unitIn w t g) noUnit → n ≡ normalIn w t g → r ≡ nearBy b own u g (Of v) s n
       → (hs : List Hit) → sumNear b own u s (hitOf w t x ∷ hs) ≡ sumNear b own u r hs
   unfolding sumNear nearStep
-  near-one b own u R i er hs =
+  near-one b own u v n R i ev en er hs =
       ap (λ (k : V3). sumNear b own u k hs)
-      (sym (er ∙ ap (λ (k : Unit). nearBy b own u g k s (normalIn w t g)) (R .units g i)
+      (sym (er ∙ (λ z. nearBy b own u g (Of (ev z)) s (en z)) ∙ near-mirrored b own u g (unitIn w t g) s (normalIn w t g)
+      ∙ ap (λ (k : Unit). nearBy b own u g k s (normalIn w t g)) (R .units g i)
       ∙ ap (λ (k : ℕ). nearBy b own u k (unitOf (normalIn w t k)) s (normalIn w t k)) e))
 
 pub all-none : (s : V3) → sumAll s [] ≡ s

@@ -5,14 +5,14 @@ use mathlib.Core.List.{List, map}
 use Prim.Native.Nat.{ℕ, suc, _+_, _*_, _≤_, _<_}
 use lib.Dec.{eqb}
 use lib.ListN.{length, getD}
-use lib.Ieee.{binary32, ofBits}
+use lib.Ieee.{Float, nan, binary32, ofBits}
 use Rattle.math.specs.declared.vector.V3.{V3}
 use Rattle.math.specs.declared.vector.Unit.{Unit}
 use Rattle.math.specs.declared.vector.Unit.the-variants.{Of, Nothing}
 use Rattle.math.specs.Vector.{v3, zeroF, unitOf}
 use Rattle.block.specs.declared.crease.CreaseRule.{CreaseRule}
 use Rattle.block.specs.declared.crease.CreaseRule.the-variants.{Own, Every, Bound}
-use Rattle.mesh.specs.Normals.{facing, Hit, sumAll}
+use Rattle.mesh.specs.Normals.{facing, Hit, sumAll, orElse}
 use Rattle.tables.specs.declared.layout.Plan.{Plan}
 use Rattle.lists.specs.Parts.{Kept}
 use Rattle.tables.specs.Layout.{Room}
@@ -83,15 +83,35 @@ sumIn w t p = unitAt w (t .sums + 4 * p)
 pub record SummedTo (v w : List ℕ) (t : Plan) (n : ℕ) : Type 0 where
   pub at : (p : ℕ) → p < n → sumIn w t p ≡ everyAt v t p
 
--- FORMAT 10.2: whether a corner's sum is that of every face
+-- three floats from a, as a vector
+unfoldable pub vector : List Float → ℕ → V3
+vector d a = v3 (getD d a nan) (getD d (a + 1) nan) (getD d (a + 2) nan)
+
+-- in place of no unit vector: no cosine with it is above a bound
+abbrev pub noUnit : V3
+noUnit = v3 nan nan nan
+
+-- the first n rows once more, six floats each, behind three a corner
+pub record Mirrored (d : List Float) (w : List ℕ) (t : Plan) (n : ℕ) : Type 0 where
+  pub room : 3 * t .count + 6 * t .faces ≤ length d
+  pub normal : (g : ℕ) → g < n → vector d (3 * t .count + 6 * g) ≡ normalIn w t g
+  pub unit : (g : ℕ) → g < n → vector d (3 * t .count + 6 * g + 3) ≡ orElse (unitIn w t g) noUnit
+
+-- FORMAT 10.2: whether a corner's sum is that of every face; whether it is that of the faces within the crease angle
 unfoldable pub isEvery : CreaseRule → Bool
 isEvery Own = false
 isEvery Every = true
 isEvery (Bound b) = false
 
--- of all numbers, where the rule asks for it
-pub record Summed (w : List ℕ) (t : Plan) (rule : CreaseRule) : Type 0 where
+unfoldable pub isBound : CreaseRule → Bool
+isBound Own = false
+isBound Every = false
+isBound (Bound b) = true
+
+-- what the rule asks for is there: the sums of all numbers, or the rows as floats
+pub record Summed (w : List ℕ) (t : Plan) (rule : CreaseRule) (d : List Float) : Type 0 where
   pub every : isEvery rule ≡ true → SummedTo w w t (t .spots)
+  pub bound : isBound rule ≡ true → Mirrored d w t (t .faces)
 
 -- owners, rows and faces by number are made, from the words v
 pub record Made (v w : List ℕ) (t : Plan) (ccw : Bool) : Type 0 where

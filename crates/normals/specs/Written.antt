@@ -1,10 +1,10 @@
 -- FORMAT 10.2, generate_normals: a corner's normal by the tables, and what is written: the generated normals of the soup, three floats a corner.
 use mathlib.Core.Path.{_≡_}
 use mathlib.Core.Bool.{Bool}
-use mathlib.Core.List.{List, [], _∷_, _++_, map}
+use mathlib.Core.List.{List, [], _∷_, map}
 use Prim.Native.Nat.{ℕ, _*_}
 use lib.Ieee.{Float}
-use lib.ListN.{drop}
+use lib.ListN.{take}
 use Rattle.math.specs.declared.vector.V3.{V3}
 use Rattle.math.specs.declared.vector.Unit.{Unit}
 use Rattle.math.specs.Vector.{yAxis, unitOf}
@@ -40,8 +40,8 @@ faceNormals F fs num f = map (λ (c : Corner). generated F fs num f (c .gather))
 unfoldable pub normalsOf : Frame → List Face → List V3
 normalsOf F fs = joinN (faceNormals F fs) 0 fs
 
--- w and d are the words and floats before, w′ and e after: the tables below the owners are as they were, and the floats are the generated normals of the soup
--- that the tables hold, and beyond them what they were
-pub record Generated (w w′ : List ℕ) (t : Plan) (ccw : Bool) (rule : CreaseRule) (d e : List Float) : Type 0 where
+-- w are the words before, w′ and e the words and floats after: the tables below the owners are as they were, and in front of the floats are the generated
+-- normals of the soup that the tables hold
+pub record Generated (w w′ : List ℕ) (t : Plan) (ccw : Bool) (rule : CreaseRule) (e : List Float) : Type 0 where
   pub kept : Kept (t .owners) w w′
-  pub normals : e ≡ spread (normalsOf (frameIn w t ccw rule) (soupIn w t)) ++ drop (3 * t .count) d
+  pub normals : take (3 * t .count) e ≡ spread (normalsOf (frameIn w t ccw rule) (soupIn w t))

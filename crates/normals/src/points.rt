@@ -1,8 +1,8 @@
-// FORMAT 10.2, generate_normals: what the corners that are gathered under one number share. The sum of every face depends on the number alone, so it is
+// FORMAT 10.2, generate_normals: what a crease rule asks for before the corners' normals. The sum of every face depends on the number alone, so it is
 // made once for each: made for each corner, it would be a square where many corners meet.
 ghost use mathlib.Core.Path.{_≡_};
 ghost use mathlib.Core.List.{map};
-ghost use Prim.Native.Nat.{ℕ, _<_};
+ghost use Prim.Native.Nat.{ℕ, _+_, _*_, _≤_, _<_};
 ghost use lib.ListN.{length};
 ghost use Rattle.math.specs.Vector.{v3, zeroF};
 ghost use Rattle.lists.specs.Loops.{All};
@@ -12,6 +12,7 @@ ghost use Rattle.tables.specs.Layout.{Room};
 ghost use Rattle.normals.specs.Rows.{hitOf, hitsAt, Ready, SummedTo, Summed};
 use crate::groups::end_at;
 use crate::groups::start_at;
+use crate::mirror::mirror;
 use crate::vectors::load;
 use crate::vectors::store_unit;
 use block::CreaseRule;
@@ -62,10 +63,10 @@ fn sum_points(work: &mut [u32], t: Plan)
     }
 }
 
-// What the rule needs of each number: nothing but for the rule of every face.
-pub fn share(work: &mut [u32], t: Plan, rule: CreaseRule)
-    requires { ⌜ Ready (now work) t ⌝ }
-    ensures { λ _. ⌜ Kept (t .sums) (now (work .entry)) (now (work .exit)) × Summed (now (work .exit)) t rule ⌝ }
+// What the rule asks for: nothing for that of the own face, the sum of each number for that of every face, the rows as f32 for the cosine rule.
+pub fn share(work: &mut [u32], t: Plan, rule: CreaseRule, floats: &mut [f32])
+    requires { ⌜ Ready (now work) t × (3 * t .count + 6 * t .faces ≤ length (now floats)) ⌝ }
+    ensures { λ _. ⌜ Kept (t .sums) (now (work .entry)) (now (work .exit)) × Summed (now (work .exit)) t rule (now (floats .exit)) ⌝ }
 {
     match rule {
         CreaseRule::Own => {
@@ -76,6 +77,7 @@ pub fn share(work: &mut [u32], t: Plan, rule: CreaseRule)
             return;
         }
         CreaseRule::Bound(_b) => {
+            mirror(work, t, floats);
             return;
         }
     }

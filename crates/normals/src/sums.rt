@@ -3,15 +3,18 @@ ghost use mathlib.Core.Path.{_≡_};
 ghost use mathlib.Core.List.{map};
 ghost use Prim.Native.Nat.{ℕ, _+_, _≤_, _<_};
 ghost use lib.ListN.{length};
+ghost use Rattle.math.specs.declared.vector.Unit.the-variants.{Of};
 ghost use Rattle.math.specs.Vector.{unitOf};
 ghost use Rattle.lists.specs.Loops.{All};
-ghost use Rattle.mesh.specs.Normals.{nearBy, sumNear, creaseSum, orElse};
-ghost use Rattle.normals.specs.Rows.{at3, unitAt, normalIn, hitOf, hitsAt, Ready, Summed};
+ghost use Rattle.mesh.specs.Normals.{nearBy, sumNear, creaseSum};
+ghost use Rattle.normals.specs.Rows.{vector, normalIn, hitOf, hitsAt, Ready, Mirrored, Summed};
 ghost use Rattle.normals.specs.Written.{normalAt};
 use crate::groups::end_at;
 use crate::groups::start_at;
+use crate::vectors::get3;
 use crate::vectors::load;
 use crate::vectors::load_unit;
+use crate::vectors::or_else;
 use block::CreaseRule;
 use block::PointNumber;
 use math::Unit;
@@ -19,57 +22,73 @@ use math::V3;
 use tables::Plan;
 use tables::wide;
 
-// s, and the normal of face g where g is another face than own and its unit vector is near to u.
-fn near_step(work: &[u32], row: usize, g: usize, own: usize, u: V3, bound: f32, s: V3) -> V3
-    requires { ⌜ row + 7 ≤ length (now work) ⌝ }
-    ensures { λ r. ⌜ r ≡ nearBy bound own u g (unitAt (now (work .entry)) (row + 3)) s (at3 (now (work .entry)) row) ⌝ }
+// s, and the normal of face g where g is another face than own and its unit vector is near to u. A face without one has a row that is near to nothing.
+fn near_step(floats: &[f32], row: usize, g: usize, own: usize, u: V3, bound: f32, s: V3) -> V3
+    requires { ⌜ row + 6 ≤ length (now floats) ⌝ }
+    ensures { λ r. ⌜ r ≡ nearBy bound own u g (Of (vector (now (floats .entry)) (row + 3))) s (vector (now (floats .entry)) row) ⌝ }
 {
     if g == own {
         return s;
     }
-    let k = load_unit(work, row + 3);
-    match k {
-        Unit::Of(v) => {
-            if math::dot(u, v) > bound {
-                return math::add(s, load(work, row));
-            }
-            return s;
-        }
-        Unit::Nothing => {
-            return s;
-        }
+    let v = get3(floats, row + 3);
+    if math::dot(u, v) > bound {
+        return math::add(s, get3(floats, row));
     }
+    s
 }
 
 // The normal of face own, and then those of some faces that are near to its unit vector u.
-fn near_faces(work: &[u32], t: Plan, faces: &[u32], own: usize, u: V3, bound: f32) -> V3
-    requires { ⌜ Ready (now work) t × All (λ (g : ℕ). g < t .faces) (now faces) × (own < t .faces) ⌝ }
+fn near_faces(
+    work: &[u32],
+    t: Plan,
+    floats: &[f32],
+    faces: &[u32],
+    own: usize,
+    u: V3,
+    bound: f32,
+) -> V3
+    requires { ⌜ Ready (now work) t × All (λ (g : ℕ). g < t .faces) (now faces) × (own < t .faces) × Mirrored (now floats) (now work) t (t .faces) ⌝ }
     ensures { λ r. ⌜ r ≡ sumNear bound own u (normalIn (now (work .entry)) t own) (map (hitOf (now (work .entry)) t) (now (faces .entry))) ⌝ }
 {
     let mut s = load(work, t.rows + 7 * own);
     let mut k = 0;
     while k < faces.len() {
         let g = wide(faces[k]);
-        s = near_step(work, t.rows + 7 * g, g, own, u, bound, s);
+        s = near_step(floats, 3 * t.count + 6 * g, g, own, u, bound, s);
         k += 1;
     }
     s
 }
 
 // The faces at p, once for each use.
-fn sum_near(work: &[u32], t: Plan, p: PointNumber, own: usize, u: V3, bound: f32) -> V3
-    requires { ⌜ Ready (now work) t × (p .0 < t .spots) × (own < t .faces) ⌝ }
+fn sum_near(
+    work: &[u32],
+    t: Plan,
+    floats: &[f32],
+    p: PointNumber,
+    own: usize,
+    u: V3,
+    bound: f32,
+) -> V3
+    requires { ⌜ Ready (now work) t × (p .0 < t .spots) × (own < t .faces) × Mirrored (now floats) (now work) t (t .faces) ⌝ }
     ensures { λ r. ⌜ r ≡ sumNear bound own u (normalIn (now (work .entry)) t own) (hitsAt (now (work .entry)) t (p .0)) ⌝ }
 {
     let from = start_at(work, t, p);
     let to = end_at(work, t, p);
-    near_faces(work, t, &work[from..to], own, u, bound)
+    near_faces(work, t, floats, &work[from..to], own, u, bound)
 }
 
 // The unit vector at a corner of face own that is gathered under p. Only the cosine rule takes a root here: that of the own face stands in its row, and
 // that of every face is made once for each number.
-fn crease_unit(work: &[u32], t: Plan, p: PointNumber, own: usize, rule: CreaseRule) -> Unit
-    requires { ⌜ Ready (now work) t × Summed (now work) t rule × (p .0 < t .spots) × (own < t .faces) ⌝ }
+fn crease_unit(
+    work: &[u32],
+    t: Plan,
+    floats: &[f32],
+    p: PointNumber,
+    own: usize,
+    rule: CreaseRule,
+) -> Unit
+    requires { ⌜ Ready (now work) t × Summed (now work) t rule (now floats) × (p .0 < t .spots) × (own < t .faces) ⌝ }
     ensures { λ r. ⌜ r ≡ unitOf (creaseSum rule own (normalIn (now (work .entry)) t own) (hitsAt (now (work .entry)) t (p .0))) ⌝ }
 {
     let row = t.rows + 7 * own + 3;
@@ -84,7 +103,7 @@ fn crease_unit(work: &[u32], t: Plan, p: PointNumber, own: usize, rule: CreaseRu
             let k = load_unit(work, row);
             match k {
                 Unit::Of(u) => {
-                    return math::normalize(sum_near(work, t, p, own, u, b));
+                    return math::normalize(sum_near(work, t, floats, p, own, u, b));
                 }
                 Unit::Nothing => {
                     return Unit::Nothing;
@@ -94,25 +113,19 @@ fn crease_unit(work: &[u32], t: Plan, p: PointNumber, own: usize, rule: CreaseRu
     }
 }
 
-fn or_else(k: Unit, other: V3) -> V3
-    ensures { λ r. ⌜ r ≡ orElse k other ⌝ }
-{
-    match k {
-        Unit::Of(u) => {
-            return u;
-        }
-        Unit::Nothing => {
-            return other;
-        }
-    }
-}
-
 // The normal of a corner of face own that is gathered under p.
-pub fn corner_normal(work: &[u32], t: Plan, p: PointNumber, own: usize, rule: CreaseRule) -> V3
-    requires { ⌜ Ready (now work) t × Summed (now work) t rule × (p .0 < t .spots) × (own < t .faces) ⌝ }
+pub fn corner_normal(
+    work: &[u32],
+    t: Plan,
+    floats: &[f32],
+    p: PointNumber,
+    own: usize,
+    rule: CreaseRule,
+) -> V3
+    requires { ⌜ Ready (now work) t × Summed (now work) t rule (now floats) × (p .0 < t .spots) × (own < t .faces) ⌝ }
     ensures { λ r. ⌜ r ≡ normalAt (now (work .entry)) t rule own (p .0) ⌝ }
 {
-    let k = crease_unit(work, t, p, own, rule);
+    let k = crease_unit(work, t, floats, p, own, rule);
     let row = t.rows + 7 * own + 3;
     let up = V3 {
         x: 0.0,

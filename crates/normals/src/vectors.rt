@@ -3,7 +3,8 @@ ghost use mathlib.Core.Path.{_≡_};
 ghost use Prim.Native.Nat.{_+_, _≤_};
 ghost use lib.ListN.{length};
 ghost use Rattle.lists.specs.Parts.{Kept, spliced};
-ghost use Rattle.normals.specs.Rows.{at3, unitAt};
+ghost use Rattle.mesh.specs.Normals.{orElse};
+ghost use Rattle.normals.specs.Rows.{at3, unitAt, vector};
 ghost use Rattle.normals.specs.Written.{three};
 use math::Unit;
 use math::V3;
@@ -64,4 +65,28 @@ pub fn put3(part: &mut [f32], a: usize, v: V3)
     part[a] = v.x;
     part[a + 1] = v.y;
     part[a + 2] = v.z;
+}
+
+pub fn get3(part: &[f32], a: usize) -> V3
+    requires { ⌜ a + 3 ≤ length (now part) ⌝ }
+    ensures { λ r. ⌜ r ≡ vector (now (part .entry)) a ⌝ }
+{
+    V3 {
+        x: part[a],
+        y: part[a + 1],
+        z: part[a + 2],
+    }
+}
+
+pub fn or_else(k: Unit, other: V3) -> V3
+    ensures { λ r. ⌜ r ≡ orElse k other ⌝ }
+{
+    match k {
+        Unit::Of(u) => {
+            return u;
+        }
+        Unit::Nothing => {
+            return other;
+        }
+    }
 }

@@ -1,5 +1,5 @@
 // FORMAT 10.1, 10.2: all of it.
-ghost use Prim.Native.Nat.{_*_, _≤_};
+ghost use Prim.Native.Nat.{_+_, _*_, _≤_};
 ghost use lib.ListN.{length};
 ghost use Rattle.tables.specs.Soups.{Sound};
 ghost use Rattle.normals.specs.Rows.{Made};
@@ -22,12 +22,13 @@ fn prepare(work: &mut [u32], t: Plan, ccw: bool)
     group(work, t);
 }
 
-// The normals of the corners of the soup that the tables hold. The tables below the owners are kept; the words above are used.
+// The normals of the corners of the soup that the tables hold. The tables below the owners are kept; the words above and the floats behind
+// the normals are used.
 pub fn generate(work: &mut [u32], t: Plan, ccw: bool, rule: CreaseRule, floats: &mut [f32])
-    requires { ⌜ Sound (now work) t × (3 * t .count ≤ length (now floats)) ⌝ }
-    ensures { λ _. ⌜ Generated (now (work .entry)) (now (work .exit)) t ccw rule (now (floats .entry)) (now (floats .exit)) ⌝ }
+    requires { ⌜ Sound (now work) t × (3 * t .count + 6 * t .faces ≤ length (now floats)) ⌝ }
+    ensures { λ _. ⌜ Generated (now (work .entry)) (now (work .exit)) t ccw rule (now (floats .exit)) ⌝ }
 {
     prepare(work, t, ccw);
-    share(work, t, rule);
+    share(work, t, rule, floats);
     corner_normals(work, t, rule, floats);
 }

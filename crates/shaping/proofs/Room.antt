@@ -33,7 +33,7 @@ plan-ample {z} {n} {t} {w} {f} N p c a b =
       low = plan-low (z .points) (z .corners) n p c h;
       scratch = omega (arith, a, h);
       textures = omega (arith, a, h);
-      floats = omega (arith, b);
+      floats = omega (arith, b, h);
     })
 
 pub ample : {k : Kind} {bs : List ℕ} {h : Header} {s : Settings} {o : Slices} {w f : ℕ} {z : Sizes} {n : ℕ} {t : Plan} → Asked k bs h s o w f → sizesOf bs h ≡ z → Counted z n t → Ample z n t w f

@@ -1,12 +1,11 @@
 -- What is left in the tables of a shape.
-use mathlib.Core.Path.{_≡_, ap, _∙_}
-use mathlib.Core.Bool.{Bool, true, false}
+use mathlib.Core.Path.{_≡_, _∙_}
+use mathlib.Core.Bool.{Bool}
 use mathlib.Core.List.{List}
 use Prim.Native.Nat.{ℕ, _+_, _*_, _≤_, _<_}
 use native.Mathlib.Omega.{arith}
 use native.Mathlib.Nat.{le-refl}
-use lib.ListN.{length, drop, length-append, length-drop}
-use lib.Seq.{drop-at}
+use lib.ListN.{length, take}
 use lib.Ieee.{Float}
 use Rattle.bits.specs.declared.Words2.{Words2}
 use Rattle.block.specs.declared.crease.CreaseRule.{CreaseRule}
@@ -15,15 +14,14 @@ use Rattle.lists.proofs.Keep.{kept-all, kept-seg}
 use Rattle.lists.proofs.Splices.{put-gives}
 use Rattle.tables.specs.declared.layout.Plan.{Plan}
 use Rattle.tables.specs.Layout.{Room}
-use Rattle.tables.specs.Soups.{ownerIn, pointsIn, soupIn, frameIn}
+use Rattle.tables.specs.Soups.{ownerIn, pointsIn}
 use Rattle.tables.specs.Listed.{Use, Listing, Beside, Listed}
 use Rattle.tables.proofs.Besides.{beside-kept}
 use Rattle.tables.proofs.Stays.{points-kept}
 use Rattle.tables.proofs.Listings.{listed-sound, listed-kept}
-use Rattle.normals.specs.Written.{spread, normalsOf}
 use Rattle.corners.specs.Laid.{tablesAt, tablesOf}
 use Rattle.corners.specs.Corner.{textureAt}
-use Rattle.soups.specs.Prepared.{normalsAfter, Prepared}
+use Rattle.soups.specs.Prepared.{Prepared}
 use Rattle.build.specs.declared.shared.Shared.{Shared}
 use Rattle.texture.specs.Textured.{textureWords}
 use Rattle.texture.proofs.Filled as filled
@@ -35,21 +33,10 @@ pub points-put : {points : List ℕ} {t : Plan} (w : List ℕ) {w₁ : List ℕ}
 unfolding pointsIn
 points-put {points} w R p n = let G = put-gives points p n (omega (arith, R)) in (G .0 .len, G .1)
 
--- the floats behind the normals are as they were
-pub floats-behind : {supplied ccw : Bool} {rule : CreaseRule} {t : Plan} {v w : List ℕ} {d e : List Float} → Prepared supplied ccw rule t v w d e → length e ≡ length d → 3 * t .count ≤ length d
-    → drop (3 * t .count) e ≡ drop (3 * t .count) d
-unfolding normalsAfter
-floats-behind {supplied} {ccw} {rule} {t} {v} {d = d} {e = e} P l r = go supplied (P .normals)
-  where
-    k : ℕ
-    k = 3 * t .count
-
-    go : (b : Bool) → e ≡ normalsAfter b v t ccw rule d → drop k e ≡ drop k d
-    go true q = ap (drop k) q
-    go false q =
-        let S : List Float = spread (normalsOf (frameIn v t ccw rule) (soupIn v t)) in
-        let n : length S ≡ k = omega (arith, ap length q, length-append S (drop k d), length-drop k d) in
-        ap (drop k) q ∙ drop-at S (drop k d) k n
+-- floats behind the normals may change
+pub prepared-front : {supplied ccw : Bool} {rule : CreaseRule} {t : Plan} {v w : List ℕ} {d e e′ : List Float} → Prepared supplied ccw rule t v w d e → take (3 * t .count) e′ ≡ take (3 * t .count) e
+    → Prepared supplied ccw rule t v w d e′
+prepared-front P q = record { kept = P .kept; numbers = P .numbers; normals = q ∙ P .normals }
 
 module _ {points : List ℕ} {ls : List Listing} {sh : Shared} {rule : CreaseRule} {t : Plan} where
   -- the points, then the faces, then what is made ready

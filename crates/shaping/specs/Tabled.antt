@@ -24,7 +24,7 @@ pub record Counted (z : Sizes) (n : ℕ) (t : Plan) : Type 0 where
   pub indices : 3 * (z .corners - 2 * n) ≤ z .indices
 
 -- FORMAT 4: w words and f floats have room for all tables of such a plan: for those that list faces, for those of the corners while vertices are made, for
--- five words a corner from the places on; and for three floats a corner and one a point
+-- five words a corner from the places on; and for three floats a corner, and six a face or one a point behind them
 pub record Ample (z : Sizes) (n : ℕ) (t : Plan) (w f : ℕ) : Type 0 where
   pub spots : t .spots ≡ z .points
   pub count : t .count ≡ z .corners
@@ -35,7 +35,7 @@ pub record Ample (z : Sizes) (n : ℕ) (t : Plan) (w f : ℕ) : Type 0 where
   pub low : t .owners ≤ 2 ^ 32
   pub scratch : t .places + t .count * 5 ≤ w
   pub textures : t .owners + t .count + 2 * t .count ≤ w
-  pub floats : 3 * t .count + t .spots ≤ f
+  pub floats : 3 * t .count + 6 * t .faces + t .spots ≤ f
 
 -- FORMAT 6.2, 8: from the words w and the floats d, w′ and e are left: the words `listed` held the points ps and the faces ls, and were then made ready, the
 -- floats being `before`

@@ -20,7 +20,7 @@ module _ (supplied : Bool) (w : List ℕ) (t : Plan) (ccw : Bool) (rule : Crease
   unfolding normalsAfter
   as-supplied e = rw e refl
 
-  pub as-generated : supplied ≡ false → (w′ : List ℕ) (e : List Float) → Generated w w′ t ccw rule d e → Normals supplied w t ccw rule d e
+  pub as-generated : supplied ≡ false → (w′ : List ℕ) (e : List Float) → Generated w w′ t ccw rule e → Normals supplied w t ccw rule d e
   unfolding normalsAfter
   as-generated q w′ e G = rw q (G .normals)
 

@@ -56,9 +56,9 @@ module _ {L : Lent} {a : Attributes} {widths : Widths} {v w w′ : List ℕ} {t 
       → generatedAt (L .floats) (startIn w′ t j + i) ≡ cornerNormal F (facesWith corner ls) j (getD (facesWith corner ls) j []) (getD (getD (facesWith corner ls) j []) i noCorner)
   unfolding normalsAfter generatedAt
   normals e j i h b =
-      let G : Generated v w t (F .ccw) (F .crease) d (L .floats) = record { kept = P .kept; normals = rw e at (P .normals) } in
+      let G : Generated v w t (F .ccw) (F .crease) (L .floats) = record { kept = P .kept; normals = rw e at (P .normals) } in
       ap (λ (k : ℕ). generatedAt (L .floats) (k + i)) (start j (omega arith))
-      ∙ three-at (L .floats) (3 * (startIn v t j + i)) _ (corner-written (listed-holds E corner (R .point) full F points) w d (L .floats) G (supplied ∙ e) j i h b)
+      ∙ three-at (L .floats) (3 * (startIn v t j + i)) _ (corner-written (listed-holds E corner (R .point) full F points) w (L .floats) G (supplied ∙ e) j i h b)
 
   -- FORMAT 8: the tables hold the soup
   pub handed-holds : Holds w′ t F (facesWith corner ls)

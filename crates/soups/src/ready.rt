@@ -1,6 +1,6 @@
 // The tables of a soup, made ready for its vertices.
 ghost use mathlib.Core.Path.{_≡_};
-ghost use Prim.Native.Nat.{_*_, _≤_};
+ghost use Prim.Native.Nat.{_+_, _*_, _≤_};
 ghost use lib.ListN.{length};
 ghost use Rattle.lists.specs.Parts.{Kept};
 ghost use Rattle.tables.specs.Soups.{numberIn, Sound, Spread};
@@ -33,7 +33,7 @@ fn generate_where(
     rule: CreaseRule,
     floats: &mut [f32],
 )
-    requires { ⌜ Sound (now work) t × (3 * t .count ≤ length (now floats)) ⌝ }
+    requires { ⌜ Sound (now work) t × (3 * t .count + 6 * t .faces ≤ length (now floats)) ⌝ }
     ensures { λ _. ⌜ Kept (t .owners) (now (work .entry)) (now (work .exit)) × Normals supplied (now (work .entry)) t ccw rule (now (floats .entry)) (now (floats .exit)) ⌝ }
 {
     if supplied {
@@ -42,7 +42,7 @@ fn generate_where(
     normals::generate(work, t, ccw, rule, floats);
 }
 
-// The normals and the face numbers of all corners. The tables below the owners are kept.
+// The normals and the face numbers of all corners. The tables below the owners are kept; the floats behind the normals are used.
 pub fn prepare(
     work: &mut [u32],
     t: Plan,
@@ -51,7 +51,7 @@ pub fn prepare(
     rule: CreaseRule,
     floats: &mut [f32],
 )
-    requires { ⌜ Sound (now work) t × (3 * t .count ≤ length (now floats)) ⌝ }
+    requires { ⌜ Sound (now work) t × (3 * t .count + 6 * t .faces ≤ length (now floats)) ⌝ }
     ensures { λ _. ⌜ Prepared supplied ccw rule t (now (work .entry)) (now (work .exit)) (now (floats .entry)) (now (floats .exit)) ⌝ }
 {
     generate_where(work, t, supplied, ccw, rule, floats);

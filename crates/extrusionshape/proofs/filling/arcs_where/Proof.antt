@@ -1,6 +1,8 @@
-use mathlib.Core.Path.{sym, _∙_}
+use native.Mathlib.Omega.{arith}
+use mathlib.Core.Path.{refl, sym, _∙_}
 use mathlib.Core.Bool.{true≢false}
 use Rattle.extrusion.proofs.Textures.{arcs-held}
+use Rattle.extrusionshape.proofs.Tabling.{arcs-behind}
 use borrow.Author.Needs.{needs}
 use Rattle.extrusionshape.proofs.filling.arcs_where.Statement.{statement}
 use Rattle.extrusionshape.proofs.filling.arcs_where.Tie as tie
@@ -18,10 +20,10 @@ returns : tie.Need-returns
 returns c =
     let c2 = c .before .before in
     let c8 = c2 .before .before .before .before .before .before in
-    record { held = λ u. arcs-held (c8 .pre .0) _ _ _ (c8 .pre .1) (c2 .put-arcs .ensures) }
+    (record { held = λ u. arcs-held (c8 .pre .0) _ _ _ (c8 .pre .1) (c2 .put-arcs .ensures) }, arcs-behind _ _ _ (c2 .put-arcs .ensures) (omega (arith, c8 .pre .1)))
 
 returns-2 : tie.Need-returns-2
-returns-2 c = record { held = λ u. absurd (true≢false (sym u ∙ c .if1 .left)) }
+returns-2 c = (record { held = λ u. absurd (true≢false (sym u ∙ c .if1 .left)) }, refl)
 
 pub arcs-where-spec : {M : Type 1} → statement M
 arcs-where-spec = tie.close (tie.spec mul-put-arcs put-arcs-requires same-length returns returns-2)

@@ -4,7 +4,7 @@ use Rattle.build.specs.declared.shared.Shared.{Shared}
 use Rattle.shaping.specs.Shared.{plainShared}
 use Rattle.shaping.proofs.Tabling.{faces-held}
 use Rattle.shaping.proofs.Theorem.{ready, shaped}
-use Rattle.extrusionshape.proofs.Bounds.{sizes-are, given, sized, counted, roomy, planned-at, arcs-room}
+use Rattle.extrusionshape.proofs.Bounds.{sizes-are, given, sized, counted, roomy, planned-at, arcs-room, rows-room}
 use Rattle.extrusionshape.proofs.Tabling.{textures-asked}
 use Rattle.extrusionshape.proofs.Shapes.{shape, mesh-is}
 use borrow.Author.Needs.{needs}
@@ -28,7 +28,7 @@ put-tables-requires c κs =
     let c4 = c .before .before .before .before in
     let c5 = c4 .before in
     let c15 = c5 .before .before .before .before .before .before .before .before .before .before in
-    (given (c15 .pre), planned-at (c15 .pre) (c5 .cap-length .ensures) (c4 .plan-extrusion .ensures), arcs-room (c15 .pre) (c5 .cap-length .ensures) (c4 .plan-extrusion .ensures))
+    (given (c15 .pre), planned-at (c15 .pre) (c5 .cap-length .ensures) (c4 .plan-extrusion .ensures), arcs-room (c15 .pre) (c5 .cap-length .ensures) (c4 .plan-extrusion .ensures), rows-room (c15 .pre) (c5 .cap-length .ensures) (c4 .plan-extrusion .ensures))
 
 texture-where-requires : tie.Need-texture-where-requires
 unfolding plainShared

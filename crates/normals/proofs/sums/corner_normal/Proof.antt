@@ -30,8 +30,8 @@ unfolding unitIn
 returns c =
     let c2 = c .before .before in
     let c4 = c2 .before .before in
-    let c6 = c4 .before .before in
-    normal-made _ _ _ _ _ _ _ _ _ _ (c4 .crease-unit .ensures) (c2 .load-unit .ensures) (c6 .pre .0 .units _ (c6 .pre .3)) (c .before .or-else .ensures) (c .or-else2 .ensures)
+    let c7 = c4 .before .before .before in
+    normal-made _ _ _ _ _ _ _ _ _ _ (c4 .crease-unit .ensures) (c2 .load-unit .ensures) (c7 .pre .0 .units _ (c7 .pre .3)) (c .before .or-else .ensures) (c .or-else2 .ensures)
 
 pub corner-normal-spec : {M : Type 1} → statement M
 corner-normal-spec = tie.close (tie.spec crease-unit-requires mul-row add-row add-row-2 load-unit-requires or-else-requires or-else-requires-2 returns)

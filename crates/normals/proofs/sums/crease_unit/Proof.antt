@@ -1,7 +1,7 @@
 use mathlib.Core.Path.{refl, _∙_}
 use Rattle.normals.specs.Rows.{unitIn, sumIn}
 use Rattle.normals.proofs.Arms.{unit-own, unit-every, unit-bound, unit-bound-none}
-use Rattle.normals.proofs.Summing.{sums-read}
+use Rattle.normals.proofs.Summing.{sums-read, rows-read}
 use borrow.Author.Needs.{needs}
 use Rattle.normals.proofs.sums.crease_unit.Statement.{statement}
 use Rattle.normals.proofs.sums.crease_unit.Tie as tie
@@ -23,7 +23,7 @@ load-unit-requires c κs = search needs
 
 returns : tie.Need-returns
 unfolding unitIn
-returns c = unit-own _ _ _ _ _ (c .before .enum-told .given .1) (c .load-unit .ensures ∙ c .before .before .before .before .before .pre .0 .units _ (c .before .before .before .before .before .pre .3))
+returns c = unit-own _ _ _ _ _ (c .before .enum-told .given .1) (c .load-unit .ensures ∙ c .before .before .before .before .before .before .pre .0 .units _ (c .before .before .before .before .before .before .pre .3))
 
 enum-told-2 : tie.Need-enum-told-2
 enum-told-2 c = search needs
@@ -41,8 +41,8 @@ returns-2 : tie.Need-returns-2
 unfolding sumIn
 returns-2 c =
     let c3 = c .before .before .before in
-    let c7 = c3 .before .before .before .before in
-    unit-every _ _ _ _ _ (c3 .enum-told2 .given .1) (sums-read _ _ _ (c7 .pre .1) (c3 .enum-told2 .given .1) (c7 .pre .2) (c .load-unit2 .ensures))
+    let c8 = c3 .before .before .before .before .before in
+    unit-every _ _ _ _ _ (c3 .enum-told2 .given .1) (sums-read _ _ _ (c8 .pre .1) (c3 .enum-told2 .given .1) (c8 .pre .2) (c .load-unit2 .ensures))
 
 enum-known-rule : tie.Need-enum-known-rule
 enum-known-rule c = search needs
@@ -54,7 +54,10 @@ enum-known-k : tie.Need-enum-known-k
 enum-known-k c = search needs
 
 sum-near-requires : tie.Need-sum-near-requires
-sum-near-requires c κs = search needs
+sum-near-requires c κs =
+    let c5 = c .before .before .before .before .before in
+    let c10 = c5 .before .before .before .before .before in
+    (c10 .pre .0, c10 .pre .2, c10 .pre .3, rows-read _ _ (c10 .pre .1) (c5 .rule .given .1))
 
 normalize-requires : tie.Need-normalize-requires
 normalize-requires c κs = search needs
@@ -65,8 +68,8 @@ returns-3 c =
     let c3 = c .before .before .before in
     let c5 = c3 .before .before in
     let c7 = c5 .before .before in
-    let c11 = c7 .before .before .before .before in
-    unit-bound _ _ _ _ _ _ (c7 .rule .given .1) _ _ (c5 .load-unit3 .ensures) (c11 .pre .0 .units _ (c11 .pre .3)) _ _ (c3 .k .given .1) (c .before .sum-near .ensures) (c .normalize .ensures)
+    let c12 = c7 .before .before .before .before .before in
+    unit-bound _ _ _ _ _ _ (c7 .rule .given .1) _ _ (c5 .load-unit3 .ensures) (c12 .pre .0 .units _ (c12 .pre .3)) _ _ (c3 .k .given .1) (c .before .sum-near .ensures) (c .normalize .ensures)
 
 enum-told-3 : tie.Need-enum-told-3
 enum-told-3 c = search needs
@@ -76,8 +79,8 @@ unfolding unitIn
 returns-4 c =
     let c2 = c .before .before in
     let c4 = c2 .before .before in
-    let c8 = c4 .before .before .before .before in
-    unit-bound-none _ _ _ _ _ _ (c4 .rule .given .1) _ _ (c2 .load-unit3 .ensures) (c8 .pre .0 .units _ (c8 .pre .3)) (c .enum-told3 .given .1) refl
+    let c9 = c4 .before .before .before .before .before in
+    unit-bound-none _ _ _ _ _ _ (c4 .rule .given .1) _ _ (c2 .load-unit3 .ensures) (c9 .pre .0 .units _ (c9 .pre .3)) (c .enum-told3 .given .1) refl
 
 pub crease-unit-spec : {M : Type 1} → statement M
 crease-unit-spec = tie.close (tie.spec mul-row add-row add-row-2 enum-told load-unit-requires returns enum-told-2 mul-load-unit add-load-unit load-unit-requires-2 returns-2 enum-known-rule load-unit-requires-3 enum-known-k sum-near-requires normalize-requires returns-3 enum-told-3 returns-4)

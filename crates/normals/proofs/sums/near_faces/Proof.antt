@@ -1,31 +1,27 @@
 use native.Mathlib.Omega.{arith}
-use mathlib.Core.Path.{ap, _∙_}
-use Prim.Native.Nat.{ℕ, _-_, _<_, _≤_}
-use Rattle.math.specs.declared.vector.V3.{V3}
+use Prim.Native.Nat.{_-_, _≤_}
 use lib.ListN.{length}
-use mathlib.Core.List.{map}
-use Rattle.lists.proofs.Lists.{All-getD}
 use Rattle.mesh.specs.Normals.{sumNear}
-use Rattle.normals.specs.Rows.{normalIn, unitIn}
-use Rattle.normals.proofs.Walks.{Left, left-start, left-step, left-end, near-one, near-nothing}
+use Rattle.normals.specs.Rows.{normalIn}
+use Rattle.normals.proofs.Walks.{Left, left-start, left-step, left-end, face-low, near-one, near-nothing}
 use borrow.Author.Needs.{needs}
 use Rattle.normals.proofs.sums.near_faces.Statement.{statement}
 use Rattle.normals.proofs.sums.near_faces.Tie as tie
 
 abbrev Inv-loop : tie.InvT-loop
-Inv-loop work t faces own u bound s₀ k₀ s k = (k ≤ length faces) × Left (sumNear bound own u) work t s₀ faces s k
+Inv-loop work t floats faces own u bound s₀ k₀ s k = (k ≤ length faces) × Left (sumNear bound own u) work t s₀ faces s k
 
 abbrev μ-loop : tie.MeasureT-loop
-μ-loop work t faces own u bound s₀ k₀ s k = length faces - k
+μ-loop work t floats faces own u bound s₀ k₀ s k = length faces - k
 
 mul-load : tie.Need-mul-load Inv-loop μ-loop
-mul-load c = let R = c .before .before .pre .0 .room in omega (arith, c .before .before .pre .2)
+mul-load c = let R = c .before .before .before .pre .0 .room in omega (arith, c .before .before .before .pre .2)
 
 add-load : tie.Need-add-load Inv-loop μ-loop
-add-load c = let R = c .before .before .before .pre .0 .room in omega (arith, c .before .before .before .pre .2)
+add-load c = let R = c .before .before .before .before .pre .0 .room in omega (arith, c .before .before .before .before .pre .2)
 
 load-requires : tie.Need-load-requires Inv-loop μ-loop
-load-requires c κs = let R = c .before .before .before .pre .0 .room in omega (arith, c .before .before .before .pre .2)
+load-requires c κs = let R = c .before .before .before .before .pre .0 .room in omega (arith, c .before .before .before .before .pre .2)
 
 loop-holds : tie.Need-loop-holds Inv-loop μ-loop
 loop-holds c = (omega arith, left-start (sumNear _ _ _))
@@ -40,23 +36,25 @@ wide-requires : tie.Need-wide-requires Inv-loop μ-loop
 wide-requires c κs = search needs
 
 mul-near-step : tie.Need-mul-near-step Inv-loop μ-loop
-mul-near-step c = let R = c .before .before .before .before .before .before .before .before .pre .0 .room in omega (arith, All-getD (λ (g : ℕ). g < c .before .before .before .before .before .before .before .before .args .t .faces) (c .before .before .before .before .before .before .before .before .args .faces .now) (c .before .before .before .before .before .before .before .before .pre .1) 0 (c .before .before .before .loop .k) (c .before .before .loop-test .taken), c .wide .ensures)
+mul-near-step c = let R = c .before .before .before .before .before .before .before .before .before .before .pre .0 .room in omega arith
+
+mul-near-step-2 : tie.Need-mul-near-step-2 Inv-loop μ-loop
+mul-near-step-2 c = let R = c .before .before .before .before .before .before .before .before .before .before .pre .0 .room in omega (arith, face-low (c .before .before .before .before .before .before .before .before .before .before .args .t .faces) (c .before .before .before .before .before .before .before .before .before .before .args .faces .now) (c .before .before .before .before .before .before .before .before .before .before .pre .1) _ _ (c .before .before .before .loop-test .taken) (c .before .wide .ensures), c .before .before .before .before .before .before .before .before .before .before .pre .3 .room)
 
 add-near-step : tie.Need-add-near-step Inv-loop μ-loop
-add-near-step c = let R = c .before .before .before .before .before .before .before .before .before .pre .0 .room in omega (arith, All-getD (λ (g : ℕ). g < c .before .before .before .before .before .before .before .before .before .args .t .faces) (c .before .before .before .before .before .before .before .before .before .args .faces .now) (c .before .before .before .before .before .before .before .before .before .pre .1) 0 (c .before .before .before .before .loop .k) (c .before .before .before .loop-test .taken), c .before .wide .ensures)
+add-near-step c = let R = c .before .before .before .before .before .before .before .before .before .before .pre .0 .room in omega (arith, face-low (c .before .before .before .before .before .before .before .before .before .before .args .t .faces) (c .before .before .before .before .before .before .before .before .before .before .args .faces .now) (c .before .before .before .before .before .before .before .before .before .before .pre .1) _ _ (c .before .before .before .loop-test .taken) (c .before .wide .ensures), c .before .before .before .before .before .before .before .before .before .before .pre .3 .room)
 
 near-step-requires : tie.Need-near-step-requires Inv-loop μ-loop
-near-step-requires c κs = let R = c .before .before .before .before .before .before .before .before .before .pre .0 .room in omega (arith, All-getD (λ (g : ℕ). g < c .before .before .before .before .before .before .before .before .before .args .t .faces) (c .before .before .before .before .before .before .before .before .before .args .faces .now) (c .before .before .before .before .before .before .before .before .before .pre .1) 0 (c .before .before .before .before .loop .k) (c .before .before .before .loop-test .taken), c .before .wide .ensures)
+near-step-requires c κs = let R = c .before .before .before .before .before .before .before .before .before .before .pre .0 .room in omega (arith, face-low (c .before .before .before .before .before .before .before .before .before .before .args .t .faces) (c .before .before .before .before .before .before .before .before .before .before .args .faces .now) (c .before .before .before .before .before .before .before .before .before .before .pre .1) _ _ (c .before .before .before .loop-test .taken) (c .before .wide .ensures), c .before .before .before .before .before .before .before .before .before .before .pre .3 .room)
 
 add-k : tie.Need-add-k Inv-loop μ-loop
-add-k c = search needs
+add-k c = omega (arith, c .before .before .before .before .loop-test .taken, c .before .before .before .before .before .before .before .before .before .before .before .good)
 
 loop-less : tie.Need-loop-less Inv-loop μ-loop
 loop-less c = omega arith
 
 loop-again : tie.Need-loop-again Inv-loop μ-loop
-unfolding normalIn unitIn
-loop-again c = let l : c .before .before .wide .result < c .before .before .before .before .before .before .before .before .before .before .args .t .faces = omega (arith, All-getD (λ (g : ℕ). g < c .before .before .before .before .before .before .before .before .before .before .args .t .faces) (c .before .before .before .before .before .before .before .before .before .before .args .faces .now) (c .before .before .before .before .before .before .before .before .before .before .pre .1) 0 (c .before .before .before .before .before .loop .k) (c .before .before .before .before .loop-test .taken), c .before .before .wide .ensures) in (omega arith, left-step (sumNear _ _ _) _ _ _ (c .before .before .before .before .before .loop .inv .1) (c .before .before .before .before .loop-test .taken) (near-one _ _ _ _ _ _ (c .before .before .wide .ensures) _ _ _ (c .before .before .before .before .before .before .before .before .before .before .pre .0) l (c .near-step .ensures)))
+loop-again c = let l = face-low (c .before .before .before .before .before .before .before .before .before .before .before .args .t .faces) (c .before .before .before .before .before .before .before .before .before .before .before .args .faces .now) (c .before .before .before .before .before .before .before .before .before .before .before .pre .1) _ _ (c .before .before .before .before .loop-test .taken) (c .before .before .wide .ensures) in (omega arith, left-step (sumNear _ _ _) _ _ _ (c .before .before .before .before .before .loop .inv .1) (c .before .before .before .before .loop-test .taken) (near-one _ _ _ _ _ _ (c .before .before .wide .ensures) _ _ _ _ _ (c .before .before .before .before .before .before .before .before .before .before .before .pre .0) l (c .before .before .before .before .before .before .before .before .before .before .before .pre .3 .unit _ l) (c .before .before .before .before .before .before .before .before .before .before .before .pre .3 .normal _ l) (c .near-step .ensures)))
 
 returns : tie.Need-returns Inv-loop μ-loop
 unfolding normalIn
@@ -76,6 +74,7 @@ near-faces-spec =
     shared-slice-read-wide
     wide-requires
     mul-near-step
+    mul-near-step-2
     add-near-step
     near-step-requires
     add-k

@@ -1,4 +1,4 @@
-use Rattle.normals.proofs.Arms.{near-own, near-none, near-far, near-yes}
+use Rattle.normals.proofs.Arms.{near-own, near-far, near-yes}
 use borrow.Author.Needs.{needs}
 use Rattle.normals.proofs.sums.near_step.Statement.{statement}
 use Rattle.normals.proofs.sums.near_step.Tie as tie
@@ -6,52 +6,36 @@ use Rattle.normals.proofs.sums.near_step.Tie as tie
 returns : tie.Need-returns
 returns c = near-own _ _ _ _ _ _ _ (c .if1 .taken)
 
-add-load-unit : tie.Need-add-load-unit
-add-load-unit c = search needs
+add-get3 : tie.Need-add-get3
+add-get3 c = search needs
 
-load-unit-requires : tie.Need-load-unit-requires
-load-unit-requires c κs = search needs
-
-enum-known-k : tie.Need-enum-known-k
-enum-known-k c = search needs
+get3-requires : tie.Need-get3-requires
+get3-requires c κs = search needs
 
 dot-requires : tie.Need-dot-requires
 dot-requires c κs = search needs
 
-load-requires : tie.Need-load-requires
-load-requires c κs = search needs
+get3-requires-2 : tie.Need-get3-requires-2
+get3-requires-2 c κs = search needs
 
 add-requires : tie.Need-add-requires
 add-requires c κs = search needs
 
 returns-2 : tie.Need-returns-2
-returns-2 c =
-    let c2 = c .before .before in
-    let c5 = c2 .before .before .before in
-    let c7 = c5 .before .before in
-    near-yes _ _ _ _ _ _ _ _ _ (c7 .before .if1 .left) (c7 .load-unit .ensures) (c5 .k .given .1) _ (c2 .before .dot .ensures) _ _ (c2 .if2 .taken) (c .before .load .ensures) (c .add .ensures)
+returns-2 c = near-yes _ _ _ _ _ _ _ _ (c .before .before .before .before .before .if1 .left) (c .before .before .before .before .get3 .ensures) _ (c .before .before .before .dot .ensures) _ _ (c .before .before .if2 .taken) (c .before .get32 .ensures) (c .add .ensures)
 
 returns-3 : tie.Need-returns-3
-returns-3 c = near-far _ _ _ _ _ _ _ _ _ (c .before .before .before .before .before .before .if1 .left) (c .before .before .before .before .before .load-unit .ensures) (c .before .before .before .k .given .1) _ (c .before .dot .ensures) (c .if2 .left)
-
-enum-told : tie.Need-enum-told
-enum-told c = search needs
-
-returns-4 : tie.Need-returns-4
-returns-4 c = near-none _ _ _ _ _ _ _ _ (c .before .before .before .if1 .left) (c .before .before .load-unit .ensures) (c .enum-told .given .1)
+returns-3 c = near-far _ _ _ _ _ _ _ _ (c .before .before .before .if1 .left) (c .before .before .get3 .ensures) _ (c .before .dot .ensures) (c .if2 .left)
 
 pub near-step-spec : {M : Type 1} → statement M
 near-step-spec =
     tie.close
     (tie.spec
     returns
-    add-load-unit
-    load-unit-requires
-    enum-known-k
+    add-get3
+    get3-requires
     dot-requires
-    load-requires
+    get3-requires-2
     add-requires
     returns-2
-    returns-3
-    enum-told
-    returns-4)
+    returns-3)

@@ -1,9 +1,7 @@
-use mathlib.Core.Path.{ap, _∙_}
-use mathlib.Core.List.{List, _++_}
-use Prim.Native.Nat.{_*_}
-use lib.ListN.{drop}
-use Rattle.math.specs.declared.vector.V3.{V3}
+use native.Mathlib.Omega.{arith}
+use mathlib.Core.Path.{refl, ap, _∙_}
 use Rattle.normals.specs.Written.{spread}
+use Rattle.normals.proofs.Fills.{made-front}
 use Rattle.normals.proofs.Soups.{generated-all}
 use Rattle.normals.proofs.Summing.{made-kept}
 use borrow.Author.Needs.{needs}
@@ -14,14 +12,12 @@ prepare-requires : tie.Need-prepare-requires
 prepare-requires c κs = search needs
 
 share-requires : tie.Need-share-requires
-share-requires c κs = c .before .before .before .prepare .ensures .ready
+share-requires c κs = (c .before .before .before .before .prepare .ensures .ready, c .before .before .before .before .before .before .before .before .pre .1)
 
 corner-normals-requires : tie.Need-corner-normals-requires
 corner-normals-requires c κs =
-    let c4 = c .before .before .before .before in
-    let c8 = c4 .before .before .before .before in
-    let M = made-kept (c8 .prepare .ensures) (c4 .share .ensures .0) in
-    (M .ready, c4 .share .ensures .1, M .sound, M .owned, c8 .before .before .before .before .pre .1)
+    let M = made-kept (c .before .before .before .before .before .before .before .before .before .before .before .prepare .ensures) (c .before .before .before .before .before .before .share .ensures .0) in
+    (M .ready, c .before .before .before .before .before .before .share .ensures .1, omega (arith, c .before .before .before .before .before .before .before .before .before .before .before .before .before .before .before .pre .1, c .before .before .before .before .before .before .share .kept .1 .1 .1 .0))
 
 same-length : tie.Need-same-length
 same-length c = search needs
@@ -32,13 +28,12 @@ same-length-2 c = search needs
 returns : tie.Need-returns
 returns c =
     let c2 = c .before .before in
-    let c7 = c2 .before .before .before .before .before in
-    let c11 = c7 .before .before .before .before in
-    let c15 = c11 .before .before .before .before in
-    let M = made-kept (c11 .prepare .ensures) (c7 .share .ensures .0) in
+    let c9 = c2 .before .before .before .before .before .before .before in
+    let c14 = c9 .before .before .before .before .before in
+    let M = made-kept (c14 .prepare .ensures) (c9 .share .ensures .0) in
     record {
       kept = M .kept;
-      normals = c2 .corner-normals .ensures ∙ ap (λ (l : List V3). spread l ++ drop (3 * c15 .args .t .count) (c15 .args .floats .now)) (generated-all (c15 .pre .0) M _);
+      normals = made-front _ _ _ _ _ 0 (c2 .corner-normals .ensures) refl ∙ ap spread (generated-all (c14 .before .before .before .before .pre .0) M _);
     }
 
 pub generate-spec : {M : Type 1} → statement M

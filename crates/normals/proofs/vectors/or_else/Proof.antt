@@ -1,7 +1,7 @@
 use borrow.Author.Needs.{needs}
 use Rattle.mesh.specs.Normals.{orElse}
-use Rattle.normals.proofs.sums.or_else.Statement.{statement}
-use Rattle.normals.proofs.sums.or_else.Tie as tie
+use Rattle.normals.proofs.vectors.or_else.Statement.{statement}
+use Rattle.normals.proofs.vectors.or_else.Tie as tie
 
 enum-known-k : tie.Need-enum-known-k
 enum-known-k c = search needs
