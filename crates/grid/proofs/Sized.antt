@@ -1,6 +1,6 @@
 -- What is asked of a grid, its plan and its tables, from a block that was not refused.
 use mathlib.Core.Path.{_≡_, refl}
-use mathlib.Core.Bool.{Bool, true, false, _||_, true≢false}
+use mathlib.Core.Bool.{false}
 use mathlib.Core.List.{List}
 use Prim.Native.Nat.{ℕ, _+_, _-_, _*_, _≤_}
 use native.Mathlib.Omega.{arith}
@@ -13,6 +13,7 @@ use Rattle.block.specs.declared.header.Header.{Header}
 use Rattle.block.specs.Header.{headerOf}
 use Rattle.block.specs.Lists.{gridWidths, wordCount, listSize, listBytes}
 use Rattle.block.proofs.EditionLaws.{count-narrow}
+use Rattle.block.proofs.Table.{or-none}
 use Rattle.block.proofs.ListLaws.{widths-of, size-by, list-entries}
 use Rattle.mesh.specs.Grid.{xDimension, zDimension}
 use Rattle.mesh.specs.Sizes.{quadCount, heightCount, isNoGrid}
@@ -43,14 +44,9 @@ heights-in bs h k w n l =
 -- FORMAT 3, 6: of a grid that has a shape
 pub shape-of : (h : Header) → isNoGrid h ≡ false → (2 ≤ xDimension h) × (2 ≤ zDimension h) × (xDimension h * zDimension h ≤ heightCount h)
 shape-of h e =
-    let r = none (ltb (xDimension h) 2) (ltb (zDimension h) 2) (ltb (heightCount h) (xDimension h * zDimension h)) e in
-    (ltb-false _ _ (r .0), ltb-false _ _ (r .1), ltb-false _ _ (r .2))
-  where
-    none : (a b c : Bool) → (a || (b || c)) ≡ false → (a ≡ false) × (b ≡ false) × (c ≡ false)
-    none false false false e = (refl, refl, refl)
-    none true b c e = absurd (true≢false e)
-    none false true c e = absurd (true≢false e)
-    none false false true e = absurd (true≢false e)
+    let a = or-none (ltb (xDimension h) 2) _ e in
+    let b = or-none (ltb (zDimension h) 2) _ (a .1) in
+    (ltb-false _ _ (a .0), ltb-false _ _ (b .0), ltb-false _ _ (b .1))
 
 -- FORMAT 4: the plan of a grid, in the words that are lent
 pub planned : (h : Header) (len : ℕ) → Sides h → 4 * quadCount h ≤ most → 8 * (4 * quadCount h + xDimension h * zDimension h) + 8 ≤ len

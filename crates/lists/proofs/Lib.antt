@@ -10,4 +10,5 @@ pub mod Stores
 pub mod Putting
 pub mod Lists
 pub mod Totals
+pub mod Words
 pub mod Pieces

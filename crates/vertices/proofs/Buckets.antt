@@ -11,7 +11,7 @@ use Rattle.tables.specs.Layout.{most}
 use Rattle.vertices.specs.declared.places.Widths.{Widths}
 use Rattle.vertices.specs.Hash.{normalOf, colourOf, textureOf, mixed, hashOf, bucketOf}
 use Rattle.vertices.specs.Search.{cornerKey}
-use Rattle.vertices.proofs.Words.{seg-none, seg-next}
+use Rattle.lists.proofs.Words.{seg-none, seg-next}
 use Rattle.vertices.proofs.Keys.{corner-point, corner-normal, corner-colour, corner-texture}
 
 -- a word and a hash of 32 bits

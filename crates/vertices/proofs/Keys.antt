@@ -21,7 +21,8 @@ use Rattle.vertices.specs.Hash.{normalOf, colourOf, textureOf}
 use Rattle.vertices.specs.Adding.{trimmed}
 use Rattle.mesh.proofs.Keys.{sameKey-sound}
 use Rattle.vertices.proofs.Seek.{cases}
-use Rattle.vertices.proofs.Words.{length-seg, row-fits, front, front-take, front-same}
+use Rattle.lists.proofs.Keep.{length-seg}
+use Rattle.lists.proofs.Words.{row-fits, front, front-take, front-same}
 
 pub roomy-le : {w : Widths} {s : Store} {n : ℕ} (m : ℕ) → Roomy w s n → m ≤ n → Roomy w s m
 roomy-le {w} {s} {n} m r h =

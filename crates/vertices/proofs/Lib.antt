@@ -1,5 +1,4 @@
 -- The laws of the search and of the slices; those of a loop over corners are for other crates.
-mod Words
 mod Seek
 pub mod Keys
 mod Buckets

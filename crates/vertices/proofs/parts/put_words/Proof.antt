@@ -5,7 +5,7 @@ use Prim.Native.Nat.{_+_, _-_, _≤_}
 use lib.ListN.{length, length-set}
 use lib.Seq.{sets}
 use Rattle.lists.specs.Parts.{seg}
-use Rattle.vertices.proofs.Words.{seg-three, put-next, put-end}
+use Rattle.lists.proofs.Words.{seg-three, put-next, put-end}
 use borrow.Author.Needs.{needs}
 use Rattle.vertices.proofs.parts.put_words.Statement.{statement}
 use Rattle.vertices.proofs.parts.put_words.Tie as tie

@@ -4,7 +4,7 @@ use mathlib.Core.Path.{_≡_, sym, _∙_}
 use Prim.Native.Nat.{_+_, _-_, _≤_}
 use Rattle.lists.specs.Lists.{sameWords}
 use Rattle.lists.specs.Parts.{seg}
-use Rattle.vertices.proofs.Words.{same-next, same-differ, same-end}
+use Rattle.lists.proofs.Words.{same-next, same-differ, same-end}
 use borrow.Author.Needs.{needs}
 use Rattle.vertices.proofs.parts.same_words.Statement.{statement}
 use Rattle.vertices.proofs.parts.same_words.Tie as tie

@@ -7,15 +7,11 @@ use native.Mathlib.Nat.{le-of-suc-le-suc, not-suc-le-zero, suc-inj, suc-ne-zero,
 use native.Mathlib.Omega.{arith}
 use borrow.Author.Tests.{eq-eqb, ne-eqb}
 use lib.Dec.{eqb}
-use lib.ListN.{length, getD, set, take, drop, length-drop}
-use lib.Seq.{sets, drop-cons, length-take-le}
+use lib.ListN.{length, getD, set, take}
+use lib.Seq.{sets, drop-cons}
 use Rattle.lists.specs.Lists.{sameWords}
 use Rattle.lists.proofs.Lists.{T-true, sameWords-self, drop-three}
 use Rattle.lists.specs.Parts.{seg}
-
-pub length-seg : (l : List ℕ) (a n : ℕ) → a + n ≤ length l → length (seg l a n) ≡ n
-unfolding seg
-length-seg l a n h = length-take-le n (drop a l) (omega (arith, length-drop a l))
 
 pub seg-none : (l : List ℕ) (a : ℕ) → seg l a 0 ≡ []
 unfolding seg
