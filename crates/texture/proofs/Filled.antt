@@ -1,5 +1,6 @@
 -- The table of textures: the loop that writes it, and how it is read.
 use mathlib.Core.Path.{_≡_, refl, sym, ap, _∙_}
+use mathlib.Core.Bool.{true}
 use mathlib.Core.List.{List}
 use Prim.Native.Nat.{ℕ, _+_, _*_, _≤_, _<_}
 use native.Mathlib.Nat.{add-zero}
@@ -17,6 +18,12 @@ use Rattle.lists.proofs.Splices.{put-kept}
 use Rattle.lists.proofs.Pieces.{length-pieces, piece-put}
 use Rattle.texture.specs.Corner.{textureIn}
 use Rattle.texture.specs.Textured.{pairAt, setTexture, Fitted, textureWords}
+
+-- where texture points are listed the default is not looked at
+pub listed-any : (bs coord : List ℕ) (h : Header) (s : Settings) (place : ℕ) (d e : Words2) → h .«texture_points» ≡ true
+    → textureIn bs coord h s place d ≡ textureIn bs coord h s place e
+unfolding textureIn
+listed-any bs coord h s place d e y = rw y
 
 -- the words of a texture, read back
 pair-put : (w : List ℕ) (a : ℕ) (v : Words2) → seg w a 2 ≡ words2 v → pairAt w a ≡ v

@@ -24,7 +24,7 @@ pub fn put2(work: &mut [u32], a: usize, w: Words2)
     work[a + 1] = w.t;
 }
 
-// The texture at a place, of a point whose words are in `work`.
+// The texture at a place, of a point whose words are in `work`. Where texture points are listed no default is made.
 fn texture_at<'a>(
     block: &'a [u8],
     coord: &'a [u8],
@@ -40,6 +40,10 @@ fn texture_at<'a>(
     requires { ⌜ (fit .«s_axis» < 3) × (fit .«t_axis» < 3) × (p .0 < spots) × (points + 3 * spots ≤ length (now work)) ⌝ }
     ensures { λ r. ⌜ r ≡ textureIn (now (block .entry)) (now (coord .entry)) h s place (defaultAt (seg (now (work .entry)) points (3 * spots)) fit (p .0)) ⌝ }
 {
+    if h.texture_points {
+        let none = Words2 { s: 0, t: 0 };
+        return corner_texture(block, coord, h, s, place, none);
+    }
     let end = points + 3 * spots;
     let d = default_at(&work[points..end], fit, p);
     corner_texture(block, coord, h, s, place, d)
