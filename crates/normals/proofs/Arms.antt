@@ -40,19 +40,18 @@ module _ (own : ℕ) (n : V3) (hs : List Hit) (rule : CreaseRule) (r : Unit) whe
   unfolding creaseSum
   unit-every e q = rw e q
 
-  module _ (b : Float) (e : rule ≡ Bound b) (k k′ : Unit) (f : k′ ≡ k) (h : k ≡ unitOf n) where
-    pub unit-bound : (u m : V3) → k′ ≡ Of u → m ≡ sumNear b own u n hs → r ≡ unitOf m → r ≡ unitOf (creaseSum rule own n hs)
+  module _ (b : Float) (e : rule ≡ Bound b) (k : Unit) (h : k ≡ unitOf n) where
+    pub unit-bound : (u m : V3) → k ≡ Of u → m ≡ sumNear b own u n hs → r ≡ unitOf m → r ≡ unitOf (creaseSum rule own n hs)
     unfolding creaseSum nearSum
-    unit-bound u m i q s = let near : m ≡ creaseSum rule own n hs = rw (e, ← h, ← f, i) q in s ∙ ap unitOf near
+    unit-bound u m i q s = let near : m ≡ creaseSum rule own n hs = rw (e, ← h, i) q in s ∙ ap unitOf near
 
     -- the own face has no unit vector, and its normal is the sum
-    pub unit-bound-none : k′ ≡ Nothing → r ≡ Nothing → r ≡ unitOf (creaseSum rule own n hs)
+    pub unit-bound-none : k ≡ Nothing → r ≡ Nothing → r ≡ unitOf (creaseSum rule own n hs)
     unfolding creaseSum nearSum
-    unit-bound-none i q = let alone : n ≡ creaseSum rule own n hs = rw (e, ← h, ← f, i) in q ∙ sym i ∙ f ∙ h ∙ ap unitOf alone
+    unit-bound-none i q = let alone : n ≡ creaseSum rule own n hs = rw (e, ← h, i) in q ∙ sym i ∙ h ∙ ap unitOf alone
 
-pub normal-made : (w : List ℕ) (t : Plan) (rule : CreaseRule) (own p : ℕ) (d r : V3) (k j i : Unit)
-    → k ≡ unitOf (creaseSum rule own (normalIn w t own) (hitsAt w t p)) → j ≡ i → i ≡ unitOf (normalIn w t own) → d ≡ orElse j yAxis → r ≡ orElse k d
+pub normal-made : (w : List ℕ) (t : Plan) (rule : CreaseRule) (own p : ℕ) (d r : V3) (k j : Unit)
+    → k ≡ unitOf (creaseSum rule own (normalIn w t own) (hitsAt w t p)) → j ≡ unitOf (normalIn w t own) → d ≡ orElse j yAxis → r ≡ orElse k d
     → r ≡ normalAt w t rule own p
 unfolding normalAt
-normal-made w t rule own p d r k j i ek ej ei ed er =
-    er ∙ λ z. orElse (ek z) ((ed ∙ ap (λ (q : Unit). orElse q yAxis) (ej ∙ ei)) z)
+normal-made w t rule own p d r k j ek ej ed er = er ∙ λ z. orElse (ek z) ((ed ∙ ap (λ (q : Unit). orElse q yAxis) ej) z)

@@ -24,7 +24,7 @@ use Rattle.mesh.specs.Soup.{pointsOf}
 use Rattle.mesh.specs.Normals.{outline, facing}
 use Rattle.tables.specs.declared.layout.Plan.{Plan}
 use Rattle.lists.specs.Parts.{seg, Kept}
-use Rattle.tables.specs.Soups.{gatherIn, ownerIn, startIn, pointsIn, faceIn, frameIn, Sound}
+use Rattle.tables.specs.Soups.{ownerIn, startIn, pointsIn, faceIn, frameIn, Sound}
 use Rattle.lists.proofs.Keep.{kept-all, kept-set, kept-then, kept-at, kept-seg, length-seg, set-hit, set-miss}
 use Rattle.tables.proofs.Stays.{rise, start-le, owner-kept, start-kept, sound-kept, face-kept, frame-kept, names-in}
 use Rattle.normals.specs.Group.{gathersIn, Grouped}

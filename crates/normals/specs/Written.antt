@@ -6,7 +6,6 @@ use Prim.Native.Nat.{ℕ, _*_}
 use lib.Ieee.{Float}
 use lib.ListN.{take}
 use Rattle.math.specs.declared.vector.V3.{V3}
-use Rattle.math.specs.declared.vector.Unit.{Unit}
 use Rattle.math.specs.Vector.{yAxis, unitOf}
 use Rattle.block.specs.declared.crease.CreaseRule.{CreaseRule}
 use Rattle.lists.specs.Lists.{joinN, flat}

@@ -12,7 +12,6 @@ ghost use Rattle.normals.specs.Written.{normalAt};
 use crate::groups::end_at;
 use crate::groups::start_at;
 use crate::vectors::get3;
-use crate::vectors::load;
 use crate::vectors::load_unit;
 use crate::vectors::or_else;
 use block::CreaseRule;
@@ -50,7 +49,7 @@ fn near_faces(
     requires { ⌜ Ready (now work) t × All (λ (g : ℕ). g < t .faces) (now faces) × (own < t .faces) × Mirrored (now floats) (now work) t (t .faces) ⌝ }
     ensures { λ r. ⌜ r ≡ sumNear bound own u (normalIn (now (work .entry)) t own) (map (hitOf (now (work .entry)) t) (now (faces .entry))) ⌝ }
 {
-    let mut s = load(work, t.rows + 7 * own);
+    let mut s = get3(floats, 3 * t.count + 6 * own);
     let mut k = 0;
     while k < faces.len() {
         let g = wide(faces[k]);
@@ -78,8 +77,8 @@ fn sum_near(
     near_faces(work, t, floats, &work[from..to], own, u, bound)
 }
 
-// The unit vector at a corner of face own that is gathered under p. Only the cosine rule takes a root here: that of the own face stands in its row, and
-// that of every face is made once for each number.
+// The unit vector at a corner of face own, whose own one is k, that is gathered under p. Only the cosine rule takes a root here: that of every face is made
+// once for each number.
 fn crease_unit(
     work: &[u32],
     t: Plan,
@@ -87,20 +86,19 @@ fn crease_unit(
     p: PointNumber,
     own: usize,
     rule: CreaseRule,
+    k: Unit,
 ) -> Unit
-    requires { ⌜ Ready (now work) t × Summed (now work) t rule (now floats) × (p .0 < t .spots) × (own < t .faces) ⌝ }
+    requires { ⌜ Ready (now work) t × Summed (now work) t rule (now floats) × (p .0 < t .spots) × (own < t .faces) × (k ≡ unitOf (normalIn (now work) t own)) ⌝ }
     ensures { λ r. ⌜ r ≡ unitOf (creaseSum rule own (normalIn (now (work .entry)) t own) (hitsAt (now (work .entry)) t (p .0))) ⌝ }
 {
-    let row = t.rows + 7 * own + 3;
     match rule {
         CreaseRule::Own => {
-            return load_unit(work, row);
+            return k;
         }
         CreaseRule::Every => {
             return load_unit(work, t.sums + 4 * p.0);
         }
         CreaseRule::Bound(b) => {
-            let k = load_unit(work, row);
             match k {
                 Unit::Of(u) => {
                     return math::normalize(sum_near(work, t, floats, p, own, u, b));
@@ -125,12 +123,12 @@ pub fn corner_normal(
     requires { ⌜ Ready (now work) t × Summed (now work) t rule (now floats) × (p .0 < t .spots) × (own < t .faces) ⌝ }
     ensures { λ r. ⌜ r ≡ normalAt (now (work .entry)) t rule own (p .0) ⌝ }
 {
-    let k = crease_unit(work, t, floats, p, own, rule);
-    let row = t.rows + 7 * own + 3;
+    let k = load_unit(work, t.rows + 7 * own + 3);
+    let s = crease_unit(work, t, floats, p, own, rule, k);
     let up = V3 {
         x: 0.0,
         y: 1.0,
         z: 0.0,
     };
-    or_else(k, or_else(load_unit(work, row), up))
+    or_else(s, or_else(k, up))
 }

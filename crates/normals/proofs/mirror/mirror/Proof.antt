@@ -2,7 +2,6 @@ use native.Mathlib.Omega.{arith}
 use mathlib.Core.Path.{_≡_, refl, ap, _∙_}
 use Prim.Native.Nat.{_-_, _≤_}
 use lib.ListN.{length}
-use Rattle.math.specs.declared.vector.V3.{V3}
 use Rattle.mesh.specs.Normals.{orElse}
 use Rattle.normals.specs.Rows.{normalIn, unitIn, noUnit, Mirrored}
 use Rattle.normals.proofs.Floats.{mirror-none, mirror-next}

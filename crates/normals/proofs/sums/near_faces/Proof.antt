@@ -2,7 +2,7 @@ use native.Mathlib.Omega.{arith}
 use Prim.Native.Nat.{_-_, _≤_}
 use lib.ListN.{length}
 use Rattle.mesh.specs.Normals.{sumNear}
-use Rattle.normals.specs.Rows.{normalIn}
+use mathlib.Core.Path.{_∙_}
 use Rattle.normals.proofs.Walks.{Left, left-start, left-step, left-end, face-low, near-one, near-nothing}
 use borrow.Author.Needs.{needs}
 use Rattle.normals.proofs.sums.near_faces.Statement.{statement}
@@ -14,14 +14,17 @@ Inv-loop work t floats faces own u bound s₀ k₀ s k = (k ≤ length faces) ×
 abbrev μ-loop : tie.MeasureT-loop
 μ-loop work t floats faces own u bound s₀ k₀ s k = length faces - k
 
-mul-load : tie.Need-mul-load Inv-loop μ-loop
-mul-load c = let R = c .before .before .before .pre .0 .room in omega (arith, c .before .before .before .pre .2)
+mul-get3 : tie.Need-mul-get3 Inv-loop μ-loop
+mul-get3 c = let R = c .before .before .before .before .pre .0 .room in omega arith
 
-add-load : tie.Need-add-load Inv-loop μ-loop
-add-load c = let R = c .before .before .before .before .pre .0 .room in omega (arith, c .before .before .before .before .pre .2)
+mul-get3-2 : tie.Need-mul-get3-2 Inv-loop μ-loop
+mul-get3-2 c = let R = c .before .before .before .before .pre .0 .room in omega (arith, c .before .before .before .before .pre .2)
 
-load-requires : tie.Need-load-requires Inv-loop μ-loop
-load-requires c κs = let R = c .before .before .before .before .pre .0 .room in omega (arith, c .before .before .before .before .pre .2)
+add-get3 : tie.Need-add-get3 Inv-loop μ-loop
+add-get3 c = let R = c .before .before .before .before .pre .0 .room in omega (arith, c .before .before .before .before .pre .2)
+
+get3-requires : tie.Need-get3-requires Inv-loop μ-loop
+get3-requires c κs = omega (arith, c .before .before .before .before .pre .2, c .before .before .before .before .pre .3 .room)
 
 loop-holds : tie.Need-loop-holds Inv-loop μ-loop
 loop-holds c = (omega arith, left-start (sumNear _ _ _))
@@ -57,8 +60,7 @@ loop-again : tie.Need-loop-again Inv-loop μ-loop
 loop-again c = let l = face-low (c .before .before .before .before .before .before .before .before .before .before .before .args .t .faces) (c .before .before .before .before .before .before .before .before .before .before .before .args .faces .now) (c .before .before .before .before .before .before .before .before .before .before .before .pre .1) _ _ (c .before .before .before .before .loop-test .taken) (c .before .before .wide .ensures) in (omega arith, left-step (sumNear _ _ _) _ _ _ (c .before .before .before .before .before .loop .inv .1) (c .before .before .before .before .loop-test .taken) (near-one _ _ _ _ _ _ (c .before .before .wide .ensures) _ _ _ _ _ (c .before .before .before .before .before .before .before .before .before .before .before .pre .0) l (c .before .before .before .before .before .before .before .before .before .before .before .pre .3 .unit _ l) (c .before .before .before .before .before .before .before .before .before .before .before .pre .3 .normal _ l) (c .near-step .ensures)))
 
 returns : tie.Need-returns Inv-loop μ-loop
-unfolding normalIn
-returns c = left-end (sumNear _ _ _) _ _ _ (c .before .before .load .ensures) (c .before .loop .inv .1) (omega arith) (near-nothing _ _ _ _)
+returns c = left-end (sumNear _ _ _) _ _ _ (c .before .before .get3 .ensures ∙ c .before .before .before .before .before .before .before .pre .3 .normal _ (c .before .before .before .before .before .before .before .pre .2)) (c .before .loop .inv .1) (omega arith) (near-nothing _ _ _ _)
 
 pub near-faces-spec : {M : Type 1} → statement M
 near-faces-spec =
@@ -66,9 +68,10 @@ near-faces-spec =
     (tie.spec
     Inv-loop
     μ-loop
-    mul-load
-    add-load
-    load-requires
+    mul-get3
+    mul-get3-2
+    add-get3
+    get3-requires
     loop-holds
     mul-wide
     shared-slice-read-wide

@@ -1,7 +1,6 @@
 use native.Mathlib.Omega.{arith}
 use mathlib.Core.Path.{ap, _∙_}
-use mathlib.Core.List.{List}
-use Rattle.mesh.specs.Normals.{Hit, sumNear}
+use Rattle.mesh.specs.Normals.{sumNear}
 use Rattle.normals.proofs.Walks.{ends-fit, faces-low, faces-hit}
 use borrow.Author.Needs.{needs}
 use Rattle.normals.proofs.sums.sum_near.Statement.{statement}
