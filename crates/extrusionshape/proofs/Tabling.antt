@@ -10,7 +10,7 @@ use Rattle.block.specs.declared.header.Header.{Header}
 use Rattle.lists.specs.Parts.{spliced}
 use Rattle.lists.proofs.Splices.{spliced-front}
 use Rattle.mesh.specs.declared.texture.Fit.{Fit}
-use Rattle.mesh.specs.Extrusion.{spineCount, sectionCount, extrusionOf, extrusionPoints, capFit}
+use Rattle.mesh.specs.Extrusion.{extrusionOf, extrusionPoints, capFit}
 use Rattle.tables.specs.declared.layout.Plan.{Plan}
 use Rattle.tables.specs.Soups.{pointIn, pointsIn}
 use Rattle.tables.specs.Listed.{Listing, Listed}
