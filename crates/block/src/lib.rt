@@ -10,6 +10,7 @@ pub mod runs;
 pub mod settings;
 pub mod stream;
 pub mod texture;
+pub mod topology;
 pub mod value;
 
 pub use crease::CreaseRule;
@@ -56,6 +57,7 @@ pub use stream::texture_stream;
 pub use texture::Pair;
 pub use texture::TexTransform;
 pub use texture::uv;
+pub use topology::Topology;
 pub use value::Found;
 pub use value::value2;
 pub use value::value3;

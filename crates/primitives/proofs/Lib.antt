@@ -1,0 +1,2 @@
+-- What holds of the primitives of an index list.
+pub mod Rows

@@ -1,0 +1,2 @@
+-- The primitives of an index list, and the face set that lists them.
+pub mod Primitives
