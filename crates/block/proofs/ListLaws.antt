@@ -3,7 +3,7 @@ use Prim.Native.Nat.{ℕ, zero, suc, _+_, _*_, _^_, _≤_, _<_}
 use mathlib.Core.Path.{_≡_, refl, ap, sym, _∙_}
 use mathlib.Core.Bool.{Bool, true, false, cond}
 use mathlib.Core.List.{List, [], _∷_}
-use native.Mathlib.Nat.{add-zero, add-suc, lt-of-le-of-lt, mul-le-mul-left, le-of-lt, mul-lt-mul-of-pos-right}
+use native.Mathlib.Nat.{add-zero, add-suc, mul-zero, lt-of-le-of-lt, mul-le-mul-left, le-of-lt, mul-lt-mul-of-pos-right}
 use native.Mathlib.Omega.{arith}
 use lib.Dec.{lit<}
 use lib.ListN.{length, getD, take, length-take, length-drop, List·getD-eq-default}
@@ -12,7 +12,7 @@ use Rattle.bits.specs.Bits.{entries}
 use Rattle.bits.proofs.Entries.{entries-length}
 use Rattle.block.specs.Lists.{widthsBy, widths, ahead, wordsIn, wordCount, listAt, listSize, placeOf, listBytes}
 use Rattle.block.specs.declared.kind.Kind.{Kind}
-use Rattle.block.specs.declared.kind.Kind.the-variants.{FaceSet, LineSet, Grid, Extrusion, Other}
+use Rattle.block.specs.declared.kind.Kind.the-variants.{FaceSet, LineSet, Grid, Extrusion, Primitives}
 use Rattle.block.specs.declared.header.Header.{Header}
 
 module _ (h : Header) where
@@ -35,7 +35,7 @@ module _ (h : Header) where
       go LineSet = refl
       go Grid = refl
       go Extrusion = refl
-      go Other = refl
+      go (Primitives g) = refl
 
 -- the words of one list more
 pub words-more : (ws ns : List ℕ) (k : ℕ) → wordsIn (take (suc k) ws) ns ≡ wordsIn (take k ws) ns + getD ws k 0 * getD ns k 0
@@ -88,6 +88,11 @@ module _ (h : Header) (k : ℕ) where
   pub place-len : placeOf h k .len ≡ 4 * listSize h k
   unfolding placeOf
   place-len = refl
+
+-- a list without entries has no bytes
+pub list-none : (bs : List ℕ) (h : Header) (k : ℕ) → getD (h .counts) k 0 ≡ 0 → listBytes bs h k ≡ []
+unfolding placeOf listSize
+list-none bs h k e = rw (e, mul-zero) refl
 
 -- ---- a block of the length that its header tells
 module _ (bs : List ℕ) (h : Header) (k : ℕ) (whole : length bs ≡ 4 * wordCount h) where

@@ -1,22 +1,22 @@
 -- The table of refusals: which number the conditions give, what a block has that is not refused, and how the table goes on. Assumes nothing.
 use Prim.Native.Nat.{ℕ, zero, suc, _+_, _*_, _≤_, _<_}
 use mathlib.Core.Path.{_≡_, refl, ap, sym, _∙_, subst}
-use mathlib.Core.Bool.{Bool, true, false, not, _||_, cond, true≢false}
+use mathlib.Core.Bool.{Bool, true, false, not, _||_, _&&_, cond, true≢false}
 use mathlib.Core.List.{List, [], _∷_, _++_}
 use native.Mathlib.Omega.{arith}
 use lib.Dec.{T, ltb, eqb}
 use lib.ListN.{length, getD, List·getD-eq-default}
 use borrow.Author.Tests.{lt-ltb, le-ltb, eq-eqb, ne-eqb, ltb-false, ltb-true, eqb-true, not-false}
 use Rattle.block.specs.Edition.{edition1, isKnown, limitOf, headerBytes}
-use Rattle.block.specs.Kind.{isOther}
+use Rattle.block.specs.Kind.{isPrimitives}
 use Rattle.block.specs.Lists.{wordCount}
 use Rattle.block.specs.Runs.{allBelow}
 use Rattle.block.proofs.EditionLaws.{limit-low}
 use Rattle.block.proofs.RunLaws.{below-at}
-use Rattle.block.specs.Refusal.{numberOf, Row, row, isOverLimit, isOtherLength, blockRows, firstOf, Taken}
+use Rattle.block.specs.Refusal.{numberOf, Row, row, isOverLimit, isOtherLength, isByPoint, isOtherAttributes, blockRows, firstOf, Taken}
 use Rattle.block.specs.declared.header.Header.{Header}
 use Rattle.block.specs.declared.refusal.Refusal.{Refusal}
-use Rattle.block.specs.declared.refusal.Refusal.the-variants.{Stub, Edition, Kind, ListLimit, Length, NoShape, Corners, Buffer, Nothing}
+use Rattle.block.specs.declared.refusal.Refusal.the-variants.{Stub, Edition, Kind, ListLimit, Length, NoShape, Corners, Buffer, Attributes, Nothing}
 
 -- ---- the number tells the answer
 unfoldable answerOf : ℕ → Refusal
@@ -28,7 +28,8 @@ answerOf n =
     (cond (eqb n 5) Length
     (cond (eqb n 6) NoShape
     (cond (eqb n 7) Corners
-    (cond (eqb n 8) Buffer Nothing)))))))
+    (cond (eqb n 8) Buffer
+    (cond (eqb n 9) Attributes Nothing))))))))
 
 answer-of-number : (a : Refusal) → answerOf (numberOf a) ≡ a
 unfolding answerOf
@@ -40,6 +41,7 @@ answer-of-number Length = refl
 answer-of-number NoShape = refl
 answer-of-number Corners = refl
 answer-of-number Buffer = refl
+answer-of-number Attributes = refl
 answer-of-number Nothing = refl
 
 pub number-one-to-one : (a b : Refusal) → numberOf a ≡ numberOf b → a ≡ b
@@ -50,7 +52,7 @@ number-one-to-one a b e = sym (answer-of-number a) ∙ ap answerOf e ∙ answer-
 pub record Known (bs : List ℕ) (h : Header) : Type 0 where
   pub whole : headerBytes edition1 ≤ length bs
   pub edition-is : isKnown (h .edition) ≡ true
-  pub kind-is : isOther (h .kind) ≡ false
+  pub kind-is : isPrimitives (h .kind) ≡ false
   pub zeros-are : h .zeros ≡ 0
 
 module _ (bs : List ℕ) (h : Header) where
@@ -63,17 +65,17 @@ module _ (bs : List ℕ) (h : Header) where
     unfolding blockRows firstOf
     row-edition q = rw (le-ltb _ (headerBytes edition1) p, q)
 
-    pub row-kind : isKnown (h .edition) ≡ true → isOther (h .kind) ≡ true → 3 ≡ firstOf (blockRows bs h)
+    pub row-kind : isKnown (h .edition) ≡ true → isPrimitives (h .kind) ≡ true → 3 ≡ firstOf (blockRows bs h)
     unfolding blockRows firstOf
     row-kind q r = rw (le-ltb _ (headerBytes edition1) p, q, r)
 
-    pub row-zeros : isKnown (h .edition) ≡ true → isOther (h .kind) ≡ false → (h .zeros ≡ 0 → ⊥) → 3 ≡ firstOf (blockRows bs h)
+    pub row-zeros : isKnown (h .edition) ≡ true → isPrimitives (h .kind) ≡ false → (h .zeros ≡ 0 → ⊥) → 3 ≡ firstOf (blockRows bs h)
     unfolding blockRows firstOf
     row-zeros q r s = rw (le-ltb _ (headerBytes edition1) p, q, r, ne-eqb _ 0 s)
 
   module _ (k : Known bs h) where
     -- the rows from 4 on decide
-    rest : firstOf (blockRows bs h) ≡ firstOf (row ListLimit (isOverLimit h) ∷ row Length (isOtherLength bs h) ∷ [])
+    rest : firstOf (blockRows bs h) ≡ firstOf (row ListLimit (isOverLimit h) ∷ row Length (isOtherLength bs h) ∷ row Attributes (isOtherAttributes h) ∷ [])
     unfolding blockRows firstOf
     rest = rw (le-ltb _ (headerBytes edition1) (k .whole), k .edition-is, k .kind-is, eq-eqb _ 0 (k .zeros-are))
 
@@ -86,9 +88,13 @@ module _ (bs : List ℕ) (h : Header) where
       unfolding firstOf
       row-length u = rw (rest, t, ne-eqb _ _ u)
 
-      pub row-none : length bs ≡ 4 * wordCount h → 0 ≡ firstOf (blockRows bs h)
+      pub row-attributes : length bs ≡ 4 * wordCount h → isOtherAttributes h ≡ true → 9 ≡ firstOf (blockRows bs h)
       unfolding firstOf
-      row-none u = rw (rest, t, eq-eqb _ _ u)
+      row-attributes u v = rw (rest, t, eq-eqb _ _ u, v)
+
+      pub row-none : length bs ≡ 4 * wordCount h → isOtherAttributes h ≡ false → 0 ≡ firstOf (blockRows bs h)
+      unfolding firstOf
+      row-none u v = rw (rest, t, eq-eqb _ _ u, v)
 
 -- ---- the way back: where the number is 0 no condition holds, if each row answers something
 abbrev pub NoneOf : List Row → Type 0
@@ -121,16 +127,16 @@ counts-within limit ns e k = go (ltb k (length ns)) refl
     go true q = omega (arith, below-at (suc limit) ns (subst T (sym e) tt) k (ltb-true k _ q))
     go false q = omega (arith, List·getD-eq-default ns 0 {n = k} (ltb-false k _ q))
 
--- each of the first five rows answers something
+-- each of these rows answers something
 pub block-answered : (bs : List ℕ) (h : Header) → Answered (blockRows bs h)
 unfolding blockRows
-block-answered bs h = ((λ z. omega arith), ((λ z. omega arith), ((λ z. omega arith), ((λ z. omega arith), ((λ z. omega arith), tt)))))
+block-answered bs h = ((λ z. omega arith), ((λ z. omega arith), ((λ z. omega arith), ((λ z. omega arith), ((λ z. omega arith), ((λ z. omega arith), tt))))))
 
 pub taken-of : (bs : List ℕ) (h : Header) → firstOf (blockRows bs h) ≡ 0 → Taken bs h
 unfolding blockRows
 taken-of bs h e =
     let a = none-of (blockRows bs h) (block-answered bs h) e in
-    let k = or-none (isOther (h .kind)) (not (eqb (h .zeros) 0)) (a .1 .1 .0) in
+    let k = or-none (isPrimitives (h .kind)) (not (eqb (h .zeros) 0)) (a .1 .1 .0) in
     record {
       whole = ltb-false (length bs) (headerBytes edition1) (a .0);
       edition-is = not-false _ (a .1 .0);
@@ -138,11 +144,39 @@ taken-of bs h e =
       zeros-are = eqb-true _ _ (not-false _ (k .1));
       counts-are = λ k. counts-within (limitOf (h .edition)) (h .counts) (not-false _ (a .1 .1 .1 .0)) k;
       length-is = eqb-true _ _ (not-false _ (a .1 .1 .1 .1 .0));
+      attributes-are = a .1 .1 .1 .1 .1 .0;
     }
 
 -- no count of a block that is not refused is above the highest limit
 pub count-low : {bs : List ℕ} {h : Header} → Taken bs h → (k : ℕ) → getD (h .counts) k 0 ≤ 131072
 count-low {bs} {h} T k = omega (arith, T .counts-are k, limit-low (h .edition))
+
+-- ---- FORMAT 3, 9: the attributes of a triangle, fan, strip or quad set that is not refused
+and-both : (a b : Bool) → (a && b) ≡ true → (a ≡ true) × (b ≡ true)
+and-both true b e = (refl, e)
+and-both false b e = absurd (true≢false (sym e))
+
+pub record ByPoint (h : Header) : Type 0 where
+  pub colours : h .«color_per_vertex» ≡ true
+  pub normals : h .«normal_per_vertex» ≡ true
+  pub colour-index : getD (h .counts) 3 0 ≡ 0
+  pub normal-index : getD (h .counts) 5 0 ≡ 0
+  pub texture-index : getD (h .counts) 7 0 ≡ 0
+
+pub by-point : (h : Header) → isPrimitives (h .kind) ≡ true → isOtherAttributes h ≡ false → ByPoint h
+by-point h p e =
+    let n : not (isByPoint h) ≡ false = rw p at e in
+    let a = and-both (h .«color_per_vertex») _ (not-false _ n) in
+    let b = and-both (h .«normal_per_vertex») _ (a .1) in
+    let c = and-both (eqb (getD (h .counts) 3 0) 0) _ (b .1) in
+    let d = and-both (eqb (getD (h .counts) 5 0) 0) _ (c .1) in
+    record {
+      colours = a .0;
+      normals = b .0;
+      colour-index = eqb-true _ _ (c .0);
+      normal-index = eqb-true _ _ (d .0);
+      texture-index = eqb-true _ _ (d .1);
+    }
 
 -- ---- a table that goes on with ys
 pub answered-append : (xs ys : List Row) → Answered xs → Answered ys → Answered (xs ++ ys)

@@ -13,7 +13,7 @@ use Rattle.block.specs.declared.lists.Place.{Place}
 abbrev pub colorWidth : Bool → ℕ
 colorWidth alpha = cond alpha 4 3
 
--- FORMAT 2.4, face and line set: points, coordIndex, colours, their index, normals, their index, texture points, their index
+-- FORMAT 2.4, face and line set, triangle, fan, strip and quad set: points, coordIndex, colours, their index, normals, their index, texture points, their index
 abbrev pub setWidths : Bool → List ℕ
 setWidths alpha = 3 ∷ 1 ∷ colorWidth alpha ∷ 1 ∷ 3 ∷ 1 ∷ 2 ∷ 1 ∷ []
 
@@ -25,13 +25,9 @@ gridWidths alpha = 0 ∷ 0 ∷ colorWidth alpha ∷ 1 ∷ 3 ∷ 0 ∷ 2 ∷ 0 �
 abbrev pub extrusionWidths : List ℕ
 extrusionWidths = 3 ∷ 2 ∷ 2 ∷ 5 ∷ 0 ∷ 0 ∷ 0 ∷ 0 ∷ []
 
--- FORMAT 2.4: a kind that there is not has no lists
-abbrev pub noWidths : List ℕ
-noWidths = 0 ∷ 0 ∷ 0 ∷ 0 ∷ 0 ∷ 0 ∷ 0 ∷ 0 ∷ []
-
 -- FORMAT 2.4: the words of an entry of each list, by kind and alpha
 abbrev pub widthsBy : Kind → Bool → List ℕ
-widthsBy kind alpha = byKind kind (setWidths alpha) (setWidths alpha) (gridWidths alpha) extrusionWidths noWidths
+widthsBy kind alpha = byKind kind (setWidths alpha) (setWidths alpha) (gridWidths alpha) extrusionWidths (λ g. setWidths alpha)
 
 unfoldable pub widths : Header → List ℕ
 widths h = widthsBy (h .kind) (h .alpha)

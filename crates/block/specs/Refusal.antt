@@ -1,17 +1,17 @@
--- The table of refusals: the number of each answer, and the conditions of the rows 1 to 5. FORMAT 3.
+-- The table of refusals: the number of each answer, and the conditions of the rows 1 to 5 and 9. FORMAT 3.
 use Prim.Native.Nat.{ℕ, suc, _*_, _≤_}
 use mathlib.Core.Path.{_≡_}
-use mathlib.Core.Bool.{Bool, true, false, not, _||_, cond}
+use mathlib.Core.Bool.{Bool, true, false, not, _||_, _&&_, cond}
 use mathlib.Core.List.{List, [], _∷_}
 use lib.Dec.{eqb, ltb}
 use lib.ListN.{length, getD}
 use Rattle.block.specs.Edition.{edition1, isKnown, limitOf, headerBytes}
-use Rattle.block.specs.Kind.{isOther}
+use Rattle.block.specs.Kind.{isPrimitives}
 use Rattle.block.specs.Lists.{wordCount}
 use Rattle.block.specs.Runs.{allBelow}
 use Rattle.block.specs.declared.header.Header.{Header}
 use Rattle.block.specs.declared.refusal.Refusal.{Refusal}
-use Rattle.block.specs.declared.refusal.Refusal.the-variants.{Stub, Edition, Kind, ListLimit, Length, NoShape, Corners, Buffer, Nothing}
+use Rattle.block.specs.declared.refusal.Refusal.the-variants.{Stub, Edition, Kind, ListLimit, Length, NoShape, Corners, Buffer, Attributes, Nothing}
 
 -- FORMAT 3: the table's number of each answer; the conditions 6 to 8 are of the shape and of the lent slices, and stand with those
 abbrev pub numberOf : Refusal → ℕ
@@ -23,6 +23,7 @@ numberOf Length = 5
 numberOf NoShape = 6
 numberOf Corners = 7
 numberOf Buffer = 8
+numberOf Attributes = 9
 numberOf Nothing = 0
 
 -- FORMAT 3, 1, stub: fewer bytes than the header of edition 1
@@ -35,7 +36,7 @@ isOtherEdition h = not (isKnown (h .edition))
 
 -- FORMAT 3, 3, kind: kind 4 to 7, or one of the zero bits set
 abbrev pub isOtherKind : Header → Bool
-isOtherKind h = isOther (h .kind) || not (eqb (h .zeros) 0)
+isOtherKind h = isPrimitives (h .kind) || not (eqb (h .zeros) 0)
 
 -- FORMAT 3, 4, list limit: a count above the edition's limit
 abbrev pub isOverLimit : Header → Bool
@@ -44,6 +45,14 @@ isOverLimit h = not (allBelow (suc (limitOf (h .edition))) (h .counts))
 -- FORMAT 3, 5, length: bytes do not end with the last word
 abbrev pub isOtherLength : List ℕ → Header → Bool
 isOtherLength bs h = not (eqb (length bs) (4 * wordCount h))
+
+-- FORMAT 7.1: whether each attribute is read at the point's own number: per vertex, and without an index list of its own
+abbrev pub isByPoint : Header → Bool
+isByPoint h = h .«color_per_vertex» && (h .«normal_per_vertex» && (eqb (getD (h .counts) 3 0) 0 && (eqb (getD (h .counts) 5 0) 0 && eqb (getD (h .counts) 7 0) 0)))
+
+-- FORMAT 3, 9, attributes: a triangle, fan, strip or quad set with a per-vertex bit cleared or an attribute index, whether the attribute is present or not
+abbrev pub isOtherAttributes : Header → Bool
+isOtherAttributes h = isPrimitives (h .kind) && not (isByPoint h)
 
 -- FORMAT 3: a row of the table: its answer, and whether its condition holds
 pub record Row : Type 0 where
@@ -55,18 +64,19 @@ row answer holds = record { answer = answer; holds = holds }
 
 -- FORMAT 3: the rows that bytes and a header decide, in the order in which they are tested
 unfoldable pub blockRows : List ℕ → Header → List Row
-blockRows bs h = row Stub (isStub bs) ∷ row Edition (isOtherEdition h) ∷ row Kind (isOtherKind h) ∷ row ListLimit (isOverLimit h) ∷ row Length (isOtherLength bs h) ∷ []
+blockRows bs h = row Stub (isStub bs) ∷ row Edition (isOtherEdition h) ∷ row Kind (isOtherKind h) ∷ row ListLimit (isOverLimit h) ∷ row Length (isOtherLength bs h) ∷ row Attributes (isOtherAttributes h) ∷ []
 
 -- FORMAT 3: the number of the first row that holds, 0 where none does
 unfoldable pub firstOf : List Row → ℕ
 firstOf [] = 0
 firstOf (r ∷ rs) = cond (r .holds) (numberOf (r .answer)) (firstOf rs)
 
--- what is known of a block where none of the five holds
+-- what is known of a block where none of these holds
 pub record Taken (bs : List ℕ) (h : Header) : Type 0 where
   pub whole : headerBytes edition1 ≤ length bs
   pub edition-is : isKnown (h .edition) ≡ true
-  pub kind-is : isOther (h .kind) ≡ false
+  pub kind-is : isPrimitives (h .kind) ≡ false
   pub zeros-are : h .zeros ≡ 0
   pub counts-are : (k : ℕ) → getD (h .counts) k 0 ≤ limitOf (h .edition)
   pub length-is : length bs ≡ 4 * wordCount h
+  pub attributes-are : isOtherAttributes h ≡ false

@@ -1,14 +1,15 @@
 // The kinds of a block (FORMAT 2.2).
 ghost use mathlib.Core.Path.{_≡_};
-ghost use Rattle.block.specs.Kind.{kindOf, isOther, isIndexed, isLines};
+ghost use Rattle.block.specs.Kind.{kindOf, isPrimitives, isIndexed, isLines};
+use crate::topology::Topology;
 
-// Other: the numbers from 4 on, which no kind has yet.
+// The number of a kind has three bits, so every number is a kind's.
 pub enum Kind {
     FaceSet,
     LineSet,
     Grid,
     Extrusion,
-    Other,
+    Primitives(Topology),
 }
 
 pub fn kind_of(number: u32) -> Kind
@@ -19,19 +20,22 @@ pub fn kind_of(number: u32) -> Kind
         1 => Kind::LineSet,
         2 => Kind::Grid,
         3 => Kind::Extrusion,
-        _ => Kind::Other,
+        4 => Kind::Primitives(Topology::Triangles),
+        5 => Kind::Primitives(Topology::Fans),
+        6 => Kind::Primitives(Topology::Strips),
+        _ => Kind::Primitives(Topology::Quads),
     }
 }
 
-pub fn is_other(kind: Kind) -> bool
-    ensures { λ r. ⌜ r ≡ isOther kind ⌝ }
+pub fn is_primitives(kind: Kind) -> bool
+    ensures { λ r. ⌜ r ≡ isPrimitives kind ⌝ }
 {
     match kind {
         Kind::FaceSet => false,
         Kind::LineSet => false,
         Kind::Grid => false,
         Kind::Extrusion => false,
-        Kind::Other => true,
+        Kind::Primitives(_) => true,
     }
 }
 
@@ -44,7 +48,7 @@ pub fn is_indexed(kind: Kind) -> bool
         Kind::LineSet => true,
         Kind::Grid => false,
         Kind::Extrusion => false,
-        Kind::Other => false,
+        Kind::Primitives(_) => true,
     }
 }
 
@@ -57,6 +61,6 @@ pub fn is_lines(kind: Kind) -> bool
         Kind::LineSet => true,
         Kind::Grid => false,
         Kind::Extrusion => false,
-        Kind::Other => false,
+        Kind::Primitives(_) => false,
     }
 }

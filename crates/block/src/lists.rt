@@ -29,7 +29,7 @@ fn list_widths(kind: Kind, alpha: bool) -> [u8; 8]
         Kind::LineSet => [3, 1, c, 1, 3, 1, 2, 1],
         Kind::Grid => [0, 0, c, 1, 3, 0, 2, 0],
         Kind::Extrusion => [3, 2, 2, 5, 0, 0, 0, 0],
-        Kind::Other => [0, 0, 0, 0, 0, 0, 0, 0],
+        Kind::Primitives(_) => [3, 1, c, 1, 3, 1, 2, 1],
     }
 }
 

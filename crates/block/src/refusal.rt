@@ -1,16 +1,16 @@
-// What is refused of a block (FORMAT 3): the table's answers, and its rows 1 to 5.
+// What is refused of a block (FORMAT 3): the table's answers, and its rows 1 to 5 and 9.
 ghost use mathlib.Core.Path.{_≡_};
 ghost use mathlib.Core.Bool.{not};
 ghost use Prim.Native.Nat.{suc};
 ghost use lib.Dec.{eqb};
 ghost use Rattle.block.specs.Edition.{edition1, headerBytes};
 ghost use Rattle.block.specs.Runs.{allBelow};
-ghost use Rattle.block.specs.Refusal.{blockRows, firstOf, numberOf};
+ghost use Rattle.block.specs.Refusal.{isByPoint, isOtherAttributes, blockRows, firstOf, numberOf};
 use crate::edition::edition_of;
 use crate::edition::is_known;
 use crate::edition::limit_of;
 use crate::header::Header;
-use crate::kind::is_other;
+use crate::kind::is_primitives;
 use crate::lists::block_bytes;
 
 pub enum Refusal {
@@ -22,6 +22,7 @@ pub enum Refusal {
     NoShape,
     Corners,
     Buffer,
+    Attributes,
     Nothing,
 }
 
@@ -38,6 +39,7 @@ pub fn number_of(answer: Refusal) -> u32
         Refusal::NoShape => 6,
         Refusal::Corners => 7,
         Refusal::Buffer => 8,
+        Refusal::Attributes => 9,
         Refusal::Nothing => 0,
     }
 }
@@ -66,7 +68,41 @@ fn over_limit(n: [u32; 8], limit: u32) -> bool
     false
 }
 
-// The first of the rows 1 to 5 that holds.
+// Whether each attribute is read at the point's own number: per vertex, and without an index list of its own.
+fn is_by_point(h: Header) -> bool
+    ensures { λ r. ⌜ r ≡ isByPoint h ⌝ }
+{
+    let n = h.counts;
+    if h.color_per_vertex {} else {
+        return false;
+    }
+    if h.normal_per_vertex {} else {
+        return false;
+    }
+    if n[3] != 0 {
+        return false;
+    }
+    if n[5] != 0 {
+        return false;
+    }
+    n[7] == 0
+}
+
+// Row 9.
+fn is_other_attributes(h: Header) -> bool
+    ensures { λ r. ⌜ r ≡ isOtherAttributes h ⌝ }
+{
+    let kind = h.kind;
+    if is_primitives(kind) {
+        if is_by_point(h) {
+            return false;
+        }
+        return true;
+    }
+    false
+}
+
+// The first of the rows 1 to 5 and 9 that holds.
 pub fn refusal_of(block: &[u8], h: Header) -> Refusal
     ensures { λ r. ⌜ numberOf r ≡ firstOf (blockRows (now (block .entry)) h) ⌝ }
 {
@@ -77,7 +113,7 @@ pub fn refusal_of(block: &[u8], h: Header) -> Refusal
         return Refusal::Edition;
     }
     let kind = h.kind;
-    if is_other(kind) {
+    if is_primitives(kind) {
         return Refusal::Kind;
     }
     if h.zeros != 0 {
@@ -89,6 +125,9 @@ pub fn refusal_of(block: &[u8], h: Header) -> Refusal
     }
     if block.len() != block_bytes(h) {
         return Refusal::Length;
+    }
+    if is_other_attributes(h) {
+        return Refusal::Attributes;
     }
     Refusal::Nothing
 }

@@ -36,7 +36,7 @@ returns-4 : tie.Need-returns-4
 returns-4 c = search needs
 
 returns-5 : tie.Need-returns-5
-returns-5 c = search needs
+returns-5 c = rw (c .before .before .color-width .ensures, c .enum-told5 .given .1)
 
 pub list-widths-spec : {M : Type 1} → statement M
 list-widths-spec =
