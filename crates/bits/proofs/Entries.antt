@@ -1,12 +1,13 @@
--- The entries of an index list, and of a part that holds whole entries. Assumes nothing.
-use Prim.Native.Nat.{ℕ, zero, suc, _+_, _*_, _/_, _%_, _≤_, _<_}
+-- The entries of an index list, of a part that holds whole entries, and of the bytes of words. Assumes nothing.
+use Prim.Native.Nat.{ℕ, zero, suc, _+_, _*_, _/_, _%_, _^_, _≤_, _<_}
 use mathlib.Core.Path.{_≡_, refl, ap, sym, _∙_}
-use mathlib.Core.List.{List}
+use mathlib.Core.List.{List, [], _∷_}
 use native.Mathlib.Nat.{le-of-suc-le-suc, not-suc-le-zero}
 use native.Mathlib.Omega.{arith}
 use lib.ListN.{length, getD, take, drop, length-take, length-drop}
 use lib.Seq.{ext-getD, getD-take, getD-drop}
-use Rattle.bits.specs.Bits.{bitAt, field, wordAt, table, entries}
+use Rattle.bits.specs.Bits.{bitAt, field, wordAt, table, entries, bytesOf}
+use Rattle.bits.proofs.Fields.{word-is}
 
 table-length : (n : ℕ) (f : ℕ → ℕ) → length (table n f) ≡ n
 unfolding table
@@ -70,3 +71,40 @@ entries-part bs s n h = ext-getD 0 _ _ lens at
             let e : 4 * s + (4 * i + k) ≡ 4 * (s + i) + k = omega arith in
             let l4 : 4 * i + k < 4 * n = omega arith in
             getD-take (4 * n) (drop (4 * s) bs) (4 * i + k) 0 l4 ∙ getD-drop (4 * s) bs (4 * i + k) 0 ∙ ap (λ (m : ℕ). getD bs m 0) e
+
+-- ---- the bytes of words
+
+bytes-length : (ws : List ℕ) → length (bytesOf ws) ≡ 4 * length ws
+bytes-length [] = refl
+bytes-length (w ∷ ws) = let e = bytes-length ws in omega arith
+
+-- the four bytes of word i
+bytes-at : (ws : List ℕ) (i : ℕ) → i < length ws
+    → (getD (bytesOf ws) (4 * i) 0 ≡ getD ws i 0 / 2 ^ 24) × (getD (bytesOf ws) (4 * i + 1) 0 ≡ getD ws i 0 / 2 ^ 16 % 256)
+    × (getD (bytesOf ws) (4 * i + 2) 0 ≡ getD ws i 0 / 2 ^ 8 % 256) × (getD (bytesOf ws) (4 * i + 3) 0 ≡ getD ws i 0 % 256)
+bytes-at [] i h = absurd (not-suc-le-zero h)
+bytes-at (w ∷ ws) zero h = (refl, refl, refl, refl)
+bytes-at (w ∷ ws) (suc i) h =
+    let r = bytes-at ws i (le-of-suc-le-suc h) in
+    let a : 4 * suc i ≡ suc (suc (suc (suc (4 * i)))) = omega arith in
+    let b : 4 * suc i + 1 ≡ suc (suc (suc (suc (4 * i + 1)))) = omega arith in
+    let c : 4 * suc i + 2 ≡ suc (suc (suc (suc (4 * i + 2)))) = omega arith in
+    let d : 4 * suc i + 3 ≡ suc (suc (suc (suc (4 * i + 3)))) = omega arith in
+    rw (b, c, d, a) r
+
+-- the entries of the bytes of words are the words
+pub entries-bytes : (ws : List ℕ) → ((k : ℕ) → k < length ws → getD ws k 0 < 2 ^ 32) → entries (bytesOf ws) ≡ ws
+entries-bytes ws low = ext-getD 0 (entries (bytesOf ws)) ws lens at
+  where
+    lens : length (entries (bytesOf ws)) ≡ length ws
+    lens = omega (arith, entries-length (bytesOf ws), bytes-length ws)
+
+    at : (i : ℕ) → i < length (entries (bytesOf ws)) → getD (entries (bytesOf ws)) i 0 ≡ getD ws i 0
+    at i h =
+        let l : i < length ws = omega (arith, lens) in
+        let b = bytes-at ws i l in
+        let s = low i l in
+        entries-at (bytesOf ws) i (omega (arith, bytes-length ws))
+        ∙ sym (word-is (bytesOf ws) (4 * i) (getD ws i 0 / 2 ^ 24) (getD ws i 0 / 2 ^ 16 % 256) (getD ws i 0 / 2 ^ 8 % 256) (getD ws i 0 % 256)
+        (sym (b .0)) (sym (b .1)) (sym (b .2)) (sym (b .3)) (omega arith) (omega arith) (omega arith) (omega arith))
+        ∙ omega arith

@@ -24,3 +24,8 @@ table (suc n) f = f 0 ∷ table n (λ k. f (suc k))
 -- the entries of an index list: four bytes each
 unfoldable pub entries : List ℕ → List ℕ
 entries bs = table (length bs / 4) (λ k. wordAt bs (4 * k))
+
+-- the bytes of words, four each
+abbrev pub bytesOf : List ℕ → List ℕ
+bytesOf [] = []
+bytesOf (w ∷ ws) = w / 2 ^ 24 ∷ w / 2 ^ 16 % 256 ∷ w / 2 ^ 8 % 256 ∷ w % 256 ∷ bytesOf ws

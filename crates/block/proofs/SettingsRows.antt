@@ -4,12 +4,11 @@ use mathlib.Core.Path.{_≡_, refl}
 use mathlib.Core.List.{List, [], _∷_, _++_}
 use lib.Ieee.{Float, binary32, ofBits, le}
 use lib.ListN.{replicate}
-use Rattle.bits.specs.Bits.{field}
+use Rattle.bits.specs.Bits.{field, bytesOf}
 use Rattle.math.specs.Vector.{zeroF, oneF}
 use Rattle.block.specs.Edition.{edition1, editionOf, editionIn}
 use Rattle.block.specs.Crease.{creaseOf}
 use Rattle.block.specs.Settings.{pairOr, transformOf, settingsOf}
-use Rattle.block.proofs.TableRows.{bytesOf}
 use Rattle.block.specs.declared.crease.CreaseRule.the-variants.{Own}
 
 abbrev pub infinite : ℕ

@@ -1,20 +1,15 @@
 -- Rows of the table of refusals, of whole blocks. FORMAT 3.
-use Prim.Native.Nat.{ℕ, _/_, _%_, _^_}
+use Prim.Native.Nat.{ℕ}
 use mathlib.Core.Path.{_≡_, refl}
 use mathlib.Core.List.{List, [], _∷_, _++_}
 use lib.ListN.{take, set}
-use Rattle.bits.specs.Bits.{field}
+use Rattle.bits.specs.Bits.{field, bytesOf}
 use Rattle.block.specs.Edition.{edition1, editionOf, editionIn, countsAt, zerosAt, headerBytes, wordsAhead}
 use Rattle.block.specs.Kind.{kindOf}
 use Rattle.block.specs.Header.{headerOf, countsOf}
 use Rattle.block.specs.Lists.{widths, wordsIn, wordCount}
 use Rattle.block.specs.Runs.{allBelow}
 use Rattle.block.specs.Refusal.{blockRows, firstOf}
-
--- the bytes of words
-abbrev pub bytesOf : List ℕ → List ℕ
-bytesOf [] = []
-bytesOf (w ∷ ws) = w / 2 ^ 24 ∷ w / 2 ^ 16 % 256 ∷ w / 2 ^ 8 % 256 ∷ w % 256 ∷ bytesOf ws
 
 -- a grid of 2 by 2 points: edition 1, kind 2, ccw, convex and solid
 unfoldable pub gridHeader : List ℕ

@@ -4,7 +4,7 @@ use mathlib.Core.Bool.{false}
 use mathlib.Core.List.{List, [], _∷_}
 use Prim.Native.Nat.{ℕ}
 use lib.Ieee.{ofBits, eq}
-use Rattle.bits.specs.Bits.{field}
+use Rattle.bits.specs.Bits.{field, bytesOf}
 use Rattle.block.specs.Edition.{edition1, editionOf}
 use Rattle.block.specs.declared.kind.Kind.the-variants.{Extrusion}
 use Rattle.block.specs.Header.{countsOf, headerOf}
@@ -12,7 +12,7 @@ use Rattle.block.specs.Lists.{widths, wordsIn, wordCount, listSize, listAt, pla
 use Rattle.block.specs.Runs.{allBelow}
 use Rattle.block.specs.Refusal.{blockRows, firstOf}
 use Rattle.block.specs.Settings.{settingsOf}
-use Rattle.block.proofs.TableRows.{bytesOf, oneWord, number}
+use Rattle.block.proofs.TableRows.{oneWord, number}
 use Rattle.lists.specs.Loops.{tab}
 use Rattle.mesh.specs.Arcs.{at2}
 use Rattle.mesh.specs.Extrusion.{sectionOf, closes, capLength}

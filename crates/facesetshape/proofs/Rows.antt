@@ -4,7 +4,7 @@ use mathlib.Core.Bool.{false}
 use mathlib.Core.List.{List, [], _∷_, _++_}
 use Prim.Native.Nat.{ℕ}
 use lib.ListN.{replicate}
-use Rattle.bits.specs.Bits.{field, table, entries}
+use Rattle.bits.specs.Bits.{field, table, entries, bytesOf}
 use Rattle.block.specs.Edition.{edition1, editionOf}
 use Rattle.block.specs.declared.kind.Kind.the-variants.{FaceSet}
 use Rattle.block.specs.Header.{countsOf, headerOf}
@@ -12,7 +12,7 @@ use Rattle.block.specs.Settings.{settingsOf}
 use Rattle.block.specs.Lists.{widths, wordsIn, wordCount, listAt, listSize, placeOf}
 use Rattle.block.specs.Runs.{allBelow, endsRun, runsFrom, kept, corners, triangles, sumOver}
 use Rattle.block.specs.Refusal.{blockRows, firstOf}
-use Rattle.block.proofs.TableRows.{bytesOf, number}
+use Rattle.block.proofs.TableRows.{number}
 use Rattle.mesh.specs.Sizes.{faceSetSizes, sizesOf, isNoShape, isOverCorners}
 use Rattle.lent.specs.Lent.{Asked}
 use Rattle.lent.proofs.Just.{just, just-asked}

@@ -8,7 +8,7 @@ use lib.ListN.{replicate}
 use Prim.Native.Nat.{ℕ, _+_, _*_, _-_}
 use Rattle.bits.specs.declared.Words2.{Words2}
 use Rattle.bits.specs.declared.Words4.{Words4}
-use Rattle.bits.specs.Bits.{field, table, entries}
+use Rattle.bits.specs.Bits.{field, table, entries, bytesOf}
 use Rattle.block.specs.declared.kind.Kind.{Kind}
 use Rattle.block.specs.declared.kind.Kind.the-variants.{FaceSet, LineSet, Grid, Extrusion, Other}
 use Rattle.block.specs.Edition.{edition1, editionOf}
@@ -18,7 +18,6 @@ use Rattle.block.specs.Lists.{widths, wordsIn, listAt, listSize, placeOf}
 use Rattle.block.specs.Runs.{Run, endsRun, runsFrom, runs, kept}
 use Rattle.block.specs.Stream.{itself, numberIn, numberAt}
 use Rattle.block.specs.Value.{valueAt}
-use Rattle.block.proofs.TableRows.{bytesOf}
 use Rattle.lists.specs.Lists.{mapN, joinN, has, place, meet, firsts, sameWords, flat}
 use Rattle.mesh.specs.Words.{no2, no3, pointWords}
 use Rattle.mesh.specs.Vertices.{Key, sameKey}

@@ -4,14 +4,14 @@ use mathlib.Core.List.{List, [], _∷_, _++_}
 use Prim.Native.Nat.{ℕ, _+_, _-_, _*_}
 use lib.Ieee.{ofBits, eq}
 use lib.ListN.{take, set, replicate}
-use Rattle.bits.specs.Bits.{field, table, entries}
+use Rattle.bits.specs.Bits.{field, table, entries, bytesOf}
 use Rattle.block.specs.declared.kind.Kind.the-variants.{FaceSet, LineSet, Grid, Extrusion}
 use Rattle.block.specs.Edition.{edition1, editionOf}
 use Rattle.block.specs.Header.{countsOf, headerOf}
 use Rattle.block.specs.Lists.{widths, wordsIn, wordCount, listAt, listSize, placeOf}
 use Rattle.block.specs.Runs.{allBelow, endsRun, runsFrom, kept, corners, triangles, sumOver}
 use Rattle.block.specs.Refusal.{blockRows, firstOf}
-use Rattle.block.proofs.TableRows.{bytesOf, gridHeader, gridRest, grid}
+use Rattle.block.proofs.TableRows.{gridHeader, gridRest, grid}
 use Rattle.lists.specs.Loops.{tab}
 use Rattle.mesh.specs.Arcs.{at2}
 use Rattle.mesh.specs.Extrusion.{sectionOf, closes, capLength}

@@ -8,7 +8,7 @@ use borrow.Author.Tests.{eqb-true, not-true}
 use lib.Dec.{T, lit<, eqb}
 use lib.Ieee.{ofBits, add, mul, le, lt}
 use lib.Ieee.Fits.{and-l, and-r}
-use Rattle.bits.specs.Bits.{field, table, entries}
+use Rattle.bits.specs.Bits.{field, table, entries, bytesOf}
 use Rattle.math.specs.Vector.{vlen}
 use Rattle.math.specs.SquareRoot.{rootOf}
 use Rattle.block.specs.Edition.{edition1, editionOf}
@@ -24,7 +24,7 @@ use Rattle.mesh.specs.FaceSet.{restOf, coordIn, runsIn, normalOf, corner
 use Rattle.mesh.specs.OneRun.{byteOf, OneRun, runPart, names, NormalsApart, own, apart, supplied}
 use Rattle.lists.proofs.Lists.{T-true}
 use Rattle.mesh.proofs.OneRun.{one-run}
-use Rattle.mesh.proofs.Sample.{bytesOf, end, w1}
+use Rattle.mesh.proofs.Sample.{end, w1}
 
 -- ---- that no point of one run is named by another, as a test
 

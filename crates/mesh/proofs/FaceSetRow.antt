@@ -4,7 +4,7 @@ use mathlib.Core.Path.{_≡_, refl}
 use mathlib.Core.List.{List, [], _∷_, _++_}
 use Prim.Native.Nat.{ℕ}
 use lib.Ieee.{ofBits, toBits, add, sub, mul, div, neg, lt, le, isNan}
-use Rattle.bits.specs.Bits.{field, table, entries}
+use Rattle.bits.specs.Bits.{field, table, entries, bytesOf}
 use Rattle.bits.specs.declared.Words2.{Words2}
 use Rattle.bits.specs.declared.Words4.{Words4}
 use Rattle.math.specs.Vector.{vlen, unitOf}
@@ -33,7 +33,7 @@ use Rattle.mesh.specs.Mend.{orWords, renorm, mendBy, mended}
 use Rattle.mesh.specs.Mesh.{meshOf, mesh}
 use Rattle.mesh.specs.Texture.{coordOf, widened, spanOf, axisBy, insert, sorted, divisor, fitBy, fitting, fitOf, defaultAt}
 use Rattle.mesh.specs.FaceSet.{restOf, coordIn, normalOf, colourOf, textureBy, cornerBy, cornerOf, faceOf, facesOf, frameOf, faceSetMesh}
-use Rattle.mesh.proofs.Sample.{bytesOf, end, w1, v}
+use Rattle.mesh.proofs.Sample.{end, w1, v}
 
 -- ccw, solid, texture wanted, colours for each face; 4 points, 12 entries, 2 colours
 abbrev bytes : List ℕ

@@ -1,12 +1,6 @@
--- What the computed rows write blocks and vectors with.
-use mathlib.Core.List.{List, [], _∷_, map}
-use Prim.Native.Nat.{ℕ, _/_, _%_, _^_}
+-- What the computed rows write lists and vectors with.
+use Prim.Native.Nat.{ℕ}
 use Rattle.bits.specs.declared.Words3.{Words3}
-use Rattle.lists.specs.Lists.{flat}
-
--- words as a block's bytes
-abbrev pub bytesOf : List ℕ → List ℕ
-bytesOf ws = flat (map (λ (w : ℕ). w / 2 ^ 24 ∷ w / 2 ^ 16 % 256 ∷ w / 2 ^ 8 % 256 ∷ w % 256 ∷ []) ws)
 
 -- -1, and the bits of 1.0
 abbrev pub end : ℕ

@@ -5,7 +5,7 @@ use mathlib.Core.Bool.{true, false}
 use mathlib.Core.List.{List, [], _∷_, _++_, map}
 use lib.ListN.{length}
 use lib.Ieee.{binary32, ofInt, ofBits, toBits, isNan, add, sub, mul, div, neg, lt, le, eq}
-use Rattle.bits.specs.Bits.{field, table, entries}
+use Rattle.bits.specs.Bits.{field, table, entries, bytesOf}
 use Rattle.bits.specs.declared.Words2.{Words2}
 use Rattle.bits.specs.declared.Words4.{Words4}
 use Rattle.math.specs.declared.vector.V3.{V3}
@@ -44,7 +44,7 @@ use Rattle.mesh.specs.Extrusion.{sectionOf, extrusionOf, turnIn, scaleAt
 use Rattle.mesh.specs.Lines.{somes, joined, itemOf, itemsOf, lineKeys, lineEnds, lineVertices, lineIndices, linesOf, lineSetMesh}
 use Rattle.mesh.specs.Sizes.{Sizes, named, linesAfter, lineSetSizes, gridSizes, extrusionSizes, sizesOf, isNoShape, isOverCorners}
 use Rattle.mesh.specs.Result.{blockMesh, madeOf, made}
-use Rattle.mesh.proofs.Sample.{bytesOf, end, w1, v}
+use Rattle.mesh.proofs.Sample.{end, w1, v}
 use Rattle.mesh.proofs.Rows.{rows}
 
 abbrev w2 : ℕ
