@@ -9,7 +9,8 @@ use lib.Dec.{T}
 use lib.ListN.{length, getD, length-map}
 use lib.Seq.{append-snoc}
 use Rattle.bits.specs.declared.Words4.{Words4}
-use Rattle.block.specs.Runs.{corners, triangles, sumOver}
+use Rattle.bits.specs.Bits.{entries}
+use Rattle.block.specs.Runs.{runs, corners, triangles, sumOver}
 use Rattle.lists.specs.Loops.{All}
 use Rattle.lists.specs.Lists.{mapN, joinN, total, has, place, meet, firsts}
 use Rattle.mesh.specs.Words.{words2, words3, words4, pointWords}
@@ -17,7 +18,7 @@ use Rattle.mesh.specs.Soup.{Face, Frame}
 use Rattle.mesh.specs.Vertices.{Key, noKey, sameKey, keysOf, vertices, locals, faceIndices, indicesOf, width}
 use Rattle.mesh.specs.Mend.{mended}
 use Rattle.mesh.specs.Mesh.{meshOf, mesh, Slices, slicesOf}
-use Rattle.mesh.specs.FaceSet.{restOf, pointCount, coordIn, runsIn, facesOf, frameOf, faceSetMesh}
+use Rattle.mesh.specs.FaceSet.{Rest, restOf, pointCount, coordIn, runsIn, facesOf, frameOf, faceSetMesh}
 use Rattle.lists.proofs.Lists.{length-mapN, length-words, All-map, map-All, getD-map-lt, All-of-map, All-joinN, length-joinN, length-firsts, Distinct, firsts-distinct, firsts-append, firsts-snoc, meet-has, place-firsts}
 use Rattle.mesh.proofs.Keys.{sameKey-self}
 use Rattle.mesh.proofs.Corners.{length-keys, length-faceIndices, locals-within, number-lt}
@@ -97,19 +98,25 @@ indices-by-numbers F fs vs num f numbers e =
     (All-map (λ (i : ℕ) h. sym (getD-map-lt number ks i 0 noKey (subst (λ (n : ℕ). i < n) (sym (length-keys F fs num f)) h))) (locals F f) (locals-within F f))
     ∙ ap (λ (l : List ℕ). map (λ (i : ℕ). getD l i 0) (locals F f)) (sym e)
 
--- FORMAT 4: of a face set, from its runs alone
+-- FORMAT 4: of the faces of an index list, from its runs alone, in any frame
+module _ (missing : Words4) (R : Rest) (coord : List ℕ) (F : Frame) where
+  pub list-indices : length (mesh F (facesOf missing R coord) .indices) ≡ 3 * sumOver (triangles (pointCount R)) (runs (entries coord))
+  unfolding mesh meshOf facesOf
+  list-indices = let fs = facesOf missing R coord in length-indices F fs (vertices F fs) ∙ widths-are missing R coord 0 (runs (entries coord))
+
+  pub list-vertices : length (mesh F (facesOf missing R coord) .sources) ≤ sumOver (corners (pointCount R)) (runs (entries coord))
+  unfolding mesh meshOf facesOf
+  list-vertices =
+      let fs = facesOf missing R coord in
+      let e = length-map (vertices F fs) (λ (k : Key). k .point) in
+      omega (arith, length-vertices F fs, lengths-are missing R coord 0 (runs (entries coord)))
+
+-- of a face set
 module _ (missing : Words4) (bs : List ℕ) where
   pub face-set-indices : length (faceSetMesh missing bs .indices) ≡ 3 * sumOver (triangles (pointCount (restOf bs))) (runsIn bs)
-  unfolding faceSetMesh mesh meshOf facesOf runsIn
-  face-set-indices =
-      let R = restOf bs in
-      let fs = facesOf missing R (coordIn bs) in
-      length-indices (frameOf R) fs (vertices (frameOf R) fs) ∙ widths-are missing R (coordIn bs) 0 (runsIn bs)
+  unfolding faceSetMesh runsIn
+  face-set-indices = list-indices missing (restOf bs) (coordIn bs) (frameOf (restOf bs))
 
   pub face-set-vertices : length (faceSetMesh missing bs .sources) ≤ sumOver (corners (pointCount (restOf bs))) (runsIn bs)
-  unfolding faceSetMesh mesh meshOf facesOf runsIn
-  face-set-vertices =
-      let R = restOf bs in
-      let fs = facesOf missing R (coordIn bs) in
-      let e = length-map (vertices (frameOf R) fs) (λ (k : Key). k .point) in
-      omega (arith, length-vertices (frameOf R) fs, lengths-are missing R (coordIn bs) 0 (runsIn bs))
+  unfolding faceSetMesh runsIn
+  face-set-vertices = list-vertices missing (restOf bs) (coordIn bs) (frameOf (restOf bs))

@@ -7,6 +7,7 @@ pub mod Usable
 pub mod Sums
 pub mod Corners
 pub mod Facts
+pub mod Primitives
 pub mod Dense
 mod Runs
 pub mod Bytes

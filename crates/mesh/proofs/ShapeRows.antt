@@ -34,9 +34,9 @@ use Rattle.mesh.specs.Vertices.{sameKey}
 use Rattle.mesh.specs.Normals.{orElse}
 use Rattle.mesh.specs.Mesh.{Mesh, slicesOf}
 use Rattle.mesh.specs.Texture.{widened, spanOf, divisor}
-use Rattle.mesh.specs.FaceSet.{restOf, coordIn, normalOf, colourOf, textureBy, cornerBy}
+use Rattle.mesh.specs.FaceSet.{restOf, coordIn, normalOf, colourOf, textureBy, cornerBy, convexFrame}
 use Rattle.mesh.specs.Quads.{tabs, quad}
-use Rattle.mesh.specs.Grid.{gridPoint, gridPoints, gridOf, gridDefault, gridCorner, gridFace, gridFaces, gridFrame, gridMesh}
+use Rattle.mesh.specs.Grid.{gridPoint, gridPoints, gridOf, gridDefault, gridCorner, gridFace, gridFaces, gridMesh}
 use Rattle.mesh.specs.Frames.{Axes, at, firstOf, lastOf, closed, alongEnd, yOwn, firstY, yAt, bend, zEnd, zOwn, firstZ, pickZ, prevZ, upright, bent, straight, axesAt}
 use Rattle.mesh.specs.SourceFrames.{forward, backward, first, ys, zRaw, copyEnds, zs, walk, sourceFrames}
 use Rattle.mesh.specs.Arcs.{at2, arcs2, arcs3, lengthTo, share, arcs, step3, step2}
@@ -71,12 +71,12 @@ flatFrame = record { points = 0 ∷ 0 ∷ 0 ∷ w1 ∷ 0 ∷ 0 ∷ 0 ∷ 0 ∷ w
 abbrev plain : ℕ → Corner
 plain p = record { point = p; gather = p; given = no3; colour = no4; texture = no2 }
 
-pub grid-soup : (gridFrame (gridOf bench) ≡ flatFrame)
+pub grid-soup : (convexFrame (gridOf bench) ≡ flatFrame)
     × (gridFaces white (gridOf bench) ≡ (plain 0 ∷ plain 2 ∷ plain 3 ∷ plain 1 ∷ []) ∷ [])
     × (sizesOf bench (headerOf bench) ≡ record { points = 4; corners = 4; indices = 6 })
     × (isNoShape (headerOf bench) ≡ false)
     × (isOverCorners bench (headerOf bench) ≡ false)
-unfolding grid gridHeader gridRest gridFrame gridOf gridPoints gridPoint gridFaces gridFace gridCorner cornerBy textureBy normalOf colourOf tabs tab flat quad headerOf countsOf editionOf edition1 settingsOf transformOf pairOr creaseOf placeOf listAt listSize widths wordsIn entries table field ofInt ofBits toBits mul le sizesOf gridSizes isNoShape isOverCorners
+unfolding grid gridHeader gridRest convexFrame gridOf gridPoints gridPoint gridFaces gridFace gridCorner cornerBy textureBy normalOf colourOf tabs tab flat quad headerOf countsOf editionOf edition1 settingsOf transformOf pairOr creaseOf placeOf listAt listSize widths wordsIn entries table field ofInt ofBits toBits mul le sizesOf gridSizes isNoShape isOverCorners
 grid-soup = (refl, refl, refl, refl, refl)
 
 abbrev benchMesh : Mesh

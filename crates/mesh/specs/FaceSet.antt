@@ -117,6 +117,17 @@ frameOf R =
       crease = R .settings .crease;
     }
 
+-- FORMAT 8.3, 8.5, elevation_grid (pm): convex whatever the bit says
+unfoldable pub convexFrame : Rest → Frame
+convexFrame R =
+    record {
+      points = R .points;
+      ccw = R .head .ccw;
+      convex = true;
+      supplied = R .head .normals;
+      crease = R .settings .crease;
+    }
+
 -- FORMAT 8.1, indexed_face_set
 unfoldable pub faceSetMesh : Words4 → List ℕ → Mesh
 faceSetMesh missing bs = mesh (frameOf (restOf bs)) (facesOf missing (restOf bs) (coordIn bs))

@@ -1,6 +1,5 @@
 -- FORMAT 8.3, elevation_grid: the block of a grid as a soup, and its mesh. ISO/IEC 14772-1, 6.17.
 use Prim.Native.Nat.{ℕ, _+_, _-_, _*_, _/_, _%_}
-use mathlib.Core.Bool.{true}
 use mathlib.Core.List.{List, []}
 use lib.ListN.{getD}
 use lib.IntN.{pos}
@@ -17,9 +16,9 @@ use Rattle.block.specs.Settings.{settingsOf}
 use Rattle.lists.specs.Loops.{tab}
 use Rattle.lists.specs.Lists.{flat}
 use Rattle.mesh.specs.Words.{words3}
-use Rattle.mesh.specs.Soup.{Corner, Face, Frame}
+use Rattle.mesh.specs.Soup.{Corner, Face}
 use Rattle.mesh.specs.Mesh.{Mesh, mesh}
-use Rattle.mesh.specs.FaceSet.{Rest, cornerBy}
+use Rattle.mesh.specs.FaceSet.{Rest, cornerBy, convexFrame}
 use Rattle.mesh.specs.Quads.{tabs, quad}
 
 -- FORMAT 2.4: the sides, which are counts with no list
@@ -86,17 +85,6 @@ gridFace missing G j i = quad (gridCorner missing G (i + j * (xDimension (G .hea
 unfoldable pub gridFaces : Words4 → Rest → List Face
 gridFaces missing G = tabs (gridFace missing G) (zDimension (G .head) - 1) (xDimension (G .head) - 1)
 
--- FORMAT 8.3, elevation_grid (pm): a grid is always convex
-unfoldable pub gridFrame : Rest → Frame
-gridFrame G =
-    record {
-      points = G .points;
-      ccw = G .head .ccw;
-      convex = true;
-      supplied = G .head .normals;
-      crease = G .settings .crease;
-    }
-
--- FORMAT 8.3, elevation_grid
+-- FORMAT 8.3, elevation_grid: a grid is always convex
 unfoldable pub gridMesh : Words4 → List ℕ → Mesh
-gridMesh missing bs = mesh (gridFrame (gridOf bs)) (gridFaces missing (gridOf bs))
+gridMesh missing bs = mesh (convexFrame (gridOf bs)) (gridFaces missing (gridOf bs))

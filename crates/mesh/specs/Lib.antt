@@ -1,4 +1,4 @@
--- The mesh of a soup, the soups of the four kinds, and what one changed run leaves as it was, by definition.
+-- The mesh of a soup, the soups of the kinds, and what one changed run leaves as it was, by definition.
 pub mod Words
 pub mod Soup
 pub mod Normals
@@ -15,6 +15,7 @@ pub mod SourceFrames
 pub mod Arcs
 pub mod Extrusion
 pub mod Lines
+pub mod Primitives
 pub mod Sizes
 pub mod Result
 pub mod OneRun

@@ -7,15 +7,16 @@ use Rattle.bits.specs.declared.Words4.{Words4}
 use Rattle.block.specs.declared.header.Header.{Header}
 use Rattle.block.specs.Header.{headerOf}
 use Rattle.block.specs.Kind.{byKind, isLines}
-use Rattle.mesh.specs.Mesh.{Mesh, noMesh, Slices, slicesOf}
+use Rattle.mesh.specs.Mesh.{Mesh, Slices, slicesOf}
 use Rattle.mesh.specs.FaceSet.{faceSetMesh}
 use Rattle.mesh.specs.Lines.{lineSetMesh}
 use Rattle.mesh.specs.Grid.{gridMesh}
 use Rattle.mesh.specs.Extrusion.{extrusionMesh}
+use Rattle.mesh.specs.Primitives.{primitiveMesh}
 
 -- FORMAT 8, convert: by kind
 unfoldable pub blockMesh : Words4 → List ℕ → Mesh
-blockMesh missing bs = byKind (headerOf bs .kind) (faceSetMesh missing bs) (lineSetMesh missing bs) (gridMesh missing bs) (extrusionMesh bs) noMesh
+blockMesh missing bs = byKind (headerOf bs .kind) (faceSetMesh missing bs) (lineSetMesh missing bs) (gridMesh missing bs) (extrusionMesh bs) (λ g. primitiveMesh missing g bs)
 
 -- FORMAT 5: for all but line sets
 abbrev pub makesNormals : Header → Bool
@@ -23,11 +24,11 @@ makesNormals h = not (isLines (h .kind))
 
 -- FORMAT 5: where present, but never for an extrusion
 abbrev pub makesColours : Header → Bool
-makesColours h = byKind (h .kind) (h .colors) (h .colors) (h .colors) false false
+makesColours h = byKind (h .kind) (h .colors) (h .colors) (h .colors) false (λ g. h .colors)
 
--- FORMAT 5: where wanted or, in face sets and grids, where texture points are present; never for a line set
+-- FORMAT 5: where wanted or, in all but extrusions, where texture points are present; never for a line set
 abbrev pub makesTextures : Header → Bool
-makesTextures h = byKind (h .kind) (h .«need_uvs» || h .«texture_points») false (h .«need_uvs» || h .«texture_points») (h .«need_uvs») false
+makesTextures h = byKind (h .kind) (h .«need_uvs» || h .«texture_points») false (h .«need_uvs» || h .«texture_points») (h .«need_uvs») (λ g. h .«need_uvs» || h .«texture_points»)
 
 -- FORMAT 5: what is made is written from the start of its slice, so an attribute that is not made leaves its slice as it was
 unfoldable pub madeOf : Header → Slices → Slices

@@ -6,12 +6,14 @@ use lib.Dec.{ltb}
 use lib.ListN.{getD}
 use Rattle.bits.specs.Bits.{entries}
 use Rattle.block.specs.declared.header.Header.{Header}
+use Rattle.block.specs.declared.topology.Topology.{Topology}
 use Rattle.block.specs.declared.refusal.Refusal.the-variants.{NoShape, Corners}
 use Rattle.block.specs.Edition.{limitOf}
 use Rattle.block.specs.Kind.{byKind}
 use Rattle.block.specs.Refusal.{Row, row}
 use Rattle.block.specs.Lists.{listBytes}
 use Rattle.block.specs.Runs.{Run, runs, corners, triangles, sumOver}
+use Rattle.primitives.specs.Primitives.{faceList}
 use Rattle.mesh.specs.Grid.{xDimension, zDimension}
 use Rattle.mesh.specs.Extrusion.{spineCount, sectionCount, sectionOf, capLength, hasCap}
 
@@ -21,7 +23,7 @@ pub record Sizes : Type 0 where
   pub corners : ℕ
   pub indices : ℕ
 
--- ---- face set
+-- ---- face set, and triangle, fan, strip or quad set
 
 -- FORMAT 6.1, 2.2: the runs of coordIndex, and the count of listed points
 abbrev pub coordRuns : List ℕ → Header → List Run
@@ -30,14 +32,19 @@ coordRuns bs h = runs (entries (listBytes bs h 1))
 abbrev pub listedPoints : Header → ℕ
 listedPoints h = getD (h .counts) 0 0
 
--- FORMAT 4, 6.2: the corners and the triangles of the kept faces
+-- FORMAT 4, 6.2: of p points and the runs rs, the corners and the triangles of the kept faces
+abbrev pub runSizes : ℕ → List Run → Sizes
+runSizes p rs = record { points = p; corners = sumOver (corners p) rs; indices = 3 * sumOver (triangles p) rs }
+
 unfoldable pub faceSetSizes : List ℕ → Header → Sizes
-faceSetSizes bs h =
-    record {
-      points = listedPoints h;
-      corners = sumOver (corners (listedPoints h)) (coordRuns bs h);
-      indices = 3 * sumOver (triangles (listedPoints h)) (coordRuns bs h);
-    }
+faceSetSizes bs h = runSizes (listedPoints h) (coordRuns bs h)
+
+-- FORMAT 4, 6.4: the runs of the face set that lists the primitives one by one
+abbrev pub listedRuns : Topology → List ℕ → Header → List Run
+listedRuns g bs h = runs (faceList (listedPoints h) g (entries (listBytes bs h 1)))
+
+unfoldable pub primitiveSizes : Topology → List ℕ → Header → Sizes
+primitiveSizes g bs h = runSizes (listedPoints h) (listedRuns g bs h)
 
 -- ---- line set
 
@@ -96,13 +103,9 @@ extrusionSizes bs h =
 
 -- ---- by kind
 
--- FORMAT 4: of a kind that there is not
-abbrev pub noSizes : Sizes
-noSizes = record { points = 0; corners = 0; indices = 0 }
-
 -- FORMAT 4: by kind
 unfoldable pub sizesOf : List ℕ → Header → Sizes
-sizesOf bs h = byKind (h .kind) (faceSetSizes bs h) (lineSetSizes bs h) (gridSizes h) (extrusionSizes bs h) noSizes
+sizesOf bs h = byKind (h .kind) (faceSetSizes bs h) (lineSetSizes bs h) (gridSizes h) (extrusionSizes bs h) (λ g. primitiveSizes g bs h)
 
 -- FORMAT 2.4: the count of the heights
 abbrev pub heightCount : Header → ℕ
@@ -118,12 +121,12 @@ isNoExtrusion h = ltb (spineCount h) 2 || ltb (sectionCount h) 2
 
 -- FORMAT 3, 6, no shape: grid side below 2, heights fewer than sides multiplied, spine or cross-section below 2
 unfoldable pub isNoShape : Header → Bool
-isNoShape h = byKind (h .kind) false false (isNoGrid h) (isNoExtrusion h) false
+isNoShape h = byKind (h .kind) false false (isNoGrid h) (isNoExtrusion h) (λ g. false)
 
 -- FORMAT 3, 7, corners: P or C above the edition's limit
 unfoldable pub isOverCorners : List ℕ → Header → Bool
 isOverCorners bs h = let s = sizesOf bs h in ltb (limitOf (h .edition)) (s .points) || ltb (limitOf (h .edition)) (s .corners)
 
--- FORMAT 3: the rows 6 and 7, of a block that the rows 1 to 5 let pass
+-- FORMAT 3: the rows 6 and 7, of a block that the rows 1 to 5 and 9 let pass
 unfoldable pub shapeRows : List ℕ → Header → List Row
 shapeRows bs h = row NoShape (isNoShape h) ∷ row Corners (isOverCorners bs h) ∷ []
