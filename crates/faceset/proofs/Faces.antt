@@ -1,22 +1,25 @@
 -- FORMAT 6.2, 8.1: the listings of the kept faces: how many, what each has, and that the faces made of them are those of the mesh.
-use mathlib.Core.Path.{_≡_, refl, ap, _∙_}
+use mathlib.Core.Path.{_≡_, refl, sym, ap, _∙_}
 use mathlib.Core.Bool.{Bool, true, false, cond}
 use mathlib.Core.List.{List, [], _∷_, _++_, map}
 use Prim.Native.Nat.{ℕ, suc, _+_, _≤_, _<_}
 use native.Mathlib.Nat.{not-suc-le-zero}
 use native.Mathlib.Omega.{arith}
-use lib.ListN.{length, getD, length-append}
+use lib.ListN.{length, getD, length-append, length-map}
+use lib.Seq.{ext-getD}
 use Rattle.bits.specs.Bits.{entries}
 use Rattle.bits.specs.declared.Words4.{Words4}
 use Rattle.block.specs.Runs.{Run, runOf, runs, kept, faces, sumOver}
 use Rattle.block.proofs.RunLaws.{kept-long, kept-below}
-use Rattle.lists.specs.Loops.{All}
+use Rattle.lists.specs.Loops.{tab, All}
 use Rattle.lists.specs.Lists.{mapN, joinN}
 use Rattle.mesh.specs.Soup.{Face, dense}
 use Rattle.mesh.specs.FaceSet.{Rest, pointCount, cornerOf, faceOf, facesOf}
-use Rattle.lists.proofs.Lists.{All-joinN, length-mapN}
-use Rattle.tables.specs.Listed.{Use, Listing, facesWith}
+use Rattle.lists.proofs.Lists.{All-joinN, length-mapN, getD-mapN, getD-map-lt}
+use Rattle.lists.proofs.Tabs.{length-tab, tab-at}
+use Rattle.tables.specs.Listed.{Use, noUse, Listing, facesWith}
 use Rattle.faceset.specs.Listings.{useOf, listingOf, listed, listingsOf, cornerUse}
+use Rattle.faceset.specs.Adding.{pointsUsed, placesUsed}
 
 -- ---- the first of the runs, and the rest
 
@@ -54,6 +57,24 @@ listings-all P points h ws = All-joinN P (listed points) (runOf 0 []) 0 (runs ws
 pub listings-long : (points : ℕ) (ws : List ℕ) → All (λ (l : Listing). 3 ≤ length (l .uses)) (listingsOf points ws)
 listings-long points ws = listings-all (λ (l : Listing). 3 ≤ length (l .uses)) points
     (λ n r e. let k = kept-long points (r .items) e in omega (arith, length-mapN useOf (r .start) (r .items))) ws
+
+-- use i of a run
+pub used-at : (s : ℕ) (es : List ℕ) (i : ℕ) → i < length es → getD (mapN useOf s es) i noUse ≡ useOf (s + i) (getD es i 0)
+used-at s es i h = getD-mapN useOf s es i noUse 0 h
+
+pub used-points : (s : ℕ) (es : List ℕ) → es ≡ pointsUsed (mapN useOf s es)
+unfolding mapN
+used-points s [] = refl
+used-points s (e ∷ es) = ap (λ (l : List ℕ). e ∷ l) (used-points (suc s) es)
+
+pub used-places : (s : ℕ) (es : List ℕ) → tab (λ i. s + i) (length es) 0 ≡ placesUsed (mapN useOf s es)
+used-places s es =
+    ext-getD 0 (tab (λ i. s + i) (length es) 0) (placesUsed (mapN useOf s es))
+    (length-tab (λ i. s + i) (length es) 0 ∙ sym (length-map (mapN useOf s es) (λ (u : Use). u .place) ∙ length-mapN useOf s es))
+    (λ i h.
+    let l : i < length es = omega (arith, length-tab (λ i. s + i) (length es) 0) in
+    tab-at (λ i. s + i) (length es) i 0 l
+    ∙ sym (getD-map-lt (λ (u : Use). u .place) (mapN useOf s es) i 0 noUse (omega (arith, length-mapN useOf s es)) ∙ ap (λ (u : Use). u .place) (used-at s es i l)))
 
 uses-below : (points s : ℕ) (es : List ℕ) → ((k : ℕ) → k < length es → getD es k 0 < points) → All (λ (u : Use). u .point < points) (mapN useOf s es)
 unfolding mapN

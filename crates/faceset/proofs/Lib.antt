@@ -1,5 +1,6 @@
--- The laws of the face set's tables; the first is what callers cite.
+-- The laws of the face set's tables; those of adding a face serve whatever lists faces.
 pub mod Faces
-mod Writing
+pub mod Writing
+pub mod Adding
 mod Turns
 mod ListingRows

@@ -1,14 +1,10 @@
 -- A pass over the runs: one run more, and all of them.
-use mathlib.Core.Path.{_≡_, refl, sym, ap, _∙_, subst}
-use mathlib.Core.Bool.{Bool, true, false}
+use mathlib.Core.Path.{_≡_, refl, sym, ap, _∙_}
+use mathlib.Core.Bool.{true, false}
 use mathlib.Core.List.{List, _∷_}
-use Prim.Native.Nat.{ℕ, zero, suc, _+_, _-_, _/_, _≤_, _<_}
-use native.Mathlib.Nat.{not-suc-le-zero}
+use Prim.Native.Nat.{ℕ, suc, _+_, _/_, _≤_, _<_}
 use native.Mathlib.Numerals.{add-one}
 use native.Mathlib.Omega.{arith}
-use borrow.Author.Count.{below-more}
-use borrow.Author.Tests.{ltb-true, ltb-false}
-use lib.Dec.{ltb}
 use lib.ListN.{length, getD, set, drop, length-drop}
 use lib.Seq.{drop-cons}
 use Rattle.bits.specs.Bits.{entries}
@@ -16,85 +12,18 @@ use Rattle.bits.proofs.Entries.{entries-length}
 use Rattle.block.specs.Runs.{runOf, runs, runsLeft, RunPart, nextStart, kept, faces, corners, sumOver}
 use Rattle.block.proofs.RunLaws.{runs-turn, sum-turn, sum-ended, kept-below, face-kept, face-lost}
 use Rattle.lists.specs.Lists.{mapN, joinN}
-use Rattle.lists.proofs.Lists.{length-mapN, getD-mapN}
+use Rattle.lists.proofs.Lists.{length-mapN}
 use Rattle.tables.specs.declared.layout.Plan.{Plan}
-use Rattle.tables.specs.Soups.{pointIn, startIn, placeIn}
-use Rattle.tables.specs.Listed.{Use, noUse, noListing, Listing, usesAt, Beside}
-use Rattle.lists.proofs.Keep.{set-hit}
-use Rattle.lists.proofs.Splices.{set-is}
-use Rattle.tables.proofs.Besides.{beside-all, beside-starts}
+use Rattle.tables.specs.Layout.{most}
+use Rattle.tables.specs.Listed.{Use, noUse, noListing, Beside}
+use Rattle.tables.proofs.Besides.{beside-all}
 use Rattle.faceset.specs.declared.listing.Progress.{Progress}
 use Rattle.faceset.specs.Listings.{useOf, listingOf, listed, listingsOf}
-use Rattle.faceset.specs.Passing.{Fits, faceAdded, Planned, ListedTo, Underway, Turned, FacesListed}
-use Rattle.faceset.proofs.Faces.{listings-kept, listings-lost, length-listings}
-use Rattle.faceset.proofs.Writing.{face-beside, start-old, number-old, point-old, place-old, start-new, number-new, point-new, place-new}
-
--- ---- one face more in the tables
-
-module _ {w : List ℕ} {t : Plan} {ls : List Listing} {g c : ℕ} (M : ListedTo w t ls g c) where
-  start-below : (k j : ℕ) → j + k ≡ g → startIn w t j ≤ c
-  start-below zero j h =
-      let e : j ≡ g = omega arith in
-      rw e (omega (arith, M .last))
-  start-below (suc k) j h = omega (arith, M .starts j (omega arith), start-below k (suc j) (omega arith))
-
-  -- the corners of face j stand below c
-  corner-below : (j i : ℕ) → j < g → i < length (usesAt ls j) → startIn w t j + i < c
-  corner-below j i h b = let q : suc j + (g - suc j) ≡ g = omega arith in omega (arith, M .starts j h, start-below (g - suc j) (suc j) q)
-
-module _ (es : List ℕ) {t : Plan} {p : Progress} {w : List ℕ} {ls : List Listing} (M : ListedTo w t ls (p .faces) (p .corner .0)) (F : Fits (length w) t p (length es))
-    (here : getD ls (p .faces) noListing ≡ listingOf (p .runs) (runOf (p .start) es)) (points : (k : ℕ) → k < length es → getD es k 0 < t .spots) where
-  abbrev w′ : List ℕ
-  w′ = faceAdded t p es w
-
-  start-here : startIn w′ t (p .faces) ≡ p .corner .0
-  start-here = start-old t p es w F (p .faces) (omega arith) ∙ M .last
-
-  uses-here : usesAt ls (p .faces) ≡ mapN useOf (p .start) es
-  uses-here = ap (λ (l : Listing). l .uses) here
-
-  count-here : length (usesAt ls (p .faces)) ≡ length es
-  count-here = ap length uses-here ∙ length-mapN useOf (p .start) es
-
-  use-here : (i : ℕ) → i < length es → getD (usesAt ls (p .faces)) i noUse ≡ useOf (p .start + i) (getD es i 0)
-  use-here i h = ap (λ (l : List Use). getD l i noUse) uses-here ∙ getD-mapN useOf (p .start) es i noUse 0 h
-
-  point-within : (k : ℕ) → k < p .corner .0 + length es → pointIn w′ t k < t .spots
-  point-within k h = go (ltb k (p .corner .0)) refl
-    where
-      go : (b : Bool) → ltb k (p .corner .0) ≡ b → pointIn w′ t k < t .spots
-      go true q = let l = ltb-true k (p .corner .0) q in rw (point-old t p es w F k l) (M .within k l)
-      go false q =
-          let l = ltb-false k (p .corner .0) q in
-          let b : k - p .corner .0 < length es = omega arith in
-          let e : p .corner .0 + (k - p .corner .0) ≡ k = omega arith in
-          subst (λ (m : ℕ). m < t .spots) (sym (point-new t p es w F (k - p .corner .0) b) ∙ ap (pointIn w′ t) e) (points (k - p .corner .0) b)
-
-  -- a table of the corners: as it is read, in w and in w′, and the part of a use that it holds
-  values-more : (read read′ : ℕ → ℕ) (value : Use → ℕ)
-      → ((k : ℕ) → k < p .corner .0 → read′ k ≡ read k)
-      → ((i : ℕ) → i < length es → read′ (p .corner .0 + i) ≡ value (useOf (p .start + i) (getD es i 0)))
-      → ((j i : ℕ) → j < p .faces → i < length (usesAt ls j) → read (startIn w t j + i) ≡ value (getD (usesAt ls j) i noUse))
-      → (j i : ℕ) → j < p .faces + 1 → i < length (usesAt ls j) → read′ (startIn w′ t j + i) ≡ value (getD (usesAt ls j) i noUse)
-  values-more read read′ value old new all j i h b =
-      below-more (λ (j : ℕ). (i : ℕ) → i < length (usesAt ls j) → read′ (startIn w′ t j + i) ≡ value (getD (usesAt ls j) i noUse)) (p .faces)
-      (λ j h i b. ap (λ (a : ℕ). read′ (a + i)) (start-old t p es w F j (omega arith)) ∙ old (startIn w t j + i) (corner-below M j i h b) ∙ all j i h b)
-      (λ i b.
-      let q : i < length es = omega (arith, count-here) in
-      ap (λ (a : ℕ). read′ (a + i)) start-here ∙ new i q ∙ sym (ap value (use-here i q))) j h i b
-
-  listed-more : ListedTo w′ t ls (p .faces + 1) (p .corner .0 + length es)
-  listed-more = record {
-    first = start-old t p es w F 0 (omega arith) ∙ M .first;
-    starts = below-more _ (p .faces)
-        (λ j h. start-old t p es w F (suc j) (omega arith) ∙ M .starts j h ∙ ap (λ (a : ℕ). a + length (usesAt ls j)) (sym (start-old t p es w F j (omega arith))))
-        (start-new t p es w F ∙ omega (arith, start-here, count-here));
-    last = rw add-one (start-new t p es w F);
-    within = point-within;
-    numbers = below-more _ (p .faces) (λ j h. number-old t p es w F j h ∙ M .numbers j h) (number-new t p es w F ∙ sym (ap (λ (l : Listing). l .number) here));
-    points = values-more (pointIn w t) (pointIn w′ t) (λ (u : Use). u .point) (point-old t p es w F) (point-new t p es w F) (M .points);
-    places = values-more (placeIn w t) (placeIn w′ t) (λ (u : Use). u .place) (place-old t p es w F) (place-new t p es w F) (M .places);
-  }
+use Rattle.faceset.specs.Adding.{Fits, faceAdded}
+use Rattle.faceset.specs.Passing.{Planned, Underway, Turned, FacesListed}
+use Rattle.faceset.proofs.Faces.{listings-kept, listings-lost, length-listings, used-at}
+use Rattle.faceset.proofs.Writing.{face-beside}
+use Rattle.faceset.proofs.Adding.{listed-none, listed-more, listed-all}
 
 -- ---- one run more
 
@@ -128,18 +57,19 @@ module _ {points : ℕ} {bs w : List ℕ} {t : Plan} {p : Progress} (L : Planned
       }
 
   module _ (e : kept points (entries r) ≡ true) where
-    pub turn-fits : Fits (length w) t p (length r / 4)
+    pub turn-fits : Fits (length w) t (p .faces) (p .corner .0) (length r / 4) × (p .start + length r / 4 ≤ most) × (p .runs ≤ most)
     turn-fits =
         let f = face-kept points (entries r) e in
         let l = entries-length r in
-        let b = B .within in
-        record {
-          room = L .room;
-          face = omega (arith, f .0, faces-turn, U .faces);
-          corners = omega (arith, f .1, corners-turn, U .corners);
-          places = omega (arith, L .few);
-          number = omega (arith, L .few, U .runs);
-        }
+        let b = B .within in (
+          record {
+            room = L .room;
+            face = omega (arith, f .0, faces-turn, U .faces);
+            corners = omega (arith, f .1, corners-turn, U .corners);
+          },
+          omega (arith, L .few),
+          omega (arith, L .few, U .runs),
+        )
 
     left-kept : drop (p .faces) (listingsOf points (entries bs)) ≡ listingOf (p .runs) (runOf (p .start) (entries r)) ∷ joinN (listed points) (suc (p .runs)) (runsLeft (entries bs) n)
     left-kept = left-turn ∙ listings-kept points (p .runs) (runOf (p .start) (entries r)) (runsLeft (entries bs) n) e
@@ -148,7 +78,10 @@ module _ {points : ℕ} {bs w : List ℕ} {t : Plan} {p : Progress} (L : Planned
     left-cons = drop-cons (listingsOf points (entries bs)) (p .faces) noListing
         (omega (arith, ap length left-kept, length-drop (p .faces) (listingsOf points (entries bs))))
 
-    pub turn-kept : {w′ : List ℕ} → w′ ≡ faceAdded t p (entries r) w
+    abbrev us : List Use
+    us = mapN useOf (p .start) (entries r)
+
+    pub turn-kept : {w′ : List ℕ} → w′ ≡ faceAdded t (p .faces) (p .corner .0) (p .runs) us w
         → Turned points bs w w′ t p (record { start = n; runs = p .runs + 1; faces = p .faces + 1; corner = record { 0 = p .corner .0 + length r / 4 } })
     turn-kept A =
         let f = face-kept points (entries r) e in
@@ -157,16 +90,17 @@ module _ {points : ℕ} {bs w : List ℕ} {t : Plan} {p : Progress} (L : Planned
         let u = U .runs in
         let k = left-kept in
         let d = left-cons in
-        let Q : Fits (length w) t p (length (entries r)) = rw l turn-fits in
+        let m : length us ≡ length r / 4 = length-mapN useOf (p .start) (entries r) ∙ l in
+        let Q : Fits (length w) t (p .faces) (p .corner .0) (length us) = rw m (turn-fits .0) in
         rw A (record {
-          beside = face-beside t p (entries r) w Q;
+          beside = face-beside t (p .faces) (p .corner .0) (p .runs) us w Q;
           underway = record {
             start = omega arith;
             runs = omega arith;
             faces = omega (arith, f .0, faces-turn, U .faces);
             corners = omega (arith, f .1, corners-turn, U .corners);
             left = rw (add-one (p .faces), add-one (p .runs)) (cc);
-            made = rw l at (listed-more (entries r) (U .made) Q (cc) (λ i c. rw (L .spots) (kept-below points (entries r) e i c)));
+            made = rw m at (listed-more {number = p .runs} {us = us} (U .made) Q (cc) (λ i c. rw (used-at (p .start) (entries r) i (omega arith), L .spots) (kept-below points (entries r) e i (omega arith))));
           };
           later = omega arith;
         })
@@ -174,17 +108,8 @@ module _ {points : ℕ} {bs w : List ℕ} {t : Plan} {p : Progress} (L : Planned
 -- ---- all runs
 
 module _ {points : ℕ} {bs : List ℕ} (w : List ℕ) {t : Plan} (L : Planned points bs (length w) t) where
-  pub first-beside : Beside t w (set w (t .starts) 0)
-  first-beside =
-      let R = L .room in
-      beside-starts w (t .starts) _ (set-is w (t .starts) 0 (omega arith)) refl (omega arith) (omega arith) (omega arith)
-
   pub planned-beside : {w′ : List ℕ} → Beside t w w′ → Planned points bs (length w′) t
   planned-beside B = rw (B .len) L
-
-  first-start : startIn (set w (t .starts) 0) t 0 ≡ 0
-  unfolding startIn
-  first-start = let R = L .room in set-hit w (t .starts) 0 (t .starts + 0) (omega arith) (omega arith)
 
   pub pass-start : Underway points bs (set w (t .starts) 0) t (record { start = 0; runs = 0; faces = 0; corner = record { 0 = 0 } })
   unfolding listingsOf
@@ -194,35 +119,15 @@ module _ {points : ℕ} {bs : List ℕ} (w : List ℕ) {t : Plan} (L : Planned p
     faces = omega (arith, L .faces);
     corners = omega (arith, L .count);
     left = refl;
-    made = record {
-      first = first-start;
-      starts = λ j h. absurd (not-suc-le-zero h);
-      last = first-start;
-      within = λ k h. absurd (not-suc-le-zero h);
-      numbers = λ j h. absurd (not-suc-le-zero h);
-      points = λ j i h b. absurd (not-suc-le-zero h);
-      places = λ j i h b. absurd (not-suc-le-zero h);
-    };
+    made = listed-none w (L .room);
   }
 
   pub pass-end : {w′ : List ℕ} {p : Progress} → Beside t w w′ → Underway points bs w′ t p → length bs / 4 ≤ p .start → FacesListed points bs t w w′
   unfolding listingsOf
   pass-end {w′} {p} B U h =
-      let g = sum-ended (faces points) bs (p .start) (p .faces) (t .faces) h (U .faces) in
-      let c = sum-ended (corners points) bs (p .start) (p .corner .0) (t .count) h (U .corners) in
-      let M : ListedTo w′ t (listingsOf points (entries bs)) (t .faces) (t .count) = rw (g, c) at (U .made) in
       record {
-        listed = record {
-          room = rw (B .len) (L .room);
-          gathers = L .gathers;
-          faces = length-listings points 0 (runs (entries bs)) ∙ sym (L .faces);
-          first = M .first;
-          starts = M .starts;
-          last = M .last;
-          within = M .within;
-          numbers = M .numbers;
-          points = M .points;
-          places = M .places;
-        };
+        listed = listed-all (rw (B .len) (L .room)) (L .gathers) (length-listings points 0 (runs (entries bs)) ∙ sym (L .faces))
+            (sum-ended (faces points) bs (p .start) (p .faces) (t .faces) h (U .faces))
+            (sum-ended (corners points) bs (p .start) (p .corner .0) (t .count) h (U .corners)) (U .made);
         beside = B;
       }

@@ -1,19 +1,17 @@
 -- FORMAT 6.1, 6.2: a pass over the runs of coordIndex that lists the kept ones.
 use mathlib.Core.Path.{_≡_}
 use mathlib.Core.List.{List}
-use Prim.Native.Nat.{ℕ, suc, _+_, _/_, _≤_, _<_}
-use lib.ListN.{length, getD, set, drop}
+use Prim.Native.Nat.{ℕ, _+_, _/_, _≤_, _<_}
+use lib.ListN.{length, drop}
 use Rattle.bits.specs.Bits.{entries}
 use Rattle.block.specs.Runs.{runs, runsLeft, faces, corners, sumOver}
-use Rattle.lists.specs.Loops.{tab}
 use Rattle.lists.specs.Lists.{joinN}
-use Rattle.lists.specs.Parts.{spliced}
 use Rattle.tables.specs.declared.layout.Plan.{Plan}
 use Rattle.tables.specs.Layout.{most, Room}
-use Rattle.tables.specs.Soups.{pointIn, startIn, numberIn, placeIn}
-use Rattle.tables.specs.Listed.{noUse, noListing, Listing, usesAt, Beside, Listed}
+use Rattle.tables.specs.Listed.{Beside, Listed}
 use Rattle.faceset.specs.declared.listing.Progress.{Progress}
 use Rattle.faceset.specs.Listings.{listed, listingsOf}
+use Rattle.faceset.specs.Adding.{ListedTo}
 
 -- the plan is that of the kept faces of coordIndex, whose bytes are bs, in len words (FORMAT 3: no list has more than 8,192 entries)
 pub record Planned (points : ℕ) (bs : List ℕ) (len : ℕ) (t : Plan) : Type 0 where
@@ -23,31 +21,6 @@ pub record Planned (points : ℕ) (bs : List ℕ) (len : ℕ) (t : Plan) : Type 
   pub faces : t .faces ≡ sumOver (faces points) (runs (entries bs))
   pub count : t .count ≡ sumOver (corners points) (runs (entries bs))
   pub few : length bs / 4 ≤ most
-
--- there is room for one more face, of n corners
-pub record Fits (len : ℕ) (t : Plan) (p : Progress) (n : ℕ) : Type 0 where
-  pub room : Room len t
-  pub face : p .faces < t .faces
-  pub corners : p .corner .0 + n ≤ t .count
-  pub places : p .start + n ≤ most
-  pub number : p .runs ≤ most
-
--- one more face, of the entries es: the points and the places of its corners, its number, and the first corner after it
-unfoldable pub faceAdded : Plan → Progress → List ℕ → List ℕ → List ℕ
-faceAdded t p es w =
-    let c = p .corner .0 in
-    let placed = spliced (spliced w (t .corners + c) es) (t .places + c) (tab (λ i. p .start + i) (length es) 0) in
-    set (set placed (t .numbers + p .faces) (p .runs)) (t .starts + suc (p .faces)) (c + length es)
-
--- the first g of the faces ls are listed, with their c corners: Listed, as far as it has come
-pub record ListedTo (w : List ℕ) (t : Plan) (ls : List Listing) (g c : ℕ) : Type 0 where
-  pub first : startIn w t 0 ≡ 0
-  pub starts : (j : ℕ) → j < g → startIn w t (suc j) ≡ startIn w t j + length (usesAt ls j)
-  pub last : startIn w t g ≡ c
-  pub within : (k : ℕ) → k < c → pointIn w t k < t .spots
-  pub numbers : (j : ℕ) → j < g → numberIn w t j ≡ getD ls j noListing .number
-  pub points : (j i : ℕ) → j < g → i < length (usesAt ls j) → pointIn w t (startIn w t j + i) ≡ getD (usesAt ls j) i noUse .point
-  pub places : (j i : ℕ) → j < g → i < length (usesAt ls j) → placeIn w t (startIn w t j + i) ≡ getD (usesAt ls j) i noUse .place
 
 -- the runs before p .start are passed: what they give is listed, and what is left is given by the runs that are left
 pub record Underway (points : ℕ) (bs w : List ℕ) (t : Plan) (p : Progress) : Type 0 where

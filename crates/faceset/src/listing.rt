@@ -8,7 +8,10 @@ ghost use Rattle.block.specs.Runs.{kept};
 ghost use Rattle.tables.specs.Layout.{most, Room};
 ghost use Rattle.lists.specs.Loops.{tab};
 ghost use Rattle.lists.specs.Parts.{spliced};
-ghost use Rattle.faceset.specs.Passing.{Fits, faceAdded, Planned, Underway, Turned, FacesListed};
+ghost use Rattle.lists.specs.Lists.{mapN};
+ghost use Rattle.faceset.specs.Listings.{useOf};
+ghost use Rattle.faceset.specs.Adding.{Fits, faceAdded};
+ghost use Rattle.faceset.specs.Passing.{Planned, Underway, Turned, FacesListed};
 use block::CornerNumber;
 use block::is_kept;
 use block::next_start;
@@ -54,7 +57,7 @@ fn put_places(work: &mut [u32], t: Plan, from: CornerNumber, start: usize, n: us
 }
 
 // The number of kept face `face`, and the first corner after it.
-fn put_row(work: &mut [u32], t: Plan, face: usize, number: usize, next: CornerNumber)
+pub fn put_row(work: &mut [u32], t: Plan, face: usize, number: usize, next: CornerNumber)
     requires { ⌜ Room (length (now work)) t × (face < t .faces) × (number ≤ most) × (next .0 ≤ most) ⌝ }
     ensures { λ _. ⌜ now (work .exit) ≡ set (set (now (work .entry)) (t .numbers + face) number) (t .starts + (face + 1)) (next .0) ⌝ }
 {
@@ -64,8 +67,8 @@ fn put_row(work: &mut [u32], t: Plan, face: usize, number: usize, next: CornerNu
 
 // A kept run, listed as the next face.
 fn put_face(run: &[u8], work: &mut [u32], t: Plan, p: Progress)
-    requires { ⌜ Fits (length (now work)) t p (length (now run) / 4) × (kept (t .spots) (entries (now run)) ≡ true) ⌝ }
-    ensures { λ _. ⌜ now (work .exit) ≡ faceAdded t p (entries (now (run .entry))) (now (work .entry)) ⌝ }
+    requires { ⌜ Fits (length (now work)) t (p .faces) (p .corner .0) (length (now run) / 4) × (p .start + length (now run) / 4 ≤ most) × (p .runs ≤ most) × (kept (t .spots) (entries (now run)) ≡ true) ⌝ }
+    ensures { λ _. ⌜ now (work .exit) ≡ faceAdded t (p .faces) (p .corner .0) (p .runs) (mapN useOf (p .start) (entries (now (run .entry)))) (now (work .entry)) ⌝ }
 {
     let n = run.len() / 4;
     let from = p.corner;

@@ -4,7 +4,8 @@ use lib.ListN.{length}
 use Rattle.tables.specs.Listed.{Beside}
 use Rattle.tables.proofs.Besides.{beside-all, beside-then}
 use Rattle.faceset.specs.Passing.{Planned, Underway}
-use Rattle.faceset.proofs.Turns.{first-beside, planned-beside, pass-start, pass-end}
+use Rattle.faceset.proofs.Adding.{first-beside}
+use Rattle.faceset.proofs.Turns.{planned-beside, pass-start, pass-end}
 use borrow.Author.Needs.{needs}
 use Rattle.faceset.proofs.listing.list_faces.Statement.{statement}
 use Rattle.faceset.proofs.listing.list_faces.Tie as tie
@@ -24,7 +25,7 @@ slice-write-work c = search needs
 loop-holds : tie.Need-loop-holds Inv-loop μ-loop
 loop-holds c =
     let c2 = c .before .before in
-    (planned-beside _ (c2 .pre) (first-beside (c2 .args .work .now) (c2 .pre)), beside-all, pass-start (c2 .args .work .now) (c2 .pre))
+    (planned-beside _ (c2 .pre) (first-beside (c2 .args .work .now) (c2 .pre .room)), beside-all, pass-start (c2 .args .work .now) (c2 .pre))
 
 pass-run-requires : tie.Need-pass-run-requires Inv-loop μ-loop
 pass-run-requires c κs = (c .before .before .before .loop .inv .0, c .before .before .before .loop .inv .2, c .before .if1 .taken)
@@ -36,13 +37,13 @@ loop-again : tie.Need-loop-again Inv-loop μ-loop
 loop-again c = let E = c .before .before .pass-run .ensures in (planned-beside _ (c .before .before .before .before .before .before .loop .inv .0) (E .beside), beside-then (c .before .before .before .before .before .before .loop .inv .1) (E .beside), E .underway)
 
 same-length : tie.Need-same-length Inv-loop μ-loop
-same-length c = let k = first-beside (c .before .before .before .before .before .args .work .now) (c .before .before .before .before .before .pre) in omega (arith, k .len, c .before .before .loop .inv .1 .len)
+same-length c = let k = first-beside (c .before .before .before .before .before .args .work .now) (c .before .before .before .before .before .pre .room) in omega (arith, k .len, c .before .before .loop .inv .1 .len)
 
 returns : tie.Need-returns Inv-loop μ-loop
 returns c =
     let c2 = c .before .before in
     let c5 = c2 .before .before .before in
-    pass-end (c5 .args .work .now) (c5 .pre) (beside-then (first-beside (c5 .args .work .now) (c5 .pre)) (c2 .loop .inv .1)) (c2 .loop .inv .2) (c .if1 .left)
+    pass-end (c5 .args .work .now) (c5 .pre) (beside-then (first-beside (c5 .args .work .now) (c5 .pre .room)) (c2 .loop .inv .1)) (c2 .loop .inv .2) (c .if1 .left)
 
 pub list-faces-spec : {M : Type 1} → statement M
 list-faces-spec =

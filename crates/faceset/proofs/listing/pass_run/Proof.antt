@@ -19,7 +19,8 @@ put-face-requires c κs =
     let c4 = c2 .before .before in
     let c8 = c4 .before .before .before .before in
     let e = sym (c2 .is-kept .ensures) ∙ c .before .if1 .taken in
-    (turn-fits (c8 .pre .0) (c8 .pre .1) (c8 .pre .2) (c4 .before .run-at .ensures) (c4 .next-start .ensures) e, rw (c8 .pre .0 .spots) e)
+    let q = turn-fits (c8 .pre .0) (c8 .pre .1) (c8 .pre .2) (c4 .before .run-at .ensures) (c4 .next-start .ensures) e in
+    (q .0, q .1, q .2, rw (c8 .pre .0 .spots) e)
 
 add-t13 : tie.Need-add-t13
 add-t13 c = search needs
