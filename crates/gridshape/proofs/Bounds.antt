@@ -50,7 +50,7 @@ module _ {bs : List ℕ} {h : Header} {s : Settings} {o : Slices} {w f : ℕ} (A
 
   shape : (2 ≤ xDimension h) × (2 ≤ zDimension h) × (xDimension h * zDimension h ≤ getD (h .counts) 3 0)
   unfolding isNoShape
-  shape = shape-of h (sym (ap (λ (k : Kind). byKind k false false (isNoGrid h) (isNoExtrusion h) false) (A .kind)) ∙ A .accepted .shape)
+  shape = shape-of h (sym (ap (λ (k : Kind). byKind k false false (isNoGrid h) (isNoExtrusion h) (λ g. false)) (A .kind)) ∙ A .accepted .shape)
 
   pub sides : Sides h
   unfolding gridSizes

@@ -19,7 +19,8 @@ use Rattle.lists.proofs.Lists.{getD-map-lt}
 use Rattle.lists.proofs.Tabs.{tab-at, length-tab}
 use Rattle.mesh.specs.Mesh.{mesh}
 use Rattle.mesh.specs.Quads.{quad}
-use Rattle.mesh.specs.Grid.{xDimension, zDimension, gridPoints, gridDefault, gridOf, gridFrame, gridMesh}
+use Rattle.mesh.specs.FaceSet.{convexFrame}
+use Rattle.mesh.specs.Grid.{xDimension, zDimension, gridPoints, gridDefault, gridOf, gridMesh}
 use Rattle.tables.specs.Listed.{Use, Listing, noUse, noListing, facesWith, usesAt}
 use Rattle.texture.specs.Corner.{textureIn}
 use Rattle.soups.specs.Attributes.{attributesOf}
@@ -71,8 +72,8 @@ module _ (missing : Words4) (bs : List ℕ) where
   mesh-own : 2 ≤ xDimension (headerOf bs) → gridMesh missing bs
       ≡ mesh (frameBy (gridPoints (headerOf bs) (settingsOf bs) (entries (listBytes bs (headerOf bs) 3))) (listedShared missing true (headerOf bs)) (settingsOf bs .crease))
       (facesWith (gridUse missing (gridOf bs)) (gridListings (xDimension (headerOf bs)) (zDimension (headerOf bs))))
-  unfolding gridMesh gridFrame gridOf frameBy listedShared attributesOf
-  mesh-own h = ap (mesh (gridFrame (gridOf bs))) (grid-faces missing (gridOf bs) h)
+  unfolding gridMesh convexFrame gridOf frameBy listedShared attributesOf
+  mesh-own h = ap (mesh (convexFrame (gridOf bs))) (grid-faces missing (gridOf bs) h)
 
   -- with the header, the settings, what the faces share and the empty coordIndex as the code has them
   module _ {h : Header} {s : Settings} {sh : Shared} (eh : h ≡ headerOf bs) (es : s ≡ settingsOf bs) (q : sh ≡ listedShared missing true h) where

@@ -12,11 +12,13 @@ use Rattle.bits.specs.Bits.{entries}
 use Rattle.block.specs.declared.header.Header.{Header}
 use Rattle.block.specs.declared.runs.Totals.{Totals}
 use Rattle.block.specs.Lists.{listBytes}
-use Rattle.block.specs.Runs.{runs, faces, corners, triangles, sumOver, totals}
+use Rattle.block.specs.Runs.{Run, runs, faces, sumOver, totals}
+use Rattle.block.specs.declared.topology.Topology.{Topology}
 use Rattle.block.specs.declared.kind.Kind.{Kind}
 use Rattle.block.specs.declared.kind.Kind.the-variants.{Grid, Extrusion}
 use Rattle.block.specs.Kind.{byKind}
 use Rattle.block.proofs.Table.{or-none, count-low}
+use Rattle.primitives.specs.Primitives.{faceList}
 use Rattle.mesh.specs.Extrusion.{spineCount, sectionCount, sectionOf, extrusionOf, capLength}
 use Rattle.mesh.specs.Grid.{xDimension, zDimension}
 use Rattle.mesh.specs.Sizes as spec
@@ -26,11 +28,22 @@ use Rattle.extrusion.specs.Given.{Given}
 use Rattle.extrusion.proofs.Blocks.{given-of, section-of, section-long}
 use Rattle.extrusion.proofs.Joined.{cap-fits}
 use Rattle.sizes.specs.declared.kinds.Sizes.{Sizes}
-use Rattle.sizes.specs.Known.{Known, Sides, setFaces, facesIn, Are, Counted}
+use Rattle.sizes.specs.Known.{Known, Sides, setFaces, primitiveFaces, facesIn, Are, Counted}
 
 -- ---- the sizes of each kind
 
 module _ (bs : List ℕ) (h : Header) where
+  -- of the runs rs
+  runs-are : (rs : List Run) (t : Totals) (p : ℕ) → t ≡ totals (spec.listedPoints h) rs → p ≡ spec.listedPoints h
+      → Are (spec.runSizes (spec.listedPoints h) rs) (sumOver (faces (spec.listedPoints h)) rs) (record { points = p; corners = t .corners; indices = 3 * t .triangles; faces = t .faces })
+  runs-are rs t p et ep =
+      record {
+        points = ep;
+        corners = ap (λ (t : Totals). t .corners) et;
+        indices = ap (λ (t : Totals). 3 * t .triangles) et;
+        faces = ap (λ (t : Totals). t .faces) et;
+      }
+
   -- from the list l
   module _ (l : List ℕ) (el : l ≡ listBytes bs h 1) where
     over-list : (f : List ℕ → ℕ) (n : ℕ) → n ≡ sumOver f (runs (entries l)) → n ≡ sumOver f (runs (entries (listBytes bs h 1)))
@@ -39,13 +52,13 @@ module _ (bs : List ℕ) (h : Header) where
     pub face-set-are : (t : Totals) (p : ℕ) → t ≡ totals (spec.listedPoints h) (runs (entries l)) → p ≡ spec.listedPoints h
         → Are (spec.faceSetSizes bs h) (setFaces bs h) (record { points = p; corners = t .corners; indices = 3 * t .triangles; faces = t .faces })
     unfolding spec.faceSetSizes setFaces
-    face-set-are t p et ep =
-        record {
-          points = ep;
-          corners = over-list (corners (spec.listedPoints h)) (t .corners) (ap (λ (t : Totals). t .corners) et);
-          indices = ap (λ (n : ℕ). 3 * n) (over-list (triangles (spec.listedPoints h)) (t .triangles) (ap (λ (t : Totals). t .triangles) et));
-          faces = over-list (faces (spec.listedPoints h)) (t .faces) (ap (λ (t : Totals). t .faces) et);
-        }
+    face-set-are t p et ep = runs-are (spec.coordRuns bs h) t p (et ∙ ap (λ (l : List ℕ). totals (spec.listedPoints h) (runs (entries l))) el) ep
+
+    pub primitives-are : (g : Topology) (t : Totals) (p : ℕ) → t ≡ totals (spec.listedPoints h) (runs (faceList (spec.listedPoints h) g (entries l))) → p ≡ spec.listedPoints h
+        → Are (spec.primitiveSizes g bs h) (primitiveFaces g bs h) (record { points = p; corners = t .corners; indices = 3 * t .triangles; faces = t .faces })
+    unfolding spec.primitiveSizes primitiveFaces
+    primitives-are g t p et ep =
+        runs-are (spec.listedRuns g bs h) t p (et ∙ ap (λ (l : List ℕ). totals (spec.listedPoints h) (runs (faceList (spec.listedPoints h) g (entries l)))) el) ep
 
     pub line-set-are : (c n p : ℕ) → c ≡ sumOver (spec.named (spec.listedPoints h)) (runs (entries l))
         → n ≡ sumOver (spec.linesAfter (spec.listedPoints h) false) (runs (entries l)) → p ≡ spec.listedPoints h
@@ -75,10 +88,10 @@ module _ (bs : List ℕ) (h : Header) where
 
   -- by kind
   pub of-kind : (r : Sizes) {k : Kind} → h .kind ≡ k
-      → Are (byKind k (spec.faceSetSizes bs h) (spec.lineSetSizes bs h) (spec.gridSizes h) (spec.extrusionSizes bs h) spec.noSizes) (byKind k (setFaces bs h) 0 0 0 0) r → Counted bs h r
+      → Are (byKind k (spec.faceSetSizes bs h) (spec.lineSetSizes bs h) (spec.gridSizes h) (spec.extrusionSizes bs h) (λ g. spec.primitiveSizes g bs h)) (byKind k (setFaces bs h) 0 0 0 (λ g. primitiveFaces g bs h)) r → Counted bs h r
   unfolding spec.sizesOf facesIn
   of-kind r e A =
-      subst (λ (k : Kind). Are (byKind k (spec.faceSetSizes bs h) (spec.lineSetSizes bs h) (spec.gridSizes h) (spec.extrusionSizes bs h) spec.noSizes) (byKind k (setFaces bs h) 0 0 0 0) r)
+      subst (λ (k : Kind). Are (byKind k (spec.faceSetSizes bs h) (spec.lineSetSizes bs h) (spec.gridSizes h) (spec.extrusionSizes bs h) (λ g. spec.primitiveSizes g bs h)) (byKind k (setFaces bs h) 0 0 0 (λ g. primitiveFaces g bs h)) r)
       (sym e) A
 
 -- ---- what is known of each kind

@@ -76,17 +76,17 @@ module _ (bs : List ℕ) (h : Header) where
   abbrev pub rows : ℕ
   rows = firstOf (blockRows bs h ++ shapeRows bs h)
 
-  -- n is the answer of the first five, and m that of the others
+  -- n is the answer of the block's rows, and m that of the others
   module _ (n : ℕ) (e : n ≡ firstOf (blockRows bs h)) where
-    pub first-five : (n ≡ 0 → ⊥) → n ≡ rows
-    first-five a = e ∙ sym (first-before (blockRows bs h) (shapeRows bs h) (λ z. a (e ∙ z)))
+    pub block-rows : (n ≡ 0 → ⊥) → n ≡ rows
+    block-rows a = e ∙ sym (first-before (blockRows bs h) (shapeRows bs h) (λ z. a (e ∙ z)))
 
     module _ (z : n ≡ 0) where
       pub taken-by : Taken bs h
       taken-by = taken-of bs h (sym e ∙ z)
 
-      pub last-two : (m : ℕ) → m ≡ firstOf (shapeRows bs h) → m ≡ rows
-      last-two m em = em ∙ sym (first-after (blockRows bs h) (shapeRows bs h) (block-answered bs h) (sym e ∙ z))
+      pub shape-rows : (m : ℕ) → m ≡ firstOf (shapeRows bs h) → m ≡ rows
+      shape-rows m em = em ∙ sym (first-after (blockRows bs h) (shapeRows bs h) (block-answered bs h) (sym e ∙ z))
 
 -- ---- the way back
 
@@ -104,6 +104,6 @@ accepted-of bs e = go (firstOf (blockRows bs (headerOf bs))) refl
   where
     go : (n : ℕ) → firstOf (blockRows bs (headerOf bs)) ≡ n → Accepted bs (headerOf bs) (settingsOf bs)
     go zero z =
-        let s = none-of (shapeRows bs (headerOf bs)) (shape-answered bs (headerOf bs)) (last-two bs (headerOf bs) 0 (sym z) refl _ refl ∙ e) in
+        let s = none-of (shapeRows bs (headerOf bs)) (shape-answered bs (headerOf bs)) (shape-rows bs (headerOf bs) 0 (sym z) refl _ refl ∙ e) in
         record { header = refl; settings = refl; taken = taken-of bs (headerOf bs) z; shape = s .0; corners = s .1 .0 }
-    go (suc n) z = let q : suc n ≡ 0 = first-five bs (headerOf bs) (suc n) (sym z) (λ (f : suc n ≡ 0). omega arith) ∙ e in absurd (omega arith)
+    go (suc n) z = let q : suc n ≡ 0 = block-rows bs (headerOf bs) (suc n) (sym z) (λ (f : suc n ≡ 0). omega arith) ∙ e in absurd (omega arith)

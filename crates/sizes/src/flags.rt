@@ -24,14 +24,14 @@ pub fn either(a: bool, b: bool) -> bool
 
 // Colours are made where they are present, but never for an extrusion.
 fn makes_colours(kind: Kind, colors: bool) -> bool
-    ensures { λ r. ⌜ r ≡ byKind kind colors colors colors false false ⌝ }
+    ensures { λ r. ⌜ r ≡ byKind kind colors colors colors false (λ g. colors) ⌝ }
 {
     match kind {
         Kind::FaceSet => colors,
         Kind::LineSet => colors,
         Kind::Grid => colors,
         Kind::Extrusion => false,
-        Kind::Other => false,
+        Kind::Primitives(_) => colors,
     }
 }
 

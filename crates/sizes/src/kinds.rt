@@ -5,12 +5,13 @@ ghost use lib.ListN.{getD};
 ghost use Rattle.extrusion.specs.Given.{Given};
 ghost use Rattle.mesh.specs.Sizes as spec;
 ghost use Rattle.tables.specs.Layout.{most};
-ghost use Rattle.sizes.specs.Known.{Sides, Known, setFaces, Are, Counted};
+ghost use Rattle.sizes.specs.Known.{Sides, Known, setFaces, primitiveFaces, Are, Counted};
 use block::Header;
 use block::Kind;
+use block::Topology;
 use tables::wide;
 
-// They are counted once a call, and handed on: what the tables of a face set are planned by is counted with them.
+// They are counted once a call, and handed on: what the tables of listed faces are planned by is counted with them.
 pub struct Sizes {
     pub points: usize,
     pub corners: usize,
@@ -36,6 +37,20 @@ fn face_set_sizes(block: &[u8], h: Header) -> Sizes
 {
     let n = h.counts;
     let t = block::face_totals(block::list_part(block, h, 1), n[0]);
+    Sizes {
+        points: wide(n[0]),
+        corners: t.corners,
+        indices: 3 * t.triangles,
+        faces: t.faces,
+    }
+}
+
+fn primitive_sizes(block: &[u8], h: Header, g: Topology) -> Sizes
+    requires { ⌜ getD (h .counts) 0 0 ≤ most ⌝ }
+    ensures { λ r. ⌜ Are (spec.primitiveSizes g (now (block .entry)) h) (primitiveFaces g (now (block .entry)) h) r ⌝ }
+{
+    let n = h.counts;
+    let t = primitives::primitive_totals(block::list_part(block, h, 1), n[0], g);
     Sizes {
         points: wide(n[0]),
         corners: t.corners,
@@ -118,11 +133,6 @@ pub fn sizes_of(block: &[u8], h: Header) -> Sizes
         Kind::LineSet => line_set_sizes(block, h),
         Kind::Grid => grid_sizes(h),
         Kind::Extrusion => extrusion_sizes(block, h),
-        Kind::Other => Sizes {
-            points: 0,
-            corners: 0,
-            indices: 0,
-            faces: 0,
-        },
+        Kind::Primitives(g) => primitive_sizes(block, h, g),
     }
 }

@@ -47,7 +47,7 @@ pub fn is_no_shape(h: Header) -> bool
         Kind::LineSet => false,
         Kind::Grid => is_no_grid(h),
         Kind::Extrusion => is_no_extrusion(h),
-        Kind::Other => false,
+        Kind::Primitives(_) => false,
     }
 }
 
@@ -57,7 +57,7 @@ pub enum Verdict {
     Passed(Sizes),
 }
 
-// The rows 6 and 7, of a block that the rows 1 to 5 let pass.
+// The rows 6 and 7, of a block that the rows 1 to 5 and 9 let pass.
 fn shape_verdict(block: &[u8], h: Header) -> Verdict
     requires { ⌜ (h ≡ headerOf (now block)) × Taken (now block) h ⌝ }
     ensures { λ r. ⌜ Judged (now (block .entry)) h (firstOf (shapeRows (now (block .entry)) h)) r ⌝ }
@@ -76,7 +76,7 @@ fn shape_verdict(block: &[u8], h: Header) -> Verdict
     Verdict::Passed(s)
 }
 
-// The rows 1 to 7.
+// All rows up to 7.
 pub fn verdict_to_7(block: &[u8], h: Header) -> Verdict
     requires { ⌜ h ≡ headerOf (now block) ⌝ }
     ensures { λ r. ⌜ Judged (now (block .entry)) h (firstOf (blockRows (now (block .entry)) h ++ shapeRows (now (block .entry)) h)) r ⌝ }

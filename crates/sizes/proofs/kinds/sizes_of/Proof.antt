@@ -1,5 +1,4 @@
-use mathlib.Core.Path.{refl}
-use Rattle.sizes.proofs.ByKind.{of-kind, grid-sides, extrusion-given}
+use Rattle.sizes.proofs.ByKind.{of-kind, count-few, grid-sides, extrusion-given}
 use borrow.Author.Needs.{needs}
 use Rattle.sizes.proofs.kinds.sizes_of.Statement.{statement}
 use Rattle.sizes.proofs.kinds.sizes_of.Tie as tie
@@ -16,8 +15,8 @@ enum-told-3 c = search needs
 enum-told-4 : tie.Need-enum-told-4
 enum-told-4 c = search needs
 
-enum-told-5 : tie.Need-enum-told-5
-enum-told-5 c = search needs
+enum-known-kind : tie.Need-enum-known-kind
+enum-known-kind c = search needs
 
 face-set-sizes-requires : tie.Need-face-set-sizes-requires
 face-set-sizes-requires c κs = search needs
@@ -43,8 +42,11 @@ extrusion-sizes-requires c κs = extrusion-given (c .before .before .before .pre
 returns-4 : tie.Need-returns-4
 returns-4 c = of-kind _ _ _ (c .before .enum-told4 .given .1) (c .extrusion-sizes .ensures)
 
+primitive-sizes-requires : tie.Need-primitive-sizes-requires
+primitive-sizes-requires c κs = count-few (c .before .before .before .before .pre) 0
+
 returns-5 : tie.Need-returns-5
-returns-5 c = of-kind _ _ _ (c .enum-told5 .given .1) (record { points = refl; corners = refl; indices = refl; faces = refl })
+returns-5 c = of-kind _ _ _ (c .before .before .kind .given .1) (c .primitive-sizes .ensures)
 
 pub sizes-of-spec : {M : Type 1} → statement M
-sizes-of-spec = tie.close (tie.spec enum-told face-set-sizes-requires enum-told-2 line-set-sizes-requires enum-told-3 grid-sizes-requires enum-told-4 extrusion-sizes-requires enum-told-5 returns returns-2 returns-3 returns-4 returns-5)
+sizes-of-spec = tie.close (tie.spec enum-told face-set-sizes-requires enum-told-2 line-set-sizes-requires enum-told-3 grid-sizes-requires enum-told-4 extrusion-sizes-requires enum-known-kind primitive-sizes-requires returns returns-2 returns-3 returns-4 returns-5)
