@@ -1,9 +1,10 @@
--- What ends a run, for those who write a list: -1 does, and the number of a point does not. FORMAT 6.1.
+-- What the entries of an index list say, for those who write one: -1 ends a run, and the number of a point neither does nor is negative. FORMAT 6.1, 7.1.
 use Prim.Native.Nat.{ℕ, _<_}
 use mathlib.Core.Path.{_≡_, refl}
 use mathlib.Core.Bool.{true, false}
 use borrow.Author.Tests.{lt-leb}
 use Rattle.block.specs.Runs.{endsRun}
+use Rattle.block.specs.Stream.{isNegative}
 
 pub minus-one-ends : endsRun 0xffff_ffff ≡ true
 unfolding endsRun
@@ -12,3 +13,7 @@ minus-one-ends = refl
 pub number-goes-on : (w : ℕ) → w < 0x8000_0000 → endsRun w ≡ false
 unfolding endsRun
 number-goes-on w h = lt-leb 0x8000_0000 w h
+
+pub not-negative : (w : ℕ) → w < 0x8000_0000 → isNegative w ≡ false
+unfolding isNegative
+not-negative w h = lt-leb 0x8000_0000 w h

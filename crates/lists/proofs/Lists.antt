@@ -54,6 +54,14 @@ pub All-of-map : {A B : Type 0} (P : B → Type 0) (f : A → B) (l : List A) �
 All-of-map P f [] h = tt
 All-of-map P f (x ∷ xs) h = (h .0, All-of-map P f xs (h .1))
 
+pub All-at-map : {A B : Type 0} (P : B → Type 0) (f : A → B) (l : List A) → All P (map f l) → All (λ (x : A). P (f x)) l
+All-at-map P f [] h = tt
+All-at-map P f (x ∷ xs) h = (h .0, All-at-map P f xs (h .1))
+
+pub All-both : {A : Type 0} (P Q : A → Type 0) (l : List A) → All P l → All Q l → All (λ (x : A). P x × Q x) l
+All-both P Q [] h k = tt
+All-both P Q (x ∷ xs) h k = ((h .0, k .0), All-both P Q xs (h .1) (k .1))
+
 module _ {A : Type 0} (Q : A → Type 0) where
   pub All-tab : (f : ℕ → A) (k i : ℕ) → ((t : ℕ) → t < k → Q (f (i + t))) → All Q (tab f k i)
   unfolding tab

@@ -1,6 +1,6 @@
 -- Lists of one width written one after another, from a place of a list on.
 use mathlib.Core.Path.{_≡_, refl, sym, ap, _∙_, subst}
-use mathlib.Core.List.{List, [], _∷_, _++_, append-assoc, append-nil}
+use mathlib.Core.List.{List, [], _∷_, _++_, map, map-append, append-assoc, append-nil}
 use Prim.Native.Nat.{ℕ, zero, suc, _+_, _-_, _*_, _≤_, _<_}
 use native.Mathlib.Nat.{zero-add, add-zero, suc-add, add-suc, mul-suc, mul-comm}
 use native.Mathlib.Numerals.{add-one}
@@ -21,6 +21,11 @@ module _ {A : Type 0} where
   unfolding flat
   flat-append [] y = refl
   flat-append (l ∷ x) y = ap (λ (r : List A). l ++ r) (flat-append x y) ∙ sym (append-assoc l (flat x) (flat y))
+
+  pub map-flat : {B : Type 0} (f : A → B) (l : List (List A)) → map f (flat l) ≡ flat (map (map f) l)
+  unfolding flat
+  map-flat f [] = refl
+  map-flat {B} f (x ∷ l) = map-append f x (flat l) ∙ ap (λ (r : List B). map f x ++ r) (map-flat f l)
 
   -- one piece more
   flat-more : (F : ℕ → List A) (i : ℕ) → flat (tab F (i + 1) 0) ≡ flat (tab F i 0) ++ F i

@@ -7,7 +7,7 @@ use native.Mathlib.Numerals.{add-one}
 use native.Mathlib.Omega.{arith}
 use lib.ListN.{length, getD, take, length-append, List·getD-append}
 use lib.Seq.{getD-append-add}
-use Rattle.lists.specs.Loops.{tab}
+use Rattle.lists.specs.Loops.{tab, All}
 use Rattle.lists.proofs.Tabs.{tab-shift, tab-add}
 use Rattle.lists.specs.Lists.{mapN, total, flat}
 
@@ -51,6 +51,12 @@ module _ {A : Type 0} where
   flat-place (x ∷ l) zero i d h b = rw (zero-add i) (List·getD-append x (flat l) d i b)
   flat-place (x ∷ l) (suc j) i d h b =
       rw (add-assoc (length x) (total length (take j l)) i) (getD-append-add x (flat l) (total length (take j l) + i) d ∙ flat-place l j i d (le-of-suc-le-suc h) b)
+
+-- elements of one size
+pub total-each : {A : Type 0} (f : A → ℕ) (c : ℕ) (l : List A) → All (λ (x : A). f x ≡ c) l → total f l ≡ c * length l
+unfolding total
+total-each f c [] h = sym (mul-zero c)
+total-each f c (x ∷ xs) h = let e = total-each f c xs (h .1) in let d = h .0 in let m = mul-add c 1 (length xs) in omega arith
 
 -- each size decided by the element alone
 pub total-mapN : {A B : Type 0} (size : B → ℕ) (by : A → ℕ) (g : ℕ → A → B) → ((n : ℕ) (x : A) → size (g n x) ≡ by x) → (n : ℕ) (l : List A) → total size (mapN g n l) ≡ total by l

@@ -2,16 +2,18 @@
 use Prim.Native.Nat.{ℕ, zero, suc, _+_, _-_, _*_, _%_, _≤_, _<_}
 use mathlib.Core.Path.{_≡_, refl, sym, ap, _∙_}
 use mathlib.Core.Bool.{Bool, true, false, cond}
-use mathlib.Core.List.{List, [], _∷_, _++_, map, map-append, append-assoc, append-nil}
+use mathlib.Core.List.{List, [], _∷_, _++_, map, map-append, map-map, append-assoc, append-nil}
 use native.Mathlib.Omega.{arith}
-use native.Mathlib.Nat.{mul-zero, mul-le-mul}
+use native.Mathlib.Nat.{mul-le-mul}
 use borrow.Author.Tests.{ltb-true}
 use lib.Dec.{eqb, ltb}
 use lib.ListN.{length, length-map}
 use Rattle.lists.specs.Loops.{tab, All}
 use Rattle.lists.specs.Lists.{flat, total}
 use Rattle.lists.proofs.Lists.{All-map, All-of, All-of-map, All-by, All-flat}
-use Rattle.lists.proofs.Pieces.{flat-append}
+use Rattle.lists.proofs.Pieces.{flat-append, map-flat}
+use Rattle.lists.proofs.Tabs.{map-tab}
+use Rattle.lists.proofs.Totals.{total-each}
 use Rattle.lists.proofs.Tests.{and-left, and-right}
 use Rattle.block.specs.declared.topology.Topology.{Topology}
 use Rattle.block.specs.declared.topology.Topology.the-variants.{Triangles, Fans, Strips, Quads}
@@ -100,6 +102,24 @@ module _ {A : Type 0} (P : A → Type 0) (points : ℕ) (g : Topology) where
   all-over a rs h = All-flat P (map (λ (r : Run). keptBy (a r) points g (r .items)) rs)
       (All-of-map (λ (x : List A). All P x) (λ (r : Run). keptBy (a r) points g (r .items)) rs (All-map (λ r f. all-kept (a r) (r .items) f) rs h))
 
+-- what is said of them can be said in two steps
+module _ {A B : Type 0} (f : A → B) (points : ℕ) (g : Topology) where
+  pub map-kept : (a : ℕ → A) (es : List ℕ) → map f (keptBy a points g es) ≡ keptBy (λ k. f (a k)) points g es
+  unfolding keptBy pieceOf
+  map-kept a es =
+      map-flat f (tab (pieceOf a points g es) (primitiveCount g (length es)) 0)
+      ∙ ap flat (map-tab (pieceOf a points g es) (map f) (primitiveCount g (length es)) 0 ∙ (λ i. tab (λ k. one k (allBelow points (primitiveOf g es k)) i) (primitiveCount g (length es)) 0))
+    where
+      one : (k : ℕ) (b : Bool) → map f (cond b (a k ∷ []) []) ≡ cond b (f (a k) ∷ []) []
+      one k true = refl
+      one k false = refl
+
+  pub map-over : (a : Run → ℕ → A) (rs : List Run) → map f (keptOver a points g rs) ≡ keptOver (λ r k. f (a r k)) points g rs
+  unfolding keptOver
+  map-over a rs =
+      map-flat f (map (λ (r : Run). keptBy (a r) points g (r .items)) rs)
+      ∙ ap flat (map-map (map f) (λ (r : Run). keptBy (a r) points g (r .items)) rs ∙ (λ i. map (λ (r : Run). map-kept (a r) (r .items) i) rs))
+
 -- each has as many corners as its set says
 pub places-long : (g : Topology) (k : ℕ) → length (placesOf g k) ≡ widthOf g
 unfolding placesOf widthOf
@@ -158,11 +178,6 @@ pub goes-on : {points : ℕ} {g : Topology} {ps : List ℕ} → points ≤ 0x800
 goes-on {points} {g} {ps} h p = All-map (λ w l. number-goes-on w (omega arith)) ps (p .below)
 
 -- ---- what the faces of the listing have together
-
-total-each : {A : Type 0} (f : A → ℕ) (c : ℕ) (l : List A) → All (λ (x : A). f x ≡ c) l → total f l ≡ c * length l
-unfolding total
-total-each f c [] h = sym (mul-zero c)
-total-each f c (x ∷ xs) h = let e = total-each f c xs (h .1) in let d = h .0 in omega arith
 
 module _ {points : ℕ} (low : points ≤ 0x8000_0000) (g : Topology) (ws : List ℕ) where
   listing-sum : (f : List ℕ → ℕ) (c : ℕ) → ((ps : List ℕ) → Primitive points g ps → f ps ≡ c) → sumOver f (runs (faceList points g ws)) ≡ c * length (keptPrimitives points g ws)

@@ -7,7 +7,7 @@ use native.Mathlib.Omega.{arith}
 use borrow.Author.Tests.{eqb-true, eqb-false}
 use lib.Dec.{eqb}
 use lib.ListN.{length, getD, length-append}
-use Rattle.lists.specs.Loops.{tab}
+use Rattle.lists.specs.Loops.{tab, All}
 use Rattle.lists.specs.Lists.{flat}
 use Rattle.lists.proofs.Lists.{getD-map-lt}
 use Rattle.lists.proofs.Pieces.{flat-go, flat-end}
@@ -88,6 +88,18 @@ count-most Triangles n = omega arith
 count-most Fans n = omega arith
 count-most Strips n = omega arith
 count-most Quads n = omega arith
+
+-- each of its entries stands in the stretch
+pub places-within : (g : Topology) (n k : ℕ) → k < primitiveCount g n → All (λ (i : ℕ). i < n) (placesOf g k)
+unfolding primitiveCount placesOf
+places-within Triangles n k h = (omega arith, (omega arith, (omega arith, tt)))
+places-within Fans n k h = (omega arith, (omega arith, (omega arith, tt)))
+places-within Strips n k h = go (eqb (k % 2) 1)
+  where
+    go : (b : Bool) → All (λ (i : ℕ). i < n) (cond b ((k + 1) ∷ k ∷ (k + 2) ∷ []) (k ∷ (k + 1) ∷ (k + 2) ∷ []))
+    go true = (omega arith, (omega arith, (omega arith, tt)))
+    go false = (omega arith, (omega arith, (omega arith, tt)))
+places-within Quads n k h = (omega arith, (omega arith, (omega arith, (omega arith, tt))))
 
 -- the entry of corner i
 pub primitive-at : (g : Topology) (es : List ℕ) (k i : ℕ) → i < widthOf g → getD (primitiveOf g es k) i 0 ≡ getD es (getD (placesOf g k) i 0) 0
