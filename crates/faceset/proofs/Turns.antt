@@ -15,7 +15,7 @@ use Rattle.lists.specs.Lists.{mapN, joinN}
 use Rattle.lists.proofs.Lists.{length-mapN}
 use Rattle.tables.specs.declared.layout.Plan.{Plan}
 use Rattle.tables.specs.Layout.{most}
-use Rattle.tables.specs.Listed.{Use, noUse, noListing, Beside}
+use Rattle.tables.specs.Listed.{Use, noListing, Beside}
 use Rattle.tables.proofs.Besides.{beside-all}
 use Rattle.faceset.specs.declared.listing.Progress.{Progress}
 use Rattle.faceset.specs.Listings.{useOf, listingOf, listed, listingsOf}

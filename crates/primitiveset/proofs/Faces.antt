@@ -1,5 +1,5 @@
 -- FORMAT 6.4, 8.1: the listings of the kept primitives: how many, and what each has.
-use mathlib.Core.Path.{_≡_, refl, sym, ap, _∙_}
+use mathlib.Core.Path.{_≡_, sym, ap, _∙_}
 use mathlib.Core.Bool.{true}
 use mathlib.Core.List.{List, [], _∷_, map, map-map}
 use Prim.Native.Nat.{ℕ, suc, _+_, _*_, _≤_, _<_}
@@ -11,7 +11,7 @@ use Rattle.lists.specs.Loops.{All}
 use Rattle.lists.specs.Lists.{mapN, total}
 use Rattle.lists.proofs.Lists.{All-of, All-map, All-getD, length-mapN, getD-mapN, getD-map-lt}
 use Rattle.lists.proofs.Totals.{total-each}
-use Rattle.primitives.specs.Primitives.{stretches, primitiveCount, placesOf, primitiveOf}
+use Rattle.primitives.specs.Primitives.{stretches, placesOf, primitiveOf}
 use Rattle.primitives.specs.Kept.{widthOf, keptOver, keptPrimitives}
 use Rattle.primitives.proofs.Closed.{map-over, all-over, places-long, primitive-long, width-three, all-below}
 use Rattle.tables.specs.Listed.{Use, noUse, noListing, Listing}

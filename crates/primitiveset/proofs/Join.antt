@@ -23,7 +23,7 @@ use Rattle.block.proofs.StreamLaws.{stream-number}
 use Rattle.lists.specs.Loops.{All}
 use Rattle.lists.specs.Lists.{mapN, joinN, flat}
 use Rattle.lists.proofs.Lists.{All-map, All-of-map, All-at-map, All-both, head-left}
-use Rattle.primitives.specs.Primitives.{stretches, primitiveCount, placesOf, primitiveOf, faceList}
+use Rattle.primitives.specs.Primitives.{primitiveCount, placesOf, primitiveOf, faceList}
 use Rattle.primitives.specs.Kept.{keptPrimitives}
 use Rattle.primitives.specs.Stretches.{stretchAt, stretchesLeft, StretchPart}
 use Rattle.primitives.proofs.Closed.{closed, closed-first, list-closed, all-over, all-below, Primitive, primitives-are, goes-on}
@@ -33,7 +33,7 @@ use Rattle.mesh.specs.Words.{no2, no3, no4}
 use Rattle.mesh.specs.Soup.{dense}
 use Rattle.mesh.specs.Texture.{fitOf, defaultAt}
 use Rattle.mesh.specs.FaceSet.{Rest, pointCount, normalOf, colourOf, textureBy, cornerBy, facesOf}
-use Rattle.tables.specs.Listed.{Use, Listing, facesWith}
+use Rattle.tables.specs.Listed.{Use, facesWith}
 use Rattle.faceset.specs.Listings.{useOf, listed, listingsOf, cornerUse}
 use Rattle.faceset.specs.Adding.{pointsUsed}
 use Rattle.faceset.proofs.Faces.{listings-kept, dense-listed}

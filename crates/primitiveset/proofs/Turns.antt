@@ -10,15 +10,14 @@ use lib.ListN.{length, getD, set, drop, length-drop}
 use Rattle.bits.specs.Bits.{entries}
 use Rattle.bits.proofs.Entries.{entries-length}
 use Rattle.block.specs.declared.topology.Topology.{Topology}
-use Rattle.block.specs.Runs.{Run, runOf, nextStart, allBelow}
+use Rattle.block.specs.Runs.{runOf, nextStart, allBelow}
 use Rattle.lists.proofs.Lists.{head-left}
 use Rattle.primitives.specs.Primitives.{primitiveCount, primitiveOf}
-use Rattle.primitives.specs.Kept.{widthOf, keptPrimitives}
+use Rattle.primitives.specs.Kept.{widthOf}
 use Rattle.primitives.specs.Stretches.{StretchPart}
 use Rattle.primitives.proofs.Counting.{keptLeft, left-first, left-kept, left-lost, left-none}
 use Rattle.primitives.proofs.Meeting.{kept-start, kept-step, kept-over}
 use Rattle.tables.specs.declared.layout.Plan.{Plan}
-use Rattle.tables.specs.Layout.{most}
 use Rattle.tables.specs.Listed.{Use, noUse, noListing, Beside}
 use Rattle.tables.proofs.Besides.{beside-all, beside-then}
 use Rattle.faceset.specs.Adding as adding
