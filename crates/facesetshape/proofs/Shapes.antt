@@ -1,6 +1,6 @@
 -- FORMAT 7, 8.1: a face set is a shape, and its mesh is that of what is listed.
 use mathlib.Core.Path.{_≡_, refl, ap, _∙_}
-use mathlib.Core.Bool.{true, _||_}
+use mathlib.Core.Bool.{Bool, true, _||_}
 use mathlib.Core.List.{List}
 use Prim.Native.Nat.{ℕ, _≤_, _<_}
 use lib.ListN.{length}
@@ -33,15 +33,15 @@ use Rattle.facesetshape.specs.Shape.{faceSetListings, faceSetTexture}
 
 module _ (missing : Words4) (bs : List ℕ) where
   -- of any kind that reads the lists of a face set, with any list of faces that have three corners or more
-  listed : isIndexed (headerOf bs .kind) ≡ true
+  pub listed : (convex : Bool) → isIndexed (headerOf bs .kind) ≡ true
       → (makesNormals (headerOf bs) ≡ true) × (makesColours (headerOf bs) ≡ headerOf bs .colors) × (makesTextures (headerOf bs) ≡ (headerOf bs .«need_uvs» || headerOf bs .«texture_points»))
       → (ls : List Listing) → ((j : ℕ) → j < length ls → 3 ≤ length (usesAt ls j))
-      → Shape bs (listBytes bs (headerOf bs) 1) (headerOf bs) (listedShared missing (headerOf bs .convex) (headerOf bs)) ls (faceSetTexture bs (headerOf bs) (settingsOf bs))
+      → Shape bs (listBytes bs (headerOf bs) 1) (headerOf bs) (listedShared missing convex (headerOf bs)) ls (faceSetTexture bs (headerOf bs) (settingsOf bs))
       (cornerUse missing (restOf bs) (listBytes bs (headerOf bs) 1))
   unfolding faceSetTexture cornerUse restOf
-  listed i K ls long =
+  listed convex i K ls long =
       let points = entries (listBytes bs (headerOf bs) 0) in
-      listed-shape missing (restOf bs) bs (listBytes bs (headerOf bs) 1) (defaultAt points (fitOf points (listedPoints (headerOf bs)))) (headerOf bs .convex) ls (rest-streamed bs i) K long
+      listed-shape missing (restOf bs) bs (listBytes bs (headerOf bs) 1) (defaultAt points (fitOf points (listedPoints (headerOf bs)))) convex ls (rest-streamed bs i) K long
       (λ j i l b. refl)
 
   own : headerOf bs .kind ≡ FaceSet
@@ -49,7 +49,7 @@ module _ (missing : Words4) (bs : List ℕ) where
       (faceSetTexture bs (headerOf bs) (settingsOf bs)) (cornerUse missing (restOf bs) (listBytes bs (headerOf bs) 1))
   own k =
       let ls = faceSetListings bs (headerOf bs) in
-      listed (ap isIndexed k) (rw k refl, rw k refl, rw k refl) ls
+      listed (headerOf bs .convex) (ap isIndexed k) (rw k refl, rw k refl, rw k refl) ls
       (All-getD (λ (l : Listing). 3 ≤ length (l .uses)) ls (listings-long (listedPoints (headerOf bs)) (entries (listBytes bs (headerOf bs) 1))) noListing)
 
   mesh-own : faceSetMesh missing bs

@@ -16,30 +16,29 @@ use Rattle.mesh.specs.declared.texture.Fit.{Fit}
 use Rattle.mesh.specs.Texture.{fitOf, defaultAt}
 use Rattle.mesh.specs.Sizes.{listedPoints}
 use Rattle.tables.specs.declared.layout.Plan.{Plan}
+use Rattle.tables.specs.Layout.{Room}
 use Rattle.tables.specs.Soups.{pointIn, placeIn, ownerIn, pointsIn}
 use Rattle.tables.specs.Listed.{Listing, Listed}
 use Rattle.texture.specs.Corner.{textureIn}
 use Rattle.texture.specs.Textured.{setTexture, Fitted}
 use Rattle.texture.proofs.Axes.{axes-below}
-use Rattle.faceset.specs.Passing.{Planned}
 use Rattle.shaping.specs.Tabled.{useIn}
 use Rattle.facesetshape.specs.Shape.{faceSetTexture, Placed}
 
-module _ (bs : List ℕ) (h : Header) {t : Plan} {list coord : List ℕ} (a : list ≡ listBytes bs h 0) where
+module _ (bs : List ℕ) (h : Header) {t : Plan} {list : List ℕ} (a : list ≡ listBytes bs h 0) where
   -- what the copy of the points asks
-  pub points-asked : {len : ℕ} → Planned (listedPoints h) coord len t → 3 * listedPoints h ≤ length (listBytes bs h 0) / 4
+  pub points-asked : {len : ℕ} → Room len t → t .spots ≡ listedPoints h → 3 * listedPoints h ≤ length (listBytes bs h 0) / 4
       → (3 * t .spots ≤ length list / 4) × (t .points + 3 * t .spots ≤ len)
-  points-asked P n = let R = P .room in (rw a (omega (arith, P .spots, n)), omega (arith, R))
+  points-asked R e n = (rw a (omega (arith, e, n)), omega (arith, R))
 
   -- and what it leaves
-  pub points-copied : (w : List ℕ) {w₁ : List ℕ} → Planned (listedPoints h) coord (length w) t → 3 * listedPoints h ≤ length (listBytes bs h 0) / 4
+  pub points-copied : (w : List ℕ) {w₁ : List ℕ} → Room (length w) t → t .spots ≡ listedPoints h → 3 * listedPoints h ≤ length (listBytes bs h 0) / 4
       → take (3 * listedPoints h) (entries (listBytes bs h 0)) ≡ entries (listBytes bs h 0)
       → w₁ ≡ spliced w (t .points) (take (3 * t .spots) (entries list)) → (length w₁ ≡ length w) × (pointsIn w₁ t ≡ entries (listBytes bs h 0))
   unfolding pointsIn
-  points-copied w P n p C =
-      let R = P .room in
-      let G = put-gives _ C (length-take-le (3 * t .spots) (entries list) (omega (arith, entries-length list, points-asked P n .0))) (omega (arith, R)) in
-      (G .0 .len, G .1 ∙ (λ i. take (3 * P .spots i) (entries (a i))) ∙ p)
+  points-copied w R e n p C =
+      let G = put-gives _ C (length-take-le (3 * t .spots) (entries list) (omega (arith, entries-length list, points-asked R e n .0))) (omega (arith, R)) in
+      (G .0 .len, G .1 ∙ (λ i. take (3 * e i) (entries (a i))) ∙ p)
 
 -- FORMAT 7.4: tables that list faces over these points, with room above the owners, are what the textures ask
 pub textures-asked : {bs : List ℕ} {h : Header} {t : Plan} {w : List ℕ} {ls : List Listing} → t .spots ≡ listedPoints h → pointsIn w t ≡ entries (listBytes bs h 0) → Listed w t ls

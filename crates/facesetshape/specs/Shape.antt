@@ -7,9 +7,9 @@ use Rattle.bits.specs.declared.Words2.{Words2}
 use Rattle.block.specs.declared.header.Header.{Header}
 use Rattle.block.specs.declared.settings.Settings.{Settings}
 use Rattle.block.specs.Lists.{listBytes}
-use Rattle.block.specs.Runs.{faces, corners, sumOver}
+use Rattle.block.specs.Runs.{Run, faces, corners, sumOver}
 use Rattle.mesh.specs.Texture.{fitOf, defaultAt}
-use Rattle.mesh.specs.Sizes.{coordRuns, listedPoints}
+use Rattle.mesh.specs.Sizes.{listedPoints}
 use Rattle.tables.specs.declared.layout.Plan.{Plan}
 use Rattle.tables.specs.Layout.{planOf}
 use Rattle.tables.specs.Soups.{pointsIn}
@@ -18,10 +18,9 @@ use Rattle.texture.specs.Corner.{textureIn}
 use Rattle.texture.specs.Textured.{Fitted}
 use Rattle.faceset.specs.Listings.{listingsOf}
 
--- FORMAT 4, 6.2: P points, and the corners and the number of the kept faces
-unfoldable pub faceSetPlan : List ℕ → Header → Plan
-faceSetPlan bs h =
-    planOf (listedPoints h) (sumOver (corners (listedPoints h)) (coordRuns bs h)) (sumOver (faces (listedPoints h)) (coordRuns bs h))
+-- FORMAT 4, 6.2: P points, and the corners and the number of the kept faces among some runs
+unfoldable pub runPlan : ℕ → List Run → Plan
+runPlan points rs = planOf points (sumOver (corners points) rs) (sumOver (faces points) rs)
 
 -- FORMAT 6.2: the kept faces
 abbrev pub faceSetListings : List ℕ → Header → List Listing

@@ -2,4 +2,5 @@
 mod filling;
 mod whole;
 
+pub use filling::texture_where;
 pub use whole::make_face_set;

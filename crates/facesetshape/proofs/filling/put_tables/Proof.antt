@@ -18,7 +18,7 @@ put-points-requires : tie.Need-put-points-requires
 put-points-requires c κs =
     let c2 = c .before .before in
     let c8 = c2 .before .before .before .before .before .before in
-    points-asked _ (c8 .args .h) (c2 .list-part .ensures) (c8 .pre .1) (c8 .pre .2)
+    points-asked _ (c8 .args .h) (c2 .list-part .ensures) (c8 .pre .1 .room) (c8 .pre .1 .spots) (c8 .pre .2)
 
 list-faces-requires : tie.Need-list-faces-requires
 list-faces-requires c κs = rw (c .before .before .work .given) (c .before .before .before .before .before .before .before .before .before .before .before .before .pre .1)
@@ -39,7 +39,7 @@ returns c =
     let c14 = c10 .before .before .before .before in
     let c17 = c14 .before .before .before in
     let c23 = c17 .before .before .before .before .before .before in
-    tabled (c23 .pre .1 .room) (points-copied _ (c23 .args .h) (c17 .list-part .ensures) _ (c23 .pre .1) (c23 .pre .2) (c23 .pre .3) (c14 .put-points .ensures)) (c10 .list-faces .ensures .beside)
+    tabled (c23 .pre .1 .room) (points-copied _ (c23 .args .h) (c17 .list-part .ensures) _ (c23 .pre .1 .room) (c23 .pre .1 .spots) (c23 .pre .2) (c23 .pre .3) (c14 .put-points .ensures)) (c10 .list-faces .ensures .beside)
     (rw (← c23 .pre .0) (c10 .list-faces .ensures .listed)) (c4 .prepare .ensures) (c4 .prepare .kept .1 .1 .1 .1 .1 .0)
 
 pub put-tables-spec : {M : Type 1} → statement M

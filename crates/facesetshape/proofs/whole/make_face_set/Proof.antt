@@ -4,7 +4,7 @@ use Rattle.block.proofs.ListLaws.{widths-of}
 use Rattle.lent.proofs.Points.{points-in, points-all}
 use Rattle.shaping.proofs.Tabling.{faces-held, points-held}
 use Rattle.shaping.proofs.Theorem.{ready, shaped}
-use Rattle.facesetshape.proofs.Bounds.{sizes-are, plan-asked, plan-by, counted, roomy, planned}
+use Rattle.facesetshape.proofs.Bounds.{sized, plan-asked, plan-by, counted, roomy, planned}
 use Rattle.facesetshape.proofs.Tabling.{textures-asked}
 use Rattle.facesetshape.proofs.Shapes.{shape, mesh-is}
 use borrow.Author.Needs.{needs}
@@ -14,7 +14,8 @@ use Rattle.facesetshape.proofs.whole.make_face_set.Tie as tie
 plan-of-requires : tie.Need-plan-of-requires
 plan-of-requires c κs =
     let c9 = c .before .before .before .before .before .before .before .before .before in
-    plan-asked (c9 .pre .0) (c9 .pre .1)
+    let A = c9 .pre .0 in
+    plan-asked A (sized A) (c9 .pre .1)
 
 listed-shared-requires : tie.Need-listed-shared-requires
 listed-shared-requires c κs = search needs
@@ -27,12 +28,12 @@ put-tables-requires c κs =
     let c2 = c .before .before in
     let c14 = c2 .before .before .before .before .before .before .before .before .before .before .before .before in
     let A = c14 .pre .0 in
-    let e = plan-by A (c14 .pre .1) (c2 .before .before .plan-of .ensures) in (
+    let e = plan-by A (sized A) (c14 .pre .1) (c2 .before .before .plan-of .ensures) in (
       c2 .list-part .ensures,
       planned A e (c2 .list-part .ensures),
       points-in (A .accepted) (widths-of _ (A .kind)),
       points-all (A .accepted) (widths-of _ (A .kind)),
-      omega (arith, roomy A e .floats),
+      omega (arith, roomy A (sized A) e .floats),
     )
 
 texture-where-requires : tie.Need-texture-where-requires
@@ -41,9 +42,9 @@ texture-where-requires c κs =
     let c8 = c5 .before .before .before in
     let c20 = c8 .before .before .before .before .before .before .before .before .before .before .before .before in
     let A = c20 .pre .0 in
-    let e = plan-by A (c20 .pre .1) (c8 .before .before .plan-of .ensures) in
+    let e = plan-by A (sized A) (c20 .pre .1) (c8 .before .before .plan-of .ensures) in
     let P = c5 .put-tables .ensures in
-    (c8 .list-part .ensures, textures-asked (planned A e refl .spots) (points-held P) (faces-held P) (omega (arith, roomy A e .textures, P .len)))
+    (c8 .list-part .ensures, textures-asked (planned A e refl .spots) (points-held P) (faces-held P) (omega (arith, roomy A (sized A) e .textures, P .len)))
 
 build-requires : tie.Need-build-requires
 build-requires c κs =
@@ -53,7 +54,7 @@ build-requires c κs =
     let c20 = c19 .before in
     let c31 = c20 .before .before .before .before .before .before .before .before .before .before .before in
     let A = c31 .pre .0 in
-    ready A (sizes-are A) (counted A (plan-by A (c31 .pre .1) (c20 .before .plan-of .ensures))) (c16 .put-tables .ensures) (c10 .texture-where .ensures)
+    ready A (sized A .sizes) (counted A (sized A) (plan-by A (sized A) (c31 .pre .1) (c20 .before .plan-of .ensures))) (c16 .put-tables .ensures) (c10 .texture-where .ensures)
     (shape (c31 .args .missing) _ (A .accepted .header) (A .accepted .settings) (c20 .listed-shared .ensures) (c19 .list-part .ensures) (A .kind))
 
 same-length : tie.Need-same-length
@@ -96,7 +97,7 @@ returns c =
     let A = c48 .pre .0 in
     let h = A .accepted .header in
     let s = A .accepted .settings in
-    shaped A (sizes-are A) (counted A (plan-by A (c48 .pre .1) (c37 .before .plan-of .ensures))) (c33 .put-tables .ensures) (c27 .texture-where .ensures)
+    shaped A (sized A .sizes) (counted A (sized A) (plan-by A (sized A) (c48 .pre .1) (c37 .before .plan-of .ensures))) (c33 .put-tables .ensures) (c27 .texture-where .ensures)
     (shape (c48 .args .missing) _ h s (c37 .listed-shared .ensures) (c36 .list-part .ensures) (A .kind)) (mesh-is (c48 .args .missing) _ h s (c37 .listed-shared .ensures) (c36 .list-part .ensures)) (c16 .build .ensures)
 
 pub make-face-set-spec : {M : Type 1} → statement M
