@@ -1,0 +1,2 @@
+-- What is listed of a triangle, fan, strip or quad set.
+pub mod Shape
