@@ -16,14 +16,14 @@ use Rattle.block.proofs.RunLaws.{below-at}
 use Rattle.block.specs.Refusal.{numberOf, Row, row, isOverLimit, isOtherLength, isByPoint, isOtherAttributes, blockRows, firstOf, Taken}
 use Rattle.block.specs.declared.header.Header.{Header}
 use Rattle.block.specs.declared.refusal.Refusal.{Refusal}
-use Rattle.block.specs.declared.refusal.Refusal.the-variants.{Stub, Edition, Kind, ListLimit, Length, NoShape, Corners, Buffer, Attributes, Nothing}
+use Rattle.block.specs.declared.refusal.Refusal.the-variants.{Stub, Edition, ZeroBits, ListLimit, Length, NoShape, Corners, Buffer, Attributes, Nothing}
 
 -- ---- the number tells the answer
 unfoldable answerOf : ℕ → Refusal
 answerOf n =
     cond (eqb n 1) Stub
     (cond (eqb n 2) Edition
-    (cond (eqb n 3) Kind
+    (cond (eqb n 3) ZeroBits
     (cond (eqb n 4) ListLimit
     (cond (eqb n 5) Length
     (cond (eqb n 6) NoShape
@@ -35,7 +35,7 @@ answer-of-number : (a : Refusal) → answerOf (numberOf a) ≡ a
 unfolding answerOf
 answer-of-number Stub = refl
 answer-of-number Edition = refl
-answer-of-number Kind = refl
+answer-of-number ZeroBits = refl
 answer-of-number ListLimit = refl
 answer-of-number Length = refl
 answer-of-number NoShape = refl
@@ -52,7 +52,6 @@ number-one-to-one a b e = sym (answer-of-number a) ∙ ap answerOf e ∙ answer-
 pub record Known (bs : List ℕ) (h : Header) : Type 0 where
   pub whole : headerBytes edition1 ≤ length bs
   pub edition-is : isKnown (h .edition) ≡ true
-  pub kind-is : isPrimitives (h .kind) ≡ false
   pub zeros-are : h .zeros ≡ 0
 
 module _ (bs : List ℕ) (h : Header) where
@@ -65,19 +64,15 @@ module _ (bs : List ℕ) (h : Header) where
     unfolding blockRows firstOf
     row-edition q = rw (le-ltb _ (headerBytes edition1) p, q)
 
-    pub row-kind : isKnown (h .edition) ≡ true → isPrimitives (h .kind) ≡ true → 3 ≡ firstOf (blockRows bs h)
+    pub row-zeros : isKnown (h .edition) ≡ true → (h .zeros ≡ 0 → ⊥) → 3 ≡ firstOf (blockRows bs h)
     unfolding blockRows firstOf
-    row-kind q r = rw (le-ltb _ (headerBytes edition1) p, q, r)
-
-    pub row-zeros : isKnown (h .edition) ≡ true → isPrimitives (h .kind) ≡ false → (h .zeros ≡ 0 → ⊥) → 3 ≡ firstOf (blockRows bs h)
-    unfolding blockRows firstOf
-    row-zeros q r s = rw (le-ltb _ (headerBytes edition1) p, q, r, ne-eqb _ 0 s)
+    row-zeros q s = rw (le-ltb _ (headerBytes edition1) p, q, ne-eqb _ 0 s)
 
   module _ (k : Known bs h) where
     -- the rows from 4 on decide
     rest : firstOf (blockRows bs h) ≡ firstOf (row ListLimit (isOverLimit h) ∷ row Length (isOtherLength bs h) ∷ row Attributes (isOtherAttributes h) ∷ [])
     unfolding blockRows firstOf
-    rest = rw (le-ltb _ (headerBytes edition1) (k .whole), k .edition-is, k .kind-is, eq-eqb _ 0 (k .zeros-are))
+    rest = rw (le-ltb _ (headerBytes edition1) (k .whole), k .edition-is, eq-eqb _ 0 (k .zeros-are))
 
     pub row-limit : not (allBelow (suc (limitOf (h .edition))) (h .counts)) ≡ true → 4 ≡ firstOf (blockRows bs h)
     unfolding firstOf
@@ -136,12 +131,10 @@ pub taken-of : (bs : List ℕ) (h : Header) → firstOf (blockRows bs h) ≡ 0 �
 unfolding blockRows
 taken-of bs h e =
     let a = none-of (blockRows bs h) (block-answered bs h) e in
-    let k = or-none (isPrimitives (h .kind)) (not (eqb (h .zeros) 0)) (a .1 .1 .0) in
     record {
       whole = ltb-false (length bs) (headerBytes edition1) (a .0);
       edition-is = not-false _ (a .1 .0);
-      kind-is = k .0;
-      zeros-are = eqb-true _ _ (not-false _ (k .1));
+      zeros-are = eqb-true _ _ (not-false _ (a .1 .1 .0));
       counts-are = λ k. counts-within (limitOf (h .edition)) (h .counts) (not-false _ (a .1 .1 .1 .0)) k;
       length-is = eqb-true _ _ (not-false _ (a .1 .1 .1 .1 .0));
       attributes-are = a .1 .1 .1 .1 .1 .0;

@@ -2,7 +2,7 @@
 use Prim.Native.Nat.{ℕ}
 use mathlib.Core.Path.{_≡_, refl}
 use mathlib.Core.List.{List, [], _∷_, _++_}
-use lib.ListN.{take, set}
+use lib.ListN.{take, set, replicate}
 use Rattle.bits.specs.Bits.{field, bytesOf}
 use Rattle.block.specs.Edition.{edition1, editionOf, editionIn, countsAt, zerosAt, headerBytes, wordsAhead}
 use Rattle.block.specs.Kind.{kindOf}
@@ -37,10 +37,31 @@ number bs = firstOf (blockRows bs (headerOf bs))
 pub table-rows : (number (grid gridHeader) ≡ 0)  -- the grid is taken
     × (number (take 19 gridHeader) ≡ 1)  -- its first 19 bytes
     × (number (grid (set gridHeader 0 37)) ≡ 2)  -- edition 2
-    × (number (grid (set gridHeader 0 25)) ≡ 3)  -- kind 4
     × (number (grid (set gridHeader 19 1)) ≡ 3)  -- the last of the 28 bits is set
     × (number (grid (set (set gridHeader 2 8) 4 64)) ≡ 4)  -- count 0 is 8,193
     × (number (grid (set (set gridHeader 2 8) 4 0)) ≡ 0)  -- count 0 is 8,192: a side has no words
     × (number (grid gridHeader ++ 0 ∷ []) ≡ 5)  -- a byte too many
 unfolding grid gridHeader gridRest blockRows firstOf allBelow headerOf countsOf editionOf edition1 widths wordsIn wordCount field
-table-rows = (refl, refl, refl, refl, refl, refl, refl, refl)
+table-rows = (refl, refl, refl, refl, refl, refl, refl)
+
+-- a triangle, fan, strip or quad set without lists, by its first two bytes, but for the words ws; both per-vertex bits are the third and fourth of byte 1
+unfoldable pub bare : ℕ → ℕ → List ℕ → List ℕ
+bare a b ws = (a ∷ b ∷ replicate 18 0) ++ (replicate 48 0 ++ bytesOf ws)
+
+-- with a colour, normal or texture index of one entry
+unfoldable pub indexed : ℕ → ℕ → List ℕ
+indexed k v = set (bare 0x19 0x30 (0 ∷ [])) k v
+
+pub attribute-rows : (number (bare 0x19 0x30 []) ≡ 0)  -- the kinds 4 to 7 are taken
+    × (number (bare 0x1b 0x30 []) ≡ 0)
+    × (number (bare 0x1d 0x30 []) ≡ 0)
+    × (number (bare 0x1f 0x30 []) ≡ 0)
+    × (number (bare 0x19 0x10 []) ≡ 9)  -- colour not per vertex, no colours present
+    × (number (bare 0x1d 0x20 []) ≡ 9)  -- normal not per vertex, no normals present
+    × (number (indexed 9 0x10) ≡ 9)  -- an entry of the colour index
+    × (number (indexed 12 0x01) ≡ 9)  -- of the normal index
+    × (number (indexed 16 0x10) ≡ 9)  -- of the texture index
+    × (number (bare 0x19 0x10 (0 ∷ [])) ≡ 5)  -- a word too many: 5 comes before
+    × (number (bare 0x11 0x00 []) ≡ 0)  -- a face set has neither to be per vertex
+unfolding bare indexed blockRows firstOf allBelow headerOf countsOf editionOf edition1 widths wordsIn wordCount field
+attribute-rows = (refl, refl, refl, refl, refl, refl, refl, refl, refl, refl, refl)

@@ -1,7 +1,7 @@
 -- The table of refusals: the number of each answer, and the conditions of the rows 1 to 5 and 9. FORMAT 3.
 use Prim.Native.Nat.{ℕ, suc, _*_, _≤_}
 use mathlib.Core.Path.{_≡_}
-use mathlib.Core.Bool.{Bool, true, false, not, _||_, _&&_, cond}
+use mathlib.Core.Bool.{Bool, true, false, not, _&&_, cond}
 use mathlib.Core.List.{List, [], _∷_}
 use lib.Dec.{eqb, ltb}
 use lib.ListN.{length, getD}
@@ -11,13 +11,13 @@ use Rattle.block.specs.Lists.{wordCount}
 use Rattle.block.specs.Runs.{allBelow}
 use Rattle.block.specs.declared.header.Header.{Header}
 use Rattle.block.specs.declared.refusal.Refusal.{Refusal}
-use Rattle.block.specs.declared.refusal.Refusal.the-variants.{Stub, Edition, Kind, ListLimit, Length, NoShape, Corners, Buffer, Attributes, Nothing}
+use Rattle.block.specs.declared.refusal.Refusal.the-variants.{Stub, Edition, ZeroBits, ListLimit, Length, NoShape, Corners, Buffer, Attributes, Nothing}
 
 -- FORMAT 3: the table's number of each answer; the conditions 6 to 8 are of the shape and of the lent slices, and stand with those
 abbrev pub numberOf : Refusal → ℕ
 numberOf Stub = 1
 numberOf Edition = 2
-numberOf Kind = 3
+numberOf ZeroBits = 3
 numberOf ListLimit = 4
 numberOf Length = 5
 numberOf NoShape = 6
@@ -34,9 +34,9 @@ isStub bs = ltb (length bs) (headerBytes edition1)
 abbrev pub isOtherEdition : Header → Bool
 isOtherEdition h = not (isKnown (h .edition))
 
--- FORMAT 3, 3, kind: kind 4 to 7, or one of the zero bits set
-abbrev pub isOtherKind : Header → Bool
-isOtherKind h = isPrimitives (h .kind) || not (eqb (h .zeros) 0)
+-- FORMAT 3, 3, zero bits: one of them is set
+abbrev pub isOtherZeros : Header → Bool
+isOtherZeros h = not (eqb (h .zeros) 0)
 
 -- FORMAT 3, 4, list limit: a count above the edition's limit
 abbrev pub isOverLimit : Header → Bool
@@ -64,7 +64,7 @@ row answer holds = record { answer = answer; holds = holds }
 
 -- FORMAT 3: the rows that bytes and a header decide, in the order in which they are tested
 unfoldable pub blockRows : List ℕ → Header → List Row
-blockRows bs h = row Stub (isStub bs) ∷ row Edition (isOtherEdition h) ∷ row Kind (isOtherKind h) ∷ row ListLimit (isOverLimit h) ∷ row Length (isOtherLength bs h) ∷ row Attributes (isOtherAttributes h) ∷ []
+blockRows bs h = row Stub (isStub bs) ∷ row Edition (isOtherEdition h) ∷ row ZeroBits (isOtherZeros h) ∷ row ListLimit (isOverLimit h) ∷ row Length (isOtherLength bs h) ∷ row Attributes (isOtherAttributes h) ∷ []
 
 -- FORMAT 3: the number of the first row that holds, 0 where none does
 unfoldable pub firstOf : List Row → ℕ
@@ -75,7 +75,6 @@ firstOf (r ∷ rs) = cond (r .holds) (numberOf (r .answer)) (firstOf rs)
 pub record Taken (bs : List ℕ) (h : Header) : Type 0 where
   pub whole : headerBytes edition1 ≤ length bs
   pub edition-is : isKnown (h .edition) ≡ true
-  pub kind-is : isPrimitives (h .kind) ≡ false
   pub zeros-are : h .zeros ≡ 0
   pub counts-are : (k : ℕ) → getD (h .counts) k 0 ≤ limitOf (h .edition)
   pub length-is : length bs ≡ 4 * wordCount h

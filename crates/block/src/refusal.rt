@@ -16,7 +16,7 @@ use crate::lists::block_bytes;
 pub enum Refusal {
     Stub,
     Edition,
-    Kind,
+    ZeroBits,
     ListLimit,
     Length,
     NoShape,
@@ -33,7 +33,7 @@ pub fn number_of(answer: Refusal) -> u32
     match answer {
         Refusal::Stub => 1,
         Refusal::Edition => 2,
-        Refusal::Kind => 3,
+        Refusal::ZeroBits => 3,
         Refusal::ListLimit => 4,
         Refusal::Length => 5,
         Refusal::NoShape => 6,
@@ -112,12 +112,8 @@ pub fn refusal_of(block: &[u8], h: Header) -> Refusal
     if is_known(h.edition) {} else {
         return Refusal::Edition;
     }
-    let kind = h.kind;
-    if is_primitives(kind) {
-        return Refusal::Kind;
-    }
     if h.zeros != 0 {
-        return Refusal::Kind;
+        return Refusal::ZeroBits;
     }
     let n = h.counts;
     if over_limit(n, limit_of(h.edition)) {

@@ -113,7 +113,7 @@ settings-are bs = refl
 
 -- ---- a block that is not refused
 
--- FORMAT 3: rows 1 to 5 let it pass, and row 6
+-- FORMAT 3: the rows before 6 let it pass, and row 6
 pub given-of : {bs : List ℕ} {h : Header} → Taken bs h → h ≡ headerOf bs → h .kind ≡ Extrusion → isNoShape h ≡ false → Given bs h
 unfolding isNoShape
 given-of {bs} {h} T e k s =

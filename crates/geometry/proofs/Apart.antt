@@ -13,12 +13,13 @@ use Rattle.block.specs.declared.kind.Kind.{Kind}
 use Rattle.block.specs.declared.kind.Kind.the-variants.{FaceSet}
 use Rattle.block.specs.Kind.{byKind, isLines}
 use Rattle.block.specs.Header.{headerOf}
-use Rattle.mesh.specs.Mesh.{Mesh, noMesh, meshOf, mesh, Slices, slicesOf, over, overAll, Shown, shownAt, normalAt}
+use Rattle.mesh.specs.Mesh.{Mesh, meshOf, mesh, Slices, slicesOf, over, overAll, Shown, shownAt, normalAt}
 use Rattle.mesh.specs.FaceSet.{restOf, coordIn, facesOf, frameOf, faceSetMesh}
 use Rattle.mesh.specs.Vertices.{Key, vertices, indicesOf}
 use Rattle.mesh.specs.Lines.{lineSetMesh}
 use Rattle.mesh.specs.Grid.{gridMesh}
 use Rattle.mesh.specs.Extrusion.{extrusionMesh}
+use Rattle.mesh.specs.Primitives.{primitiveMesh}
 use Rattle.mesh.specs.Result.{Result, blockMesh, makesNormals, makesColours, makesTextures, madeOf, made, resultOf}
 use Rattle.mesh.specs.OneRun.{OneRun, runPart, OthersStay}
 use Rattle.mesh.proofs.Facts.{Sized, slices-sized}
@@ -72,7 +73,7 @@ module _ {call : Call} (bs : List ℕ) (face-set : headerOf bs .kind ≡ FaceSet
 
   block-mesh : blockMesh (call .colour) bs ≡ M
   unfolding blockMesh
-  block-mesh = ap (λ (k : Kind). byKind k (faceSetMesh (call .colour) bs) (lineSetMesh (call .colour) bs) (gridMesh (call .colour) bs) (extrusionMesh bs) noMesh) face-set
+  block-mesh = ap (λ (k : Kind). byKind k (faceSetMesh (call .colour) bs) (lineSetMesh (call .colour) bs) (gridMesh (call .colour) bs) (extrusionMesh bs) (λ g. primitiveMesh (call .colour) g bs)) face-set
 
   result-is : resultIn (resultFor call bs) (saying (Made (x .report))) ≡ resultOf (headerOf bs) M
   unfolding resultFor

@@ -10,7 +10,7 @@ use Rattle.bits.specs.declared.Words2.{Words2}
 use Rattle.bits.specs.declared.Words4.{Words4}
 use Rattle.bits.specs.Bits.{field, table, entries, bytesOf}
 use Rattle.block.specs.declared.kind.Kind.{Kind}
-use Rattle.block.specs.declared.kind.Kind.the-variants.{FaceSet, LineSet, Grid, Extrusion, Other}
+use Rattle.block.specs.declared.kind.Kind.the-variants.{FaceSet, LineSet, Grid, Extrusion, Primitives}
 use Rattle.block.specs.Edition.{edition1, editionOf}
 use Rattle.block.specs.Header.{countsOf, headerOf}
 use Rattle.block.specs.Kind.{byKind}
@@ -21,13 +21,14 @@ use Rattle.block.specs.Value.{valueAt}
 use Rattle.lists.specs.Lists.{mapN, joinN, has, place, meet, firsts, sameWords, flat}
 use Rattle.mesh.specs.Words.{no2, no3, pointWords}
 use Rattle.mesh.specs.Vertices.{Key, sameKey}
-use Rattle.mesh.specs.Mesh.{Mesh, noMesh, slicesOf, mesh}
+use Rattle.mesh.specs.Mesh.{Mesh, slicesOf, mesh}
 use Rattle.mesh.specs.Texture.{fitOf, defaultAt}
-use Rattle.mesh.specs.FaceSet.{Rest, restOf, coordIn, pointCount, normalOf, colourOf, textureBy, cornerBy, cornerOf, faceOf, facesOf, frameOf, faceSetMesh}
+use Rattle.mesh.specs.FaceSet.{Rest, restOf, coordIn, pointCount, normalOf, colourOf, textureBy, cornerBy, cornerOf, faceOf, facesOf, frameOf, faceSetMesh, convexFrame}
 use Rattle.mesh.specs.Quads.{quad, tabs}
-use Rattle.mesh.specs.Grid.{gridOf, xDimension, zDimension, gridDefault, gridCorner, gridFace, gridFaces, gridFrame, gridMesh}
+use Rattle.mesh.specs.Grid.{gridOf, xDimension, zDimension, gridDefault, gridCorner, gridFace, gridFaces, gridMesh}
 use Rattle.mesh.specs.Lines.{somes, joined, itemOf, itemsOf, lineKeys, lineEnds, lineVertices, lineIndices, linesOf, lineSetMesh}
 use Rattle.mesh.specs.Extrusion.{extrusionMesh}
+use Rattle.mesh.specs.Primitives.{listedCoord, primitiveMesh}
 use Rattle.mesh.specs.Result.{makesColours, blockMesh, madeOf, made, resultOf}
 use Rattle.geometry.specs.declared.answer.Answer.{Answer}
 use Rattle.geometry.specs.declared.answer.Call.{Call}
@@ -86,14 +87,15 @@ module _ (w w′ : Words4) (R : Rest) (absent : R .head .colors ≡ false) where
 -- ---- a block
 
 module _ (w w′ : Words4) (bs : List ℕ) where
-  by-kind : (k : Kind) → byKind k (headerOf bs .colors) (headerOf bs .colors) (headerOf bs .colors) false false ≡ false
-      → byKind k (faceSetMesh w bs) (lineSetMesh w bs) (gridMesh w bs) (extrusionMesh bs) noMesh ≡ byKind k (faceSetMesh w′ bs) (lineSetMesh w′ bs) (gridMesh w′ bs) (extrusionMesh bs) noMesh
-  unfolding faceSetMesh lineSetMesh gridMesh restOf gridOf
+  by-kind : (k : Kind) → byKind k (headerOf bs .colors) (headerOf bs .colors) (headerOf bs .colors) false (λ g. headerOf bs .colors) ≡ false
+      → byKind k (faceSetMesh w bs) (lineSetMesh w bs) (gridMesh w bs) (extrusionMesh bs) (λ g. primitiveMesh w g bs)
+      ≡ byKind k (faceSetMesh w′ bs) (lineSetMesh w′ bs) (gridMesh w′ bs) (extrusionMesh bs) (λ g. primitiveMesh w′ g bs)
+  unfolding faceSetMesh lineSetMesh gridMesh primitiveMesh restOf gridOf
   by-kind FaceSet e = ap (mesh (frameOf (restOf bs))) (faces-unread w w′ (restOf bs) e (coordIn bs))
   by-kind LineSet e = lines-unread w w′ (restOf bs) e (coordIn bs)
-  by-kind Grid e = ap (mesh (gridFrame (gridOf bs))) (quads-unread w w′ (gridOf bs) e)
+  by-kind Grid e = ap (mesh (convexFrame (gridOf bs))) (quads-unread w w′ (gridOf bs) e)
   by-kind Extrusion e = refl
-  by-kind Other e = refl
+  by-kind (Primitives g) e = ap (mesh (convexFrame (restOf bs))) (faces-unread w w′ (restOf bs) e (listedCoord g bs))
 
   mesh-unread : makesColours (headerOf bs) ≡ false → blockMesh w bs ≡ blockMesh w′ bs
   unfolding blockMesh

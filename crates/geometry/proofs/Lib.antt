@@ -7,3 +7,4 @@ pub mod Apart
 pub mod ApartRows
 pub mod Bench
 mod Rows
+mod PrimitiveRows

@@ -1,4 +1,4 @@
--- FORMAT 3: the eighth row of the table and the whole table, and what a call has that none of its rows refuses.
+-- FORMAT 3: row 8 of the table and the whole table, and what a call has that none of its rows refuses.
 use mathlib.Core.Path.{_≡_, refl, sym, ap, _∙_}
 use mathlib.Core.Bool.{Bool, true, false, cond}
 use mathlib.Core.List.{List, [], _∷_, _++_}
@@ -34,7 +34,7 @@ sizesIn r = record { points = r .points; corners = r .corners; indices = r .indi
 pub rows-at : (bs : List ℕ) (h : Header) (n : ℕ) → h ≡ headerOf bs → n ≡ seven.rows bs h → n ≡ seven.rows bs (headerOf bs)
 rows-at bs h n eh e = e ∙ ap (seven.rows bs) eh
 
--- ---- a block that the rows 1 to 7 let pass: n is their answer
+-- ---- a block that the rows up to 7 let pass: n is their answer
 
 module _ (bs : List ℕ) (n : ℕ) (e : n ≡ seven.rows bs (headerOf bs)) (z : n ≡ 0) where
   accepted-by : Accepted bs (headerOf bs) (settingsOf bs)
@@ -53,7 +53,7 @@ module _ (bs : List ℕ) (n : ℕ) (e : n ≡ seven.rows bs (headerOf bs)) (z : 
           let s = sizes-low accepted-by in
           (omega (arith, p, s), omega (arith, c, s))
 
--- ---- the rows 1 to 7, and then row 8
+-- ---- the rows up to 7, and then row 8
 
 module _ (bs : List ℕ) (l : Lengths) (n : ℕ) (e : n ≡ seven.rows bs (headerOf bs)) where
   abbrev before : List Row

@@ -1,4 +1,4 @@
--- FORMAT 3, worked: a block of each kind with slices just long enough is not refused, and each of the eight rows refuses one.
+-- FORMAT 3, worked: a block of each kind from 0 to 3 with slices just long enough is not refused, and each row but 9 refuses one; PrimitiveRows has the rest.
 use mathlib.Core.Path.{_≡_, refl}
 use mathlib.Core.List.{List, [], _∷_, _++_}
 use Prim.Native.Nat.{ℕ, _+_, _-_, _*_}
@@ -20,12 +20,12 @@ use Rattle.geometry.specs.declared.answer.Lengths.{Lengths}
 use Rattle.geometry.specs.Answer.{isShort, rows, refusal}
 
 -- FORMAT 4: just long enough for P points, C corners and N indices, but for `less` floats
-abbrev lent : ℕ → ℕ → ℕ → ℕ → Lengths
+abbrev pub lent : ℕ → ℕ → ℕ → ℕ → Lengths
 lent p c n less =
     let w = 8 * (c + p) + 8 in
     record { positions = 3 * c; normals = 3 * c; colours = 4 * c; textures = 2 * c; sources = c; indices = n; words = w; floats = w - less }
 
-abbrev none : Lengths
+abbrev pub none : Lengths
 none = record { positions = 0; normals = 0; colours = 0; textures = 0; sources = 0; indices = 0; words = 0; floats = 0 }
 
 -- the first two words of a header and, after it, n words 0
@@ -54,7 +54,7 @@ pub grid-rows : (refusal (grid gridHeader) (lent 4 4 6 0) ≡ 0)
     × (headerOf (grid gridHeader) .kind ≡ Grid)
     × (refusal (take 19 gridHeader) none ≡ 1)
     × (refusal (grid (set gridHeader 0 37)) none ≡ 2)  -- edition 2
-    × (refusal (grid (set gridHeader 0 25)) none ≡ 3)  -- kind 4
+    × (refusal (grid (set gridHeader 19 1)) none ≡ 3)  -- the last of the 28 bits is set
     × (refusal (grid (set (set gridHeader 2 8) 4 64)) none ≡ 4)  -- count 0 is 8,193
     × (refusal (grid gridHeader ++ 0 ∷ []) none ≡ 5)  -- a byte too many
     × (refusal (grid (set gridHeader 5 1)) none ≡ 6)  -- 2 by 1

@@ -1,4 +1,4 @@
--- FORMAT 3, 4, 5: the eighth row of the table of refusals, the whole table, and what each answer says.
+-- FORMAT 3, 4, 5: row 8 of the table of refusals, the whole table, and what each answer says.
 use Prim.Native.Nat.{ℕ, zero, suc, _+_, _*_}
 use mathlib.Core.Bool.{Bool, _||_}
 use mathlib.Core.List.{List, [], _∷_, _++_}

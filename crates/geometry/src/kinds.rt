@@ -12,9 +12,10 @@ use facesetshape::make_face_set;
 use gridshape::make_grid;
 use lent::Counts;
 use lineshape::make_line_set;
+use primitiveshape::make_primitives;
 use sizes::Sizes;
 
-// FORMAT 2.2: by kind. No block of another kind is accepted.
+// FORMAT 2.2: by kind.
 pub fn make_kind(
     block: &[u8],
     h: Header,
@@ -96,9 +97,21 @@ pub fn make_kind(
             work,
             floats,
         ),
-        Kind::Other => Counts {
-            vertices: 0,
-            indices: 0,
-        },
+        Kind::Primitives(g) => make_primitives(
+            block,
+            h,
+            g,
+            z,
+            s,
+            missing,
+            sources,
+            positions,
+            normals,
+            colours,
+            textures,
+            indices,
+            work,
+            floats,
+        ),
     }
 }

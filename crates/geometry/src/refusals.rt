@@ -1,4 +1,4 @@
-// FORMAT 3: the eighth row of the table of refusals, and the whole table.
+// FORMAT 3: row 8 of the table of refusals, and the whole table.
 ghost use mathlib.Core.Path.{_≡_};
 ghost use Prim.Native.Nat.{_≤_};
 ghost use Rattle.block.specs.Header.{headerOf};
@@ -42,7 +42,7 @@ fn is_short(z: Sizes, l: Lengths) -> bool
     l.floats < working
 }
 
-// All eight rows. The sizes are counted once, where the rows 1 to 6 let the block pass, and handed on.
+// All rows. The sizes are counted once, where the rows 1 to 6 and 9 let the block pass, and handed on.
 pub fn verdict_for(block: &[u8], h: Header, l: Lengths) -> Verdict
     requires { ⌜ h ≡ headerOf (now block) ⌝ }
     ensures { λ r. ⌜ Judged (now (block .entry)) h (refusal (now (block .entry)) l) r ⌝ }

@@ -1,4 +1,4 @@
--- FORMAT 3, 4, 5: a block that rows 1 to 7 of the table let pass, slices as long as it asks, and what they hold in the end.
+-- FORMAT 3, 4, 5: a block that the rows of the table up to 7 let pass, slices as long as it asks, and what they hold in the end.
 use mathlib.Core.Path.{_≡_}
 use mathlib.Core.Bool.{false}
 use mathlib.Core.List.{List}
@@ -16,7 +16,7 @@ use Rattle.mesh.specs.Sizes.{Sizes, sizesOf, isNoShape, isOverCorners}
 use Rattle.mesh.specs.Result.{madeOf}
 use Rattle.lent.specs.declared.Counts.{Counts}
 
--- FORMAT 3: h and s are what the block has, and none of the rows 1 to 7 holds
+-- FORMAT 3: h and s are what the block has, and none of the rows up to 7 holds
 pub record Accepted (bs : List ℕ) (h : Header) (s : Settings) : Type 0 where
   pub header : h ≡ headerOf bs
   pub settings : s ≡ settingsOf bs

@@ -20,7 +20,7 @@ pub record Mesh : Type 0 where
   pub textures : List Words2
   pub indices : List ℕ
 
--- of a kind that there is not
+-- a mesh of nothing
 abbrev pub noMesh : Mesh
 noMesh = record { sources = []; positions = []; normals = []; colours = []; textures = []; indices = [] }
 

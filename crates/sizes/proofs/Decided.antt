@@ -1,4 +1,4 @@
--- FORMAT 3: the rows 6 and 7 of the table, a row for each return; and what a block has that the rows 1 to 7 let pass.
+-- FORMAT 3: the rows 6 and 7 of the table, a row for each return; and what a block has that the rows up to 7 let pass.
 use mathlib.Core.Path.{_≡_, refl, sym, subst, _∙_}
 use mathlib.Core.Bool.{true, false}
 use mathlib.Core.List.{List, _++_}
@@ -97,7 +97,7 @@ shape-answered bs h = ((λ z. omega arith), ((λ z. omega arith), tt))
 pub all-answered : (bs : List ℕ) (h : Header) → Answered (blockRows bs h ++ shapeRows bs h)
 all-answered bs h = answered-append (blockRows bs h) (shapeRows bs h) (block-answered bs h) (shape-answered bs h)
 
--- FORMAT 3: a block that none of the rows 1 to 7 refuses is accepted
+-- FORMAT 3: a block that none of the rows up to 7 refuses is accepted
 pub accepted-of : (bs : List ℕ) → rows bs (headerOf bs) ≡ 0 → Accepted bs (headerOf bs) (settingsOf bs)
 unfolding shapeRows
 accepted-of bs e = go (firstOf (blockRows bs (headerOf bs))) refl

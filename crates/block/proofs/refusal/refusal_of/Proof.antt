@@ -1,6 +1,6 @@
 use mathlib.Core.Path.{sym, _∙_}
 use denote.Ref.{now}
-use Rattle.block.proofs.Table.{Known, row-stub, row-edition, row-kind, row-zeros, row-limit, row-length, row-attributes, row-none}
+use Rattle.block.proofs.Table.{Known, row-stub, row-edition, row-zeros, row-limit, row-length, row-attributes, row-none}
 use borrow.Author.Needs.{needs}
 use Rattle.block.proofs.refusal.refusal_of.Statement.{statement}
 use Rattle.block.proofs.refusal.refusal_of.Tie as tie
@@ -17,30 +17,16 @@ is-known-requires c κs = search needs
 returns-2 : tie.Need-returns-2
 returns-2 c = row-edition _ _ (rw (← c .before .before .before .header-bytes .ensures) (c .before .before .if1 .left)) (sym (c .before .is-known .ensures) ∙ c .if2 .left)
 
-is-primitives-requires : tie.Need-is-primitives-requires
-is-primitives-requires c κs = search needs
-
 returns-3 : tie.Need-returns-3
-returns-3 c = row-kind _ _ (rw (← c .before .before .before .before .before .header-bytes .ensures) (c .before .before .before .before .if1 .left)) (sym (c .before .before .before .is-known .ensures) ∙ c .before .before .if2 .taken) (sym (c .before .is-primitives .ensures) ∙ c .if3 .taken)
-
-returns-4 : tie.Need-returns-4
-returns-4 c =
-    let c2 = c .before .before in
-    let c3 = c2 .before in
-    let c5 = c3 .before .before in
-    row-zeros _ _ (rw (← c5 .before .before .header-bytes .ensures) (c5 .before .if1 .left)) (sym (c5 .is-known .ensures) ∙ c3 .before .if2 .taken) (sym (c3 .is-primitives .ensures) ∙ c2 .if3 .left) (c .if4 .taken)
+returns-3 c = row-zeros _ _ (rw (← c .before .before .before .before .before .header-bytes .ensures) (c .before .before .before .before .if1 .left)) (sym (c .before .before .before .is-known .ensures) ∙ c .before .before .if2 .taken) (c .if3 .taken)
 
 -- what is known where the rows 1 to 3 are passed
-known : (c : tie.Else4) → Known (now (c .before .before .before .before .before .before .before .before .before .args .block)) (c .before .before .before .before .before .before .before .before .before .args .h)
+known : (c : tie.Else3) → Known (now (c .before .before .before .before .before .before .before .args .block)) (c .before .before .before .before .before .before .before .args .h)
 known c =
-    let c2 = c .before .before in
-    let c3 = c2 .before in
-    let c5 = c3 .before .before in
     record {
-      whole = rw (← c5 .before .before .header-bytes .ensures) (c5 .before .if1 .left);
-      edition-is = sym (c5 .is-known .ensures) ∙ c3 .before .if2 .taken;
-      kind-is = sym (c3 .is-primitives .ensures) ∙ c2 .if3 .left;
-      zeros-are = c .if4 .left;
+      whole = rw (← c .before .before .before .before .before .header-bytes .ensures) (c .before .before .before .before .if1 .left);
+      edition-is = sym (c .before .before .before .is-known .ensures) ∙ c .before .before .if2 .taken;
+      zeros-are = c .if3 .left;
     }
 
 limit-of-requires : tie.Need-limit-of-requires
@@ -49,29 +35,31 @@ limit-of-requires c κs = search needs
 over-limit-requires : tie.Need-over-limit-requires
 over-limit-requires c κs = search needs
 
-returns-5 : tie.Need-returns-5
-returns-5 c = row-limit _ _ (known (c .before .before .before .before)) (rw (← c .before .before .limit-of .ensures) (sym (c .before .over-limit .ensures) ∙ c .if5 .taken))
+returns-4 : tie.Need-returns-4
+returns-4 c = row-limit _ _ (known (c .before .before .before .before)) (rw (← c .before .before .limit-of .ensures) (sym (c .before .over-limit .ensures) ∙ c .if4 .taken))
 
 block-bytes-requires : tie.Need-block-bytes-requires
 block-bytes-requires c κs = search needs
 
-returns-6 : tie.Need-returns-6
-returns-6 c = row-length _ _ (known (c .before .before .before .before .before .before)) (rw (← c .before .before .before .before .limit-of .ensures) (sym (c .before .before .before .over-limit .ensures) ∙ c .before .before .if5 .left)) (λ e. c .if6 .taken (e ∙ sym (c .before .block-bytes .ensures)))
+returns-5 : tie.Need-returns-5
+returns-5 c = row-length _ _ (known (c .before .before .before .before .before .before)) (rw (← c .before .before .before .before .limit-of .ensures) (sym (c .before .before .before .over-limit .ensures) ∙ c .before .before .if4 .left)) (λ e. c .if5 .taken (e ∙ sym (c .before .block-bytes .ensures)))
 
 is-other-attributes-requires : tie.Need-is-other-attributes-requires
 is-other-attributes-requires c κs = search needs
 
+returns-6 : tie.Need-returns-6
+returns-6 c =
+    let c2 = c .before .before in
+    let c3 = c2 .before in
+    let c5 = c3 .before .before in
+    row-attributes _ _ (known (c5 .before .before .before)) (rw (← c5 .before .limit-of .ensures) (sym (c5 .over-limit .ensures) ∙ c3 .before .if4 .left)) (c2 .if5 .left ∙ c3 .block-bytes .ensures) (sym (c .before .is-other-attributes .ensures) ∙ c .if6 .taken)
+
 returns-7 : tie.Need-returns-7
 returns-7 c =
     let c2 = c .before .before in
-    let c4 = c2 .before .before in
-    row-attributes _ _ (known (c4 .before .before .before .before)) (rw (← c4 .before .before .limit-of .ensures) (sym (c4 .before .over-limit .ensures) ∙ c4 .if5 .left)) (c2 .if6 .left ∙ c2 .before .block-bytes .ensures) (sym (c .before .is-other-attributes .ensures) ∙ c .if7 .taken)
-
-returns-8 : tie.Need-returns-8
-returns-8 c =
-    let c2 = c .before .before in
-    let c4 = c2 .before .before in
-    row-none _ _ (known (c4 .before .before .before .before)) (rw (← c4 .before .before .limit-of .ensures) (sym (c4 .before .over-limit .ensures) ∙ c4 .if5 .left)) (c2 .if6 .left ∙ c2 .before .block-bytes .ensures) (sym (c .before .is-other-attributes .ensures) ∙ c .if7 .left)
+    let c3 = c2 .before in
+    let c5 = c3 .before .before in
+    row-none _ _ (known (c5 .before .before .before)) (rw (← c5 .before .limit-of .ensures) (sym (c5 .over-limit .ensures) ∙ c3 .before .if4 .left)) (c2 .if5 .left ∙ c3 .block-bytes .ensures) (sym (c .before .is-other-attributes .ensures) ∙ c .if6 .left)
 
 pub refusal-of-spec : {M : Type 1} → statement M
 refusal-of-spec =
@@ -81,14 +69,12 @@ refusal-of-spec =
     returns
     is-known-requires
     returns-2
-    is-primitives-requires
     returns-3
-    returns-4
     limit-of-requires
     over-limit-requires
-    returns-5
+    returns-4
     block-bytes-requires
-    returns-6
+    returns-5
     is-other-attributes-requires
-    returns-7
-    returns-8)
+    returns-6
+    returns-7)

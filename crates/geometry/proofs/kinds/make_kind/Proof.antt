@@ -1,4 +1,4 @@
-use Rattle.geometry.proofs.ByKind.{asked-at, asked-lines, no-other, shaped-at}
+use Rattle.geometry.proofs.ByKind.{asked-at, asked-lines, shaped-at}
 use borrow.Author.Needs.{needs}
 use Rattle.geometry.proofs.kinds.make_kind.Statement.{statement}
 use Rattle.geometry.proofs.kinds.make_kind.Tie as tie
@@ -133,8 +133,38 @@ same-length-31 c = search needs
 same-length-32 : tie.Need-same-length-32
 same-length-32 c = search needs
 
-enum-told-5 : tie.Need-enum-told-5
-enum-told-5 c = search needs
+enum-known-kind : tie.Need-enum-known-kind
+enum-known-kind c = search needs
+
+make-primitives-requires : tie.Need-make-primitives-requires
+make-primitives-requires c κs =
+    let c9 = c .before .before .before .before .before .before .before .before .before in
+    let c20 = c9 .before .before .before .before .before .before .before .before .before .before .before in
+    (asked-at (c20 .pre .0) (c9 .kind .given .1), c20 .pre .1)
+
+same-length-33 : tie.Need-same-length-33
+same-length-33 c = search needs
+
+same-length-34 : tie.Need-same-length-34
+same-length-34 c = search needs
+
+same-length-35 : tie.Need-same-length-35
+same-length-35 c = search needs
+
+same-length-36 : tie.Need-same-length-36
+same-length-36 c = search needs
+
+same-length-37 : tie.Need-same-length-37
+same-length-37 c = search needs
+
+same-length-38 : tie.Need-same-length-38
+same-length-38 c = search needs
+
+same-length-39 : tie.Need-same-length-39
+same-length-39 c = search needs
+
+same-length-40 : tie.Need-same-length-40
+same-length-40 c = search needs
 
 returns : tie.Need-returns
 returns c =
@@ -161,7 +191,10 @@ returns-4 c =
     shaped-at (c25 .before .before .before .before .before .before .before .before .before .before .before .pre .0) _ (c25 .enum-told4 .given .1) _ _ _ _ _ _ (c16 .make-extrusion .ensures)
 
 returns-5 : tie.Need-returns-5
-returns-5 c = no-other (c .before .before .before .before .before .before .before .before .before .before .before .pre .0) (c .enum-told5 .given .1)
+returns-5 c =
+    let c16 = c .before .before .before .before .before .before .before .before .before .before .before .before .before .before .before .before in
+    let c26 = c16 .before .before .before .before .before .before .before .before .before .before in
+    shaped-at (c26 .before .before .before .before .before .before .before .before .before .before .before .pre .0) _ (c26 .kind .given .1) _ _ _ _ _ _ (c16 .make-primitives .ensures)
 
 pub make-kind-spec : {M : Type 1} → statement M
-make-kind-spec = tie.close (tie.spec enum-told make-face-set-requires enum-told-2 make-line-set-requires enum-told-3 make-grid-requires enum-told-4 make-extrusion-requires enum-told-5 same-length same-length-2 same-length-3 same-length-4 same-length-5 same-length-6 same-length-7 same-length-8 returns same-length-9 same-length-10 same-length-11 same-length-12 same-length-13 same-length-14 same-length-15 same-length-16 returns-2 same-length-17 same-length-18 same-length-19 same-length-20 same-length-21 same-length-22 same-length-23 same-length-24 returns-3 same-length-25 same-length-26 same-length-27 same-length-28 same-length-29 same-length-30 same-length-31 same-length-32 returns-4 returns-5)
+make-kind-spec = tie.close (tie.spec enum-told make-face-set-requires enum-told-2 make-line-set-requires enum-told-3 make-grid-requires enum-told-4 make-extrusion-requires enum-known-kind make-primitives-requires same-length same-length-2 same-length-3 same-length-4 same-length-5 same-length-6 same-length-7 same-length-8 returns same-length-9 same-length-10 same-length-11 same-length-12 same-length-13 same-length-14 same-length-15 same-length-16 returns-2 same-length-17 same-length-18 same-length-19 same-length-20 same-length-21 same-length-22 same-length-23 same-length-24 returns-3 same-length-25 same-length-26 same-length-27 same-length-28 same-length-29 same-length-30 same-length-31 same-length-32 returns-4 same-length-33 same-length-34 same-length-35 same-length-36 same-length-37 same-length-38 same-length-39 same-length-40 returns-5)
