@@ -6,20 +6,23 @@ use native.Mathlib.Omega.{arith}
 use lib.ListN.{length, length-map}
 use Rattle.bits.specs.declared.Words4.{Words4}
 use Rattle.block.specs.declared.kind.Kind.{Kind}
-use Rattle.block.specs.declared.kind.Kind.the-variants.{FaceSet, LineSet, Grid, Extrusion, Other}
+use Rattle.block.specs.declared.kind.Kind.the-variants.{FaceSet, LineSet, Grid, Extrusion, Primitives}
+use Rattle.block.specs.declared.topology.Topology.{Topology}
 use Rattle.block.specs.Kind.{byKind}
 use Rattle.block.specs.Header.{headerOf}
 use Rattle.lists.specs.Lists.{total}
 use Rattle.mesh.specs.Soup.{Face, Frame}
 use Rattle.mesh.specs.Vertices.{Key, vertices, width}
-use Rattle.mesh.specs.Mesh.{Mesh, noMesh, meshOf, mesh}
-use Rattle.mesh.specs.FaceSet.{restOf, coordIn, runsIn, faceSetMesh}
+use Rattle.mesh.specs.Mesh.{Mesh, meshOf, mesh}
+use Rattle.mesh.specs.FaceSet.{restOf, coordIn, runsIn, faceSetMesh, convexFrame}
 use Rattle.mesh.specs.Lines.{lineVertices, lineFaces, lineFrame, linesOf, lineSetMesh}
-use Rattle.mesh.specs.Grid.{gridOf, gridFaces, gridFrame, gridMesh}
+use Rattle.mesh.specs.Grid.{gridOf, gridFaces, gridMesh}
 use Rattle.mesh.specs.Extrusion.{extrusionOf, extrusionFaces, extrusionFrame, extrusionMesh}
-use Rattle.mesh.specs.Sizes.{Sizes, faceSetSizes, lineSetSizes, gridSizes, extrusionSizes, noSizes, sizesOf}
+use Rattle.mesh.specs.Sizes.{Sizes, faceSetSizes, lineSetSizes, gridSizes, extrusionSizes, primitiveSizes, sizesOf}
+use Rattle.mesh.specs.Primitives.{primitiveMesh}
 use Rattle.mesh.specs.Result.{blockMesh, resultOf}
 use Rattle.mesh.proofs.Facts.{length-indices, length-vertices, face-set-indices, face-set-vertices}
+use Rattle.mesh.proofs.Primitives.{primitive-vertices, primitive-indices}
 use Rattle.mesh.proofs.LineSoup.{line-soup}
 use Rattle.mesh.proofs.Sizes.{line-set-corners, line-set-indices, grid-corners, grid-indices, extrusion-corners, extrusion-indices}
 use Rattle.geometry.specs.Answer.{resultFor, Saying, refused, made, said}
@@ -56,25 +59,29 @@ module _ (missing : Words4) (bs : List ℕ) where
 
   grid-sized : Sized (gridMesh missing bs) (gridSizes (headerOf bs))
   unfolding gridMesh
-  grid-sized = soup-sized (gridFrame (gridOf bs)) (gridFaces missing (gridOf bs)) (gridSizes (headerOf bs)) (grid-corners missing bs) (grid-indices missing bs)
+  grid-sized = soup-sized (convexFrame (gridOf bs)) (gridFaces missing (gridOf bs)) (gridSizes (headerOf bs)) (grid-corners missing bs) (grid-indices missing bs)
 
   extrusion-sized : Sized (extrusionMesh bs) (extrusionSizes bs (headerOf bs))
   unfolding extrusionMesh
   extrusion-sized =
       soup-sized (extrusionFrame (extrusionOf bs)) (extrusionFaces (extrusionOf bs)) (extrusionSizes bs (headerOf bs)) (extrusion-corners bs) (extrusion-indices bs)
 
+  primitive-sized : (g : Topology) → Sized (primitiveMesh missing g bs) (primitiveSizes g bs (headerOf bs))
+  unfolding primitiveSizes restOf coordIn
+  primitive-sized g = record { vertices = primitive-vertices missing g bs; indices = primitive-indices missing g bs }
+
   pub block-sized : Sized (blockMesh missing bs) (sizesOf bs (headerOf bs))
   unfolding blockMesh sizesOf
   block-sized = go (headerOf bs .kind)
     where
       go : (k : Kind)
-          → Sized (byKind k (faceSetMesh missing bs) (lineSetMesh missing bs) (gridMesh missing bs) (extrusionMesh bs) noMesh)
-          (byKind k (faceSetSizes bs (headerOf bs)) (lineSetSizes bs (headerOf bs)) (gridSizes (headerOf bs)) (extrusionSizes bs (headerOf bs)) noSizes)
+          → Sized (byKind k (faceSetMesh missing bs) (lineSetMesh missing bs) (gridMesh missing bs) (extrusionMesh bs) (λ g. primitiveMesh missing g bs))
+          (byKind k (faceSetSizes bs (headerOf bs)) (lineSetSizes bs (headerOf bs)) (gridSizes (headerOf bs)) (extrusionSizes bs (headerOf bs)) (λ g. primitiveSizes g bs (headerOf bs)))
       go FaceSet = face-set-sized
       go LineSet = line-set-sized
       go Grid = grid-sized
       go Extrusion = extrusion-sized
-      go Other = record { vertices = omega arith; indices = refl }
+      go (Primitives g) = primitive-sized g
 
 -- FORMAT 14: of a block that the program does not refuse
 few : (bs : List ℕ) → number bs ≡ 0 → (resultFor passed bs .vertices ≤ 256) × (resultFor passed bs .indices ≤ 768)

@@ -10,7 +10,7 @@ use sizes::either;
 use sizes::flags_of;
 use text::Parts;
 
-// Where wanted or, in face sets and grids, where texture points are present.
+// Where wanted or, in all but extrusions, where texture points are present; never for a line set.
 fn makes_texture(h: Header) -> bool
     ensures { λ r. ⌜ r ≡ makesTextures h ⌝ }
 {
@@ -20,7 +20,7 @@ fn makes_texture(h: Header) -> bool
         Kind::LineSet => false,
         Kind::Grid => either(h.need_uvs, h.texture_points),
         Kind::Extrusion => h.need_uvs,
-        Kind::Other => false,
+        Kind::Primitives(_) => either(h.need_uvs, h.texture_points),
     }
 }
 

@@ -23,6 +23,9 @@ enum-told-4 c = search needs
 enum-told-5 : tie.Need-enum-told-5
 enum-told-5 c = search needs
 
+either-requires-3 : tie.Need-either-requires-3
+either-requires-3 c κs = search needs
+
 returns : tie.Need-returns
 returns c = rw (c .before .enum-told .given .1) (c .either .ensures)
 
@@ -36,7 +39,7 @@ returns-4 : tie.Need-returns-4
 returns-4 c = rw (c .enum-told4 .given .1)
 
 returns-5 : tie.Need-returns-5
-returns-5 c = rw (c .enum-told5 .given .1)
+returns-5 c = rw (c .before .enum-told5 .given .1) (c .either3 .ensures)
 
 pub makes-texture-spec : {M : Type 1} → statement M
-makes-texture-spec = tie.close (tie.spec enum-told either-requires enum-told-2 enum-told-3 either-requires-2 enum-told-4 enum-told-5 returns returns-2 returns-3 returns-4 returns-5)
+makes-texture-spec = tie.close (tie.spec enum-told either-requires enum-told-2 enum-told-3 either-requires-2 enum-told-4 enum-told-5 either-requires-3 returns returns-2 returns-3 returns-4 returns-5)
