@@ -1,4 +1,4 @@
-// The blocks of the cases: face sets with ccw set and convex off (FORMAT 2).
+// The blocks of the cases: sets of faces or primitives with ccw set and convex off (FORMAT 2).
 ghost use Prim.Native.Nat.{_+_, _^_, _≤_, _<_};
 ghost use lib.ListN.{length};
 ghost use mathlib.Core.Path.{_≡_};
@@ -22,11 +22,11 @@ fn put_word(block: &mut [u8], at: usize, v: u32)
     put_byte(block, at + 3, v % 256);
 }
 
-// Two counts: the points and the entries of coordIndex.
-fn put_header(block: &mut [u8], points: u32, entries: u32)
-    requires { ⌜ (points < 2 ^ 14) × (entries < 2 ^ 14) ⌝ }
+// The kind and the bits as the first word has them, and two counts: the points and the entries of the index list.
+fn put_header(block: &mut [u8], first: u32, points: u32, entries: u32)
+    requires { ⌜ (first < 2 ^ 31) × (points < 2 ^ 14) × (entries < 2 ^ 14) ⌝ }
 {
-    put_word(block, 0, 0x1100_0000 + points / 4);
+    put_word(block, 0, first + points / 4);
     put_word(block, 4, points % 4 * 0x4000_0000 + entries * 0x1_0000);
 }
 
@@ -42,8 +42,8 @@ fn put_points(block: &mut [u8], n: u16) {
     }
 }
 
-// Entry i of 0 1 third -1, again and again.
-fn triangle_entry(i: u32, third: u32) -> u32 {
+// Entry i of 0 1 third fourth, again and again.
+fn entry_of(i: u32, third: u32, fourth: u32) -> u32 {
     let k = i % 4;
     if k < 2 {
         return k;
@@ -51,17 +51,17 @@ fn triangle_entry(i: u32, third: u32) -> u32 {
     if k == 2 {
         return third;
     }
-    0xffff_ffff
+    fourth
 }
 
 // n entries from byte 116 on, after 4 points.
-fn put_triangles(block: &mut [u8], n: u16, third: u32) {
+fn put_entries(block: &mut [u8], n: u16, third: u32, fourth: u32) {
     let mut i: u16 = 0;
     while i < n {
         put_word(
             block,
             116 + 4 * (i as usize),
-            triangle_entry(i as u32, third),
+            entry_of(i as u32, third, fourth),
         );
         i += 1;
     }
@@ -83,9 +83,20 @@ pub(crate) fn triangles(entries: u16, third: u32) -> Seen
     requires { ⌜ entries ≤ 8193 ⌝ }
 {
     let mut block = [0u8; 65620];
-    put_header(&mut block, 4, entries as u32);
+    put_header(&mut block, 0x1100_0000, 4, entries as u32);
     put_points(&mut block, 4);
-    put_triangles(&mut block, entries, third);
+    put_entries(&mut block, entries, third, 0xffff_ffff);
+    convert_full(bits::part(&block, 0, 116 + 4 * (entries as usize)))
+}
+
+// A triangle, fan, strip or quad set: so many entries 0 1 2 3 .. over 4 points.
+pub(crate) fn primitives(first: u32, entries: u16) -> Seen
+    requires { ⌜ (first < 2 ^ 31) × (entries ≤ 8193) ⌝ }
+{
+    let mut block = [0u8; 65620];
+    put_header(&mut block, first, 4, entries as u32);
+    put_points(&mut block, 4);
+    put_entries(&mut block, entries, 2, 3);
     convert_full(bits::part(&block, 0, 116 + 4 * (entries as usize)))
 }
 
@@ -94,7 +105,7 @@ pub(crate) fn face(corners: u16) -> Seen
     requires { ⌜ corners ≤ 4097 ⌝ }
 {
     let mut block = [0u8; 65620];
-    put_header(&mut block, corners as u32, corners as u32);
+    put_header(&mut block, 0x1100_0000, corners as u32, corners as u32);
     put_points(&mut block, corners);
     put_corners(&mut block, 68 + 12 * (corners as usize), corners);
     convert_full(bits::part(&block, 0, 68 + 16 * (corners as usize)))

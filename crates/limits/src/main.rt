@@ -1,8 +1,9 @@
-// Cases at the edge of a rule (FORMAT 3, 6.2, 12.1), converted with slices for the largest block; each is compared with what the rule says.
+// Cases at the edge of a rule (FORMAT 3, 6.2, 6.4, 12.1), converted with slices for the largest block; each is compared with what the rule says.
 mod blocks;
 mod full;
 
 use blocks::face;
+use blocks::primitives;
 use blocks::triangles;
 use full::Seen;
 use libc::STDOUT_FILENO;
@@ -42,6 +43,43 @@ fn seen(number: u32, indices: usize, a: u32, b: u32, c: u32) -> Seen {
     }
 }
 
+// Kinds 4, 6 and 7, attributes per vertex; and a strip set whose colours are not.
+const TRIANGLES: u32 = 0x1930_0000;
+
+const STRIPS: u32 = 0x1d30_0000;
+
+const QUADS: u32 = 0x1f30_0000;
+
+const COLOURS_BY_FACE: u32 = 0x1d10_0000;
+
+fn tell_primitives() {
+    tell(
+        b"a strip of 2732 entries passes:",
+        primitives(STRIPS, 2732),
+        seen(0, 8190, 0, 1, 2),
+    );
+    tell(
+        b"a strip of 2733 entries is refused:",
+        primitives(STRIPS, 2733),
+        seen(7, 0, 0, 0, 0),
+    );
+    tell(
+        b"8192 entries of triangles pass:",
+        primitives(TRIANGLES, 8192),
+        seen(0, 8190, 0, 1, 2),
+    );
+    tell(
+        b"8192 entries of quads pass:",
+        primitives(QUADS, 8192),
+        seen(0, 12288, 0, 1, 2),
+    );
+    tell(
+        b"9 comes before 7:",
+        primitives(COLOURS_BY_FACE, 2733),
+        seen(9, 0, 0, 0, 0),
+    );
+}
+
 fn main() {
     tell(
         b"0 1 3 of 4 points is kept:",
@@ -73,4 +111,5 @@ fn main() {
         face(4097),
         seen(0, 12285, 0, 1, 2),
     );
+    tell_primitives();
 }

@@ -2,18 +2,18 @@ use mathlib.Core.Path.{_≡_}
 use Prim.Native.Nat.{_-_, _≤_}
 use lib.ListN.{length}
 use borrow.Author.Needs.{needs}
-use Rattle.limits.proofs.blocks.put_triangles.Statement.{statement}
-use Rattle.limits.proofs.blocks.put_triangles.Tie as tie
-use Rattle.limits.proofs.blocks.put_triangles.Reads as reads
-use Rattle.limits.proofs.blocks.put_triangles.Lts as lts
+use Rattle.limits.proofs.blocks.put_entries.Statement.{statement}
+use Rattle.limits.proofs.blocks.put_entries.Tie as tie
+use Rattle.limits.proofs.blocks.put_entries.Reads as reads
+use Rattle.limits.proofs.blocks.put_entries.Lts as lts
 use Rattle.limits.proofs.blocks.put_word.Reads as put-word-reads
-use Rattle.limits.proofs.blocks.triangle_entry.Reads as triangle-entry-reads
+use Rattle.limits.proofs.blocks.entry_of.Reads as entry-of-reads
 
 abbrev Inv-loop : tie.InvT-loop
-Inv-loop block₀ n third i₀ block i = (length block ≡ length block₀) × (i ≤ n)
+Inv-loop block₀ n third fourth i₀ block i = (length block ≡ length block₀) × (i ≤ n)
 
 abbrev μ-loop : tie.MeasureT-loop
-μ-loop block₀ n third i₀ block i = n - i
+μ-loop block₀ n third fourth i₀ block i = n - i
 
 loop-holds : tie.Need-loop-holds Inv-loop μ-loop
 loop-holds c = search needs
@@ -27,11 +27,11 @@ mul-put-word c = search needs
 add-put-word : tie.Need-add-put-word Inv-loop μ-loop
 add-put-word c = search needs
 
-cast-triangle-entry : tie.Need-cast-triangle-entry Inv-loop μ-loop
-cast-triangle-entry c = search needs
+cast-entry-of : tie.Need-cast-entry-of Inv-loop μ-loop
+cast-entry-of c = search needs
 
-triangle-entry-requires : tie.Need-triangle-entry-requires Inv-loop μ-loop
-triangle-entry-requires c κs = search needs
+entry-of-requires : tie.Need-entry-of-requires Inv-loop μ-loop
+entry-of-requires c κs = search needs
 
 put-word-requires : tie.Need-put-word-requires Inv-loop μ-loop
 put-word-requires c κs = search needs
@@ -51,8 +51,8 @@ same-length c = search needs
 returns : tie.Need-returns Inv-loop μ-loop
 returns c = search needs
 
-pub put-triangles-spec : {M : Type 1} → statement M
-put-triangles-spec =
+pub put-entries-spec : {M : Type 1} → statement M
+put-entries-spec =
     tie.close
     (tie.spec
     Inv-loop
@@ -61,8 +61,8 @@ put-triangles-spec =
     cast-put-word
     mul-put-word
     add-put-word
-    cast-triangle-entry
-    triangle-entry-requires
+    cast-entry-of
+    entry-of-requires
     put-word-requires
     add-i
     loop-less
