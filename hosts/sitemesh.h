@@ -33,12 +33,13 @@ enum {
     SITEMESH_OK = 0,
     SITEMESH_STUB = 1,
     SITEMESH_EDITION = 2,
-    SITEMESH_KIND = 3,
+    SITEMESH_ZERO_BITS = 3,
     SITEMESH_LIST_LIMIT = 4,
     SITEMESH_LENGTH = 5,
     SITEMESH_NO_SHAPE = 6,
     SITEMESH_CORNERS = 7,
-    SITEMESH_BUFFER = 8
+    SITEMESH_BUFFER = 8,
+    SITEMESH_ATTRIBUTES = 9
 };
 
 /* What `result` holds after success. */

@@ -19,12 +19,13 @@ pub const MOST_BLOCK: usize = 68 + 4 * 16 * 8192;
 pub enum Refusal {
     Stub = 1,
     Edition = 2,
-    Kind = 3,
+    ZeroBits = 3,
     ListLimit = 4,
     Length = 5,
     NoShape = 6,
     Corners = 7,
     Buffer = 8,
+    Attributes = 9,
 }
 
 impl Refusal {
@@ -32,13 +33,14 @@ impl Refusal {
         match number {
             1 => Self::Stub,
             2 => Self::Edition,
-            3 => Self::Kind,
+            3 => Self::ZeroBits,
             4 => Self::ListLimit,
             5 => Self::Length,
             6 => Self::NoShape,
             7 => Self::Corners,
             8 => Self::Buffer,
-            _ => unreachable!("the converter answers 0 to 8"),
+            9 => Self::Attributes,
+            _ => unreachable!("the converter answers 0 to 9"),
         }
     }
 }

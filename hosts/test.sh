@@ -129,21 +129,22 @@ for example in "${examples[@]}"; do
     tally "grey by $example" $?
 done
 
-# The first seven refusals, by number from C and by name from Rust; the names are those of docs/FORMAT.md 3.
+# Each refusal but 8, by number from C and by name from Rust; the names are those of docs/FORMAT.md 3.
 head -c 19 examples/duct.block > "$out/refused1"
 (printf '\x20'; tail -c +2 examples/duct.block) > "$out/refused2"
-(printf '\x18'; tail -c +2 examples/duct.block) > "$out/refused3"
+(head -c 19 examples/duct.block; printf '\x01'; tail -c +21 examples/duct.block) > "$out/refused3"
 (printf '\x16\x00\x0f\xff'; tail -c +5 examples/duct.block) > "$out/refused4"
 head -c -1 examples/duct.block > "$out/refused5"
 zeros '\x14' 67 > "$out/refused6"
 zeros '\x14\x00\x00\x10\x00\x40\x00\x01' 16444 > "$out/refused7"
-for number in {1..8}; do
+zeros '\x19\x10' 66 > "$out/refused9"
+for number in {1..9}; do
     name=$(sed -n "/^## 3 /,/^## 4 /s/^| $number | \([a-z ]*\) |.*/\1/p" docs/FORMAT.md)
     upper=$(printf '%s' "$name" | tr 'a-z ' 'A-Z_')
     camel=$(printf '%s' "$name" | sed 's/\b./\u&/g; s/ //g')
     grep -q "^    SITEMESH_$upper = $number,\?$" hosts/sitemesh.h && grep -q "^    $camel = $number,$" hosts/sitemesh.rs
     tally "refusal $number is named" $?
-    [ "$number" -lt 8 ] || continue
+    [ "$number" -ne 8 ] || continue
     for example in "${examples[@]}"; do
         said=$number
         [ "$example" = target/example_rs ] && said=$camel
