@@ -7,12 +7,14 @@ cd "$(dirname "$0")/.."
 program=${SITEMESH:-target/bin/sitemesh}
 site='ground hospital duct mast ambulance paths'
 meshes=()
-for name in $site annex; do
+bay='hall gables roof'
+for name in $site annex $bay; do
     python3 tools/block.py "examples/$name.txt" "examples/$name.block"
     "$program" < "examples/$name.block" > "examples/$name.mesh"
 done
 for name in $site; do meshes+=("examples/$name.mesh"); done
 python3 tools/mesh.py svg "${meshes[@]}" > examples/site.svg
+python3 tools/mesh.py svg examples/{hall,gables,roof}.mesh > examples/bay.svg
 cc -I hosts hosts/call.c target/staticlib/libhost.a -o target/call
 target/call examples/annex.block grey > examples/grey/annex.mesh
 python3 tools/mesh.py svg examples/grey/annex.mesh > examples/annex.svg

@@ -7,9 +7,10 @@
 NOT PROVED: this tool is plain Python for people. Nothing of the converter depends on it.
 
 A line names a field and its values; a line that begins with a number goes on with the list above it.
-Names and defaults are those of VRML97. '#' begins a comment. The text is UTF-8.
+Names and defaults are those of VRML97, and of X3D for its triangle, fan, strip and quad sets. '#' begins a comment.
+The text is UTF-8.
 
-    shape IndexedFaceSet      # or IndexedLineSet, ElevationGrid, Extrusion: the first field
+    shape IndexedFaceSet      # the first field; the other shapes stand below
     convex FALSE
     creaseAngle 30deg         # angles in radians, or in degrees with 'deg'
     point 0 0 0, 1 0 0
@@ -25,16 +26,20 @@ spaces is an error where fractions may stand, unless its comma parts two entries
 
 Warnings, each a line on standard error with the line of the text; the block is written, and the status is 0:
   - a run of coordIndex that is not drawn or, in a line set, is broken (FORMAT 6);
+  - a triangle or quad of an index that is not drawn, or entries left over at its end (FORMAT 6.4);
   - a run, point or quad that is drawn without its colour, normal or texture point (FORMAT 7); a missing colour is the
     one that the caller chooses: sitemesh passes white, a terminal grey;
   - a shape that draws nothing, a cap that is asked for and not drawn, a list that is not read or is too short.
 Runs, points and values are numbered from 0; an empty run counts and is not warned of.
 
+A triangle set takes its index in threes, a quad set in fours: nothing separates there, and -1 is a point that is not
+there. The runs of a fan or strip set end as those of a face set do. Attributes are read at the point's number.
+
 A window in a wall is no face of its own: an outline that goes in to it and back along the same edge covers it. Leave a
 slit between the two ways, or lay several faces round it (docs/DIFFERENCES.md, 12).
 
 Errors, each a line on standard error, status 1, nothing written: a text that is not understood, and a block that
-would be refused for what it says (FORMAT 3, rows 4, 6 and 7: list limit, no shape, corners).
+would be refused for what it says (FORMAT 3, rows 4, 6, 7 and 9: list limit, no shape, corners, attributes).
 """
 import math
 import os
@@ -47,14 +52,14 @@ sys.dont_write_bytecode = True
 import files
 import losses
 from files import Fault, shown
-from losses import DIMENSIONS
+from losses import DIMENSIONS, PRIMITIVES
 
 LIST_LIMIT = 8192
 TOO_LARGE = 2.0**128 - 2.0**103  # from here on the nearest f32 is infinite
 NUMBER = re.compile(r'[+-]?(\d+\.?\d*|\.\d+)([eE][+-]?\d+)?', re.ASCII)
 WHOLE = re.compile(r'[+-]?\d+', re.ASCII)
 LONE_COMMA = re.compile(r'[+-]?\d+,\d+([eE][+-]?\d+)?(deg)?', re.ASCII)
-KINDS = ['IndexedFaceSet', 'IndexedLineSet', 'ElevationGrid', 'Extrusion']
+KINDS = ['IndexedFaceSet', 'IndexedLineSet', 'ElevationGrid', 'Extrusion', *PRIMITIVES]
 
 # The fields of each kind.
 FLAGS = {
@@ -62,6 +67,7 @@ FLAGS = {
     'IndexedLineSet': 'colorPerVertex',
     'ElevationGrid': 'ccw solid colorPerVertex normalPerVertex texture',
     'Extrusion': 'ccw convex solid texture beginCap endCap',
+    **dict.fromkeys(PRIMITIVES, 'ccw solid colorPerVertex normalPerVertex texture'),
 }
 SINGLE = {  # how many values, and whether they are angles
     'creaseAngle': (1, True), 'xSpacing': (1, False), 'zSpacing': (1, False),
@@ -74,6 +80,7 @@ SINGLES = {
     'IndexedLineSet': '',
     'ElevationGrid': 'creaseAngle xSpacing zSpacing ' + TRANSFORM,
     'Extrusion': 'creaseAngle ' + TRANSFORM,
+    **dict.fromkeys(PRIMITIVES, 'creaseAngle ' + TRANSFORM),
 }
 # The eight lists in the order of their counts (FORMAT 2.4); '' is a list without words.
 INDEXED = 'point coordIndex color colorIndex normal normalIndex texCoord texCoordIndex'
@@ -82,6 +89,7 @@ LISTS = {
     'IndexedLineSet': 'point coordIndex color colorIndex'.split() + [''] * 4,
     'ElevationGrid': 'xDimension zDimension color height normal'.split() + ['', 'texCoord', ''],
     'Extrusion': 'spine crossSection scale orientation'.split() + [''] * 4,
+    **dict.fromkeys(PRIMITIVES, ['point', 'index', 'color', '', 'normal', '', 'texCoord', '']),
 }
 # Numbers of an entry; an orientation is given as axis and angle and written as axis, sine and cosine.
 WIDTH = {
@@ -182,9 +190,13 @@ def dimension(name, line):
     return whole(line.words[0], line, 0, LIST_LIMIT)
 
 
+def is_index(name):
+    return name == 'index' or name.endswith('Index')
+
+
 def entries(name, line):
     """One line of a list: whole entries."""
-    if name.endswith('Index'):
+    if is_index(name):
         return [whole(w, line, -2**31, 2**31 - 1) for w in line.words]
     width = WIDTH[name]
     line.refuse_decimal_comma(width)
@@ -341,7 +353,7 @@ def list_bytes(text, name):
     if name in DIMENSIONS:
         return text.fields.get(name, 0), b''
     values = text.values(name)
-    if name.endswith('Index'):
+    if is_index(name):
         return len(values), struct.pack(f'>{len(values)}i', *values)
     if name == 'orientation':
         values = turned(values)

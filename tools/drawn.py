@@ -1,9 +1,9 @@
 #!/usr/bin/env python3
 """Tests the warnings of block.py against the program, NOT PROVED: python3 tools/drawn.py target/bin/sitemesh
 
-Of face sets and line sets made up at random, sitemesh has to draw the whole of each run that is not warned of and
-nothing of one that is said not to be drawn, and to give white, which it passes for a missing colour, just where a
-warning says so.
+Of sets made up at random, sitemesh has to draw the whole of each run that is not warned of and nothing of one that is
+said not to be drawn, and to give white, which it passes for a missing colour, just where a warning says so. In a
+triangle or quad set a triangle or quad stands for the run.
 """
 import random
 import re
@@ -18,6 +18,8 @@ import mesh
 
 TEXTS = 400
 WARNING = re.compile(r'run (\d+) (is not drawn|is broken|has no color)')
+PART = re.compile(r'(?:(\d+) of the \d+ triangles of )?((?:run|triangle|quad) \d+|the last \w+) '
+                  r'(is not drawn|are not drawn|has no color)')
 chance = random.Random(14)
 
 
@@ -39,6 +41,15 @@ def some_text():
     lines += [f'{k} {k * k} {k * k * k}' for k in range(points)]
     lines += ['coordIndex'] + [str(entry) for entry in coordinates] + ['color'] + ['0.5 0.5 0.5'] * colours
     return lines + ['colorPerVertex ' + chance.choice(('TRUE', 'FALSE')), 'colorIndex ' + ' '.join(map(str, numbers))]
+
+
+def some_primitives():
+    """The same of a triangle, fan, strip or quad set."""
+    points, colours = chance.randrange(1, 9), chance.randrange(1, 11)
+    lines = ['shape ' + chance.choice(list(losses.PRIMITIVES)), 'point']
+    lines += [f'{k} {k * k} {k * k * k}' for k in range(points)]
+    lines += ['index'] + [str(entry) for entry in indices(chance.randrange(24), points)]
+    return lines + ['color'] + ['0.5 0.5 0.5'] * colours
 
 
 def printed(program, made):
@@ -74,11 +85,26 @@ def is_right(text, found):
     return right and start == len(found.shapes)
 
 
+def are_right(text, found):
+    """The same of a triangle, fan, strip or quad set, stretch by stretch."""
+    said = [PART.match(what) for _, what in losses.warnings(text)]
+    start, right = 0, True
+    for stretch in losses.stretches(text):
+        of_stretch = [match for match in said if match and match[2] == stretch.name]
+        lost = [int(match[1] or len(stretch.parts)) for match in of_stretch if 'not drawn' in match[3]]
+        drawn = (len(stretch.parts) - sum(lost)) * (2 if text.kind == 'IndexedQuadSet' else 1)
+        shapes, start = found.shapes[start:start + drawn], start + drawn
+        white = any(found.parts['c'][v] == mesh.MISSING['c'] for shape in shapes for v in shape)
+        right = right and len(shapes) == drawn and white == any('no color' in match[3] for match in of_stretch)
+    return right and start == len(found.shapes)
+
+
 def main(program='target/bin/sitemesh'):
     for _ in range(TEXTS):
-        lines = some_text()
+        lines = chance.choice((some_text, some_primitives))()
         text = block.Text(lines)
-        if not is_right(text, printed(program, block.block(text))):
+        fits = are_right if text.kind in losses.PRIMITIVES else is_right
+        if not fits(text, printed(program, block.block(text))):
             print('not what is drawn:', *losses.warnings(text), *lines, sep='\n')
             return 1
     return 0

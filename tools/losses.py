@@ -4,13 +4,19 @@ A text here is a `Text` of block.py. What is found is a line number of the text 
 """
 DIMENSIONS = ('xDimension', 'zDimension')
 ATTRIBUTES = ('color', 'normal', 'texCoord')
+# What the primitives of each set are called, and how many entries one has (FORMAT 6.4).
+PRIMITIVES = {
+    'IndexedTriangleSet': ('triangle', 3), 'IndexedTriangleFanSet': ('fan', 3),
+    'IndexedTriangleStripSet': ('strip', 3), 'IndexedQuadSet': ('quad', 4),
+}
 
 
-# ---- refusals 6 and 7 (FORMAT 3); 4 is found while the text is read
+# ---- refusals 6, 7 and 9 (FORMAT 3); 4 is found while the text is read
 
 def refusal(text, limit):
     """Why the block would be refused; none where it would not be."""
-    find = {'ElevationGrid': grid_refusal, 'Extrusion': extrusion_refusal}.get(text.kind)
+    find = {'ElevationGrid': grid_refusal, 'Extrusion': extrusion_refusal,
+            **dict.fromkeys(PRIMITIVES, primitives_refusal)}.get(text.kind)
     return find(text, limit) if find else None
 
 
@@ -45,6 +51,14 @@ def extrusion_refusal(text, limit):
     return too_large(text, 'spine', rings * places, corners, limit)
 
 
+def primitives_refusal(text, limit):
+    for name in ('colorPerVertex', 'normalPerVertex'):
+        if not text.fields.get(name, True):
+            return text.line_number(name), f'{name} is FALSE, and {text.kind} has its attributes per vertex'
+    corners = sum(len(part.entries) for stretch in stretches(text) for part in stretch.parts if is_whole(text, part))
+    return too_large(text, 'index', text.count('point'), corners, limit)
+
+
 def too_large(text, name, points, corners, limit):
     if max(points, corners) <= limit:
         return None
@@ -63,7 +77,8 @@ def cap_corners(text):
 
 def warnings(text):
     """What the mesh would lack, by line."""
-    find = {'ElevationGrid': grid_losses, 'Extrusion': extrusion_losses}.get(text.kind, set_losses)
+    find = {'ElevationGrid': grid_losses, 'Extrusion': extrusion_losses,
+            **dict.fromkeys(PRIMITIVES, primitives_losses)}.get(text.kind, set_losses)
     return sorted(find(text), key=lambda found: found[0])
 
 
@@ -74,9 +89,9 @@ class Run:
         self.number, self.line, self.start, self.entries = number, line, start, entries
 
 
-def runs(text):
+def runs(text, name='coordIndex'):
     """The runs that are not empty; empty ones count in the numbers (FORMAT 6.1)."""
-    entries, lines = text.values('coordIndex'), text.entry_lines.get('coordIndex', [])
+    entries, lines = text.values(name), text.entry_lines.get(name, [])
     found, number, start = [], 0, 0
     for place in range(len(entries) + 1):
         if place == len(entries) or entries[place] < 0:
@@ -177,6 +192,78 @@ def index_lacks(text, name, index, place):
         return f'{index} has {entries[place]} there'
     count = text.count(name)
     return '' if entries[place] < count else f'{entries[place]} names no {name} ({listed(name, count)})'
+
+
+class Stretch:
+    """What primitives are taken from: its name for a message, its line, the primitives, and the entries left over."""
+
+    def __init__(self, name, line, parts, rest):
+        self.name, self.line, self.parts, self.rest = name, line, parts, rest
+
+
+def stretches(text):
+    """FORMAT 6.4: each primitive of a triangle or quad set by itself; the runs of a fan or strip set."""
+    name, width = PRIMITIVES[text.kind]
+    return run_stretches(text, name) if name in ('fan', 'strip') else whole_stretches(text, name, width)
+
+
+def run_stretches(text, name):
+    for run in runs(text, 'index'):
+        places = [(0 if name == 'fan' else k, k + 1, k + 2) for k in range(len(run.entries) - 2)]
+        parts = [Run(k, run.line, 0, [run.entries[p] for p in place]) for k, place in enumerate(places)]
+        yield Stretch(f'run {run.number}', run.line, parts, [] if parts else run.entries)
+
+
+def whole_stretches(text, name, width):
+    entries, lines = text.values('index'), text.entry_lines.get('index', [])
+    for start in range(0, len(entries), width):
+        part = Run(start // width, lines[start], start, entries[start:start + width])
+        if len(part.entries) == width:
+            yield Stretch(f'{name} {part.number}', part.line, [part], [])
+        else:
+            yield Stretch(f'the last {name}', part.line, [], part.entries)
+
+
+def is_whole(text, part):
+    return all(0 <= entry < text.count('point') for entry in part.entries)
+
+
+def primitives_losses(text):
+    """Of a triangle, fan, strip or quad set."""
+    name, width = PRIMITIVES[text.kind]
+    found = list(stretches(text))
+    for stretch in found:
+        if stretch.rest:
+            more = ' or more' * (name in ('fan', 'strip'))
+            has = f'a {name} has {width} entries{more}, and it has {len(stretch.rest)}'
+            yield stretch.line, f'{stretch.name} is not drawn: {has}'
+        yield from parts_lost(text, stretch)
+    if not found:
+        yield text.line_number('index'), 'nothing is drawn: index has no entries'
+    for attribute in ATTRIBUTES:
+        for stretch in found:
+            yield from values_lost(text, attribute, stretch)
+
+
+def parts_lost(text, stretch):
+    """Primitives that name a point that is not there."""
+    lost = [part for part in stretch.parts if not is_whole(text, part)]
+    if lost:
+        bad = sorted({entry for part in lost for entry in part.entries if not 0 <= entry < text.count('point')})
+        names = f"{', '.join(map(str, bad[:4]))}{' ..' * (len(bad) > 4)} name{'s' * (len(bad) == 1)} no point"
+        some = '' if len(lost) == len(stretch.parts) else f'{len(lost)} of the {len(stretch.parts)} triangles of '
+        verb = 'are' if some and len(lost) > 1 else 'is'
+        yield stretch.line, f"{some}{stretch.name} {verb} not drawn: {names} ({listed('point', text.count('point'))})"
+
+
+def values_lost(text, name, stretch):
+    """Drawn primitives that lack a value, which is read at the point's number."""
+    if text.name(name) in text.fields:
+        drawn = sorted({entry for part in stretch.parts if is_whole(text, part) for entry in part.entries})
+        lost = [entry for entry in drawn if entry >= text.count(name)]
+        if lost:
+            yield stretch.line, (f'{stretch.name} has no {name} at {len(lost)} of its {len(drawn)} points: '
+                                 f'{lost[0]} names no {name} ({listed(name, text.count(name))})')
 
 
 def grid_losses(text):

@@ -28,8 +28,8 @@ sys.dont_write_bytecode = True
 import files
 from files import Fault, shown
 
-REFUSALS = ['stub', 'edition', 'kind', 'list limit', 'length', 'no shape', 'corners',
-            'buffer: it needs more than sitemesh lends (docs/FORMAT.md 14)']
+REFUSALS = ['stub', 'edition', 'zero bits', 'list limit', 'length', 'no shape', 'corners',
+            'buffer: it needs more than sitemesh lends (docs/FORMAT.md 14)', 'attributes']
 MISSING = {'n': [0.0] * 3, 'c': [1.0] * 4, 'u': [0.0] * 2}
 
 
@@ -84,7 +84,7 @@ def read_shape(mesh, words):
 
 
 def read_head(mesh, words):
-    if words[0] == 'no' and len(words) == 2 and words[1] in list('12345678'):
+    if words[0] == 'no' and len(words) == 2 and words[1] in list('123456789'):
         raise Fault(f'no mesh: the block was refused, number {words[1]}, {REFUSALS[int(words[1]) - 1]}')
     if words == ['long']:
         raise Fault('no mesh: the block was longer than sitemesh reads')

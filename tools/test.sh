@@ -96,7 +96,8 @@ for text in examples/*.txt tools/cases/*.txt; do
     tally "block of $text" $?
 done
 
-for name in "${site[@]}"; do
+bay=(hall gables roof)
+for name in "${site[@]}" "${bay[@]}"; do
     python3 tools/block.py --strict "examples/$name.txt" "$work/made.block"
     tally "no warning: examples/$name.txt" $?
 done
@@ -105,7 +106,7 @@ python3 tools/block.py examples/annex.txt "$work/made.block" 2> "$work/said" &&
     [ "$(wc -l < "$work/said")" -eq 4 ]
 tally 'a warning for each wall of examples/annex.txt, and no other' $?
 
-for name in "${site[@]}" annex; do
+for name in "${site[@]}" annex "${bay[@]}"; do
     [ "$(wc -c < "examples/$name.block")" -le 8192 ] && grep -q '^mesh ' "examples/$name.mesh"
     tally "examples/$name fits what sitemesh lends" $?
 done
@@ -130,6 +131,8 @@ cmp "$work/site.svg" examples/site.svg
 tally 'picture of the site' $?
 python3 tools/mesh.py svg examples/grey/annex.mesh | cmp - examples/annex.svg
 tally 'picture of the annex' $?
+python3 tools/mesh.py svg examples/{hall,gables,roof}.mesh | cmp - examples/bay.svg
+tally 'picture of the loading bay' $?
 white='c 3f800000 3f800000 3f800000 3f800000' grey='c 3f4ccccd 3f4ccccd 3f4ccccd 3f800000'
 sed "s/$white/$grey/" examples/annex.mesh | cmp - examples/grey/annex.mesh && grep -q "$grey" examples/grey/annex.mesh
 tally 'the annex has grey where sitemesh put white' $?
@@ -233,6 +236,10 @@ zeros=$(yes 0 | head -n 2500 | tr '\n' ' ')
 faulty "shape ElevationGrid\nzDimension 50\nxDimension 50\nheight $zeros" 3 '9604 corners'
 faulty 'shape Extrusion\nspine 0 0 0\n' 2 'spine has 1 entry'
 faulty 'shape Extrusion\nendCap TRUE\ncrossSection\n' 3 'crossSection has no entries'
+faulty 'shape IndexedQuadSet\nconvex FALSE\n' 2 'IndexedQuadSet has no field convex'
+faulty 'shape IndexedTriangleFanSet\nindex 0 1 2\nnormalPerVertex FALSE\n' 3 'normalPerVertex is FALSE, and IndexedTriangleFanSet'
+faulty 'shape IndexedTriangleSet\ncolorPerVertex FALSE\n' 2 'colorPerVertex is FALSE'
+faulty "shape IndexedTriangleStripSet\npoint 0 0 0\nindex $(yes 0 | head -n 2733 | tr '\n' ' ')\n" 3 '8193 corners'
 
 # What would not be drawn (FORMAT 6).
 faces='shape IndexedFaceSet\npoint 0 0 0, 1 0 0\n  1 1 0, 0 1 0\n'
@@ -247,6 +254,16 @@ lines='shape IndexedLineSet\npoint 0 0 0, 1 0 0, 1 1 0\n'
 warned "${lines}coordIndex 0 1 -1\n0 1\n3 2 -1\n" 4 'run 1 is broken: 3 names no point'
 warned "${lines}coordIndex 0 1 -1\n0 3 2 -1\n" 4 'run 1 is not drawn: 3 names no point'
 warned "${lines}coordIndex 0 1 -1\n -1 2\n" 4 'run 2 is not drawn: a line has 2'
+primitives='point 0 0 0, 1 0 0\n  1 1 0, 0 1 0\n'
+warned "shape IndexedTriangleSet\n${primitives}index 0 1 2\n 0 2 4 0 2 3\n" 5 'triangle 1 is not drawn: 4 names no point (there are 4'
+warned "shape IndexedTriangleSet\n${primitives}index 0 1 2\n -1 0 2\n" 5 'triangle 1 is not drawn: -1 names no point'
+warned "shape IndexedTriangleSet\n${primitives}index 0 1 2\n 3 0\n" 5 'the last triangle is not drawn: a triangle has 3 entries, and it has 2'
+warned "shape IndexedQuadSet\n${primitives}index 0 1 2 3\n 0 1 2\n" 5 'the last quad is not drawn: a quad has 4 entries, and it has 3'
+warned "shape IndexedTriangleFanSet\n${primitives}index 0 1 2 -1\n 9 1 2 3\n" 5 'run 1 is not drawn: 9 names no point'
+warned "shape IndexedTriangleFanSet\n${primitives}index 0 1 2 -1\n 1 3\n" 5 'run 1 is not drawn: a fan has 3 entries or more, and it has 2'
+warned "shape IndexedTriangleStripSet\n${primitives}index 0 1 2 -1 -1\n 0 1 3 2 9\n" 5 '1 of the 3 triangles of run 2 is not drawn: 9 names no point'
+warned "shape IndexedTriangleStripSet\n${primitives}" 1 'nothing is drawn: index has no entries'
+silent 'a strip, a fan and empty runs' "shape IndexedTriangleStripSet\n${primitives}index -1 0 1 3 2 -1 -1 0 1 2\n" 156
 silent 'empty runs' "${faces}coordIndex -1 -7 0 1 2 -1 -1 0 2 3 -1 -1\n" 164
 
 # What would be drawn without its colour, normal or texture point (FORMAT 7).
@@ -264,6 +281,7 @@ warned "${two}$each$red\ncolorIndex 0 -1 0\n" 5 'run 1 has no color of its own: 
 warned "${two}${each}colorRGBA 1 0 0 1\ncolorIndex 7 0\n" 4 'run 0 has no color of its own: 7 names no color'
 warned "${two}colorIndex 0 0 0 -1 0 0 0 -1\n" 6 'colorIndex is not read'
 warned "${lines}coordIndex 0 1 -1 1 2\n$each$red\n" 3 'run 1 has no color of its own'
+warned "shape IndexedTriangleSet\n${primitives}index 0 1 2\n 0 2 3\n$red, 1 0 0, 1 0 0\n" 5 'triangle 1 has no color at 1 of its 3 points: 3 names no color'
 silent 'a value for each face, empty runs counted' "${faces}coordIndex -1 0 1 2 -1\n$each$red, 0 0 1\n" 160
 silent 'values that nothing needs' "${two}$red\ncolorIndex 0 0 0 9 0 0 0 9 9\n" 196
 grid='shape ElevationGrid\nxDimension 2\nzDimension 3\nheight 0 0 0 0 0 0\n'
@@ -301,6 +319,7 @@ timeout 20 python3 tools/mesh.py svg "$work/thin.mesh" | grep -q 'd="M.*z"'
 tally 'picture of a thin triangle' $?
 
 no_mesh 'no 6\n' 'refused, number 6, no shape'
+no_mesh 'no 9\n' 'refused, number 9, attributes'
 no_mesh 'no 12\n' 'not what sitemesh prints'
 no_mesh '' 'not what sitemesh prints'
 no_mesh "mesh $nines 0 1 0 0\n" 'counts are wanted'
