@@ -1,6 +1,6 @@
 //! The blocks of the benchmark. Each is made for a number of entries of its index list, or of corners where it has none.
 
-use crate::format::{EXTRUSION, FACES, GRID, LINES, flag};
+use crate::format::{EXTRUSION, FACES, GRID, LINES, QUADS, STRIPS, TRIANGLES, flag};
 use crate::maker::{Maker, Taste};
 use crate::outlines::{self, Outline};
 use crate::shape::Shape;
@@ -81,6 +81,37 @@ pub fn quads(maker: &mut Maker, entries: usize) -> Shape {
     let firsts = (0..down).flat_map(|j| (0..across).map(move |i| (i + wide * j) as i32));
     let wide = wide as i32;
     faces(CREASE, &points, &listed(firsts.map(|k| vec![k, k + wide, k + wide + 1, k + 1])))
+}
+
+/// One strip along a ribbon of two rows of heights, of no more than so many corners.
+pub fn strip(maker: &mut Maker, corners: usize) -> Shape {
+    let entries = corners / 3 + 2;
+    let heights = maker.values(entries, Taste::Real);
+    let points: Vec<f32> = (0..entries).flat_map(|k| [(k / 2) as f32, heights[k], (k % 2) as f32]).collect();
+    let mut shape = faces(CREASE, &points, &(0..entries as i32).collect::<Vec<_>>());
+    shape.kind = STRIPS;
+    shape
+}
+
+/// The face set's entries without what ends its runs, all as many corners each.
+fn without_ends(mut shape: Shape, kind: u32, entries: usize) -> Shape {
+    let mut index: Vec<u32> = shape.lists[1].iter().copied().filter(|&v| v != u32::MAX).collect();
+    index.truncate(entries);
+    shape.kind = kind;
+    shape.set(1, index);
+    shape
+}
+
+/// A triangle set over a rolling ground.
+pub fn triangle_set(maker: &mut Maker, entries: usize) -> Shape {
+    let side = ((entries / 6) as f64).sqrt().ceil() as usize + 1;
+    let (points, index) = maker.ground(side, Taste::Real);
+    without_ends(faces(CREASE, &points, &index), TRIANGLES, entries)
+}
+
+/// A quad set over heights.
+pub fn quad_set(maker: &mut Maker, entries: usize) -> Shape {
+    without_ends(quads(maker, entries / 4 * 5 + 600), QUADS, entries)
 }
 
 /// A bent duct with a concave cross-section and caps.

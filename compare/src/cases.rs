@@ -1,6 +1,6 @@
 //! Generated blocks: shapes of all kinds and sizes, reshaped and damaged ones.
 
-use crate::format::{EXTRUSION, LIMIT};
+use crate::format::{EXTRUSION, LIMIT, TRIANGLES};
 use crate::maker::Maker;
 use crate::shape::Shape;
 
@@ -14,7 +14,18 @@ fn size(maker: &mut Maker) -> usize {
     }
 }
 
+/// A triangle, fan, strip or quad set.
+pub fn primitives(maker: &mut Maker) -> Shape {
+    let size = size(maker);
+    maker.primitive_set(size)
+}
+
 pub fn shape(maker: &mut Maker) -> Shape {
+    if maker.rng.one_in(4) { primitives(maker) } else { others(maker) }
+}
+
+/// A shape of one of the kinds 0 to 3.
+pub fn others(maker: &mut Maker) -> Shape {
     let size = size(maker);
     match maker.rng.below(8) {
         0..=2 => maker.face_set(size),
@@ -47,7 +58,7 @@ fn refit(maker: &mut Maker, shape: &mut Shape) {
 /// Another kind, other counts or other bits over the same words.
 fn reshape(maker: &mut Maker, shape: &mut Shape) {
     match maker.rng.below(4) {
-        0 => shape.kind = maker.rng.below(4) as u32,
+        0 => shape.kind = maker.rng.below(if shape.kind < TRIANGLES { 4 } else { 8 }) as u32,
         1 => {
             let k = maker.rng.below(8);
             shape.counts[k] = maker.rng.below(12);
@@ -99,6 +110,11 @@ pub fn damage(maker: &mut Maker, block: &mut Vec<u8>) {
 
 /// The block of a case.
 pub fn block(maker: &mut Maker) -> Vec<u8> {
+    block_of(maker, shape)
+}
+
+/// The block of a case whose shape is made so.
+pub fn block_of(maker: &mut Maker, shape: fn(&mut Maker) -> Shape) -> Vec<u8> {
     if maker.rng.one_in(200) {
         let n = maker.rng.below(120);
         let first = maker.rng.pick(&[0x10, 0x11, 0x12, 0x16, 0x1e, 0xff]);

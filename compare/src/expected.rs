@@ -4,7 +4,7 @@ use std::collections::HashMap;
 
 use crate::angles::Angles;
 use crate::follow::given;
-use crate::format::{Block, EXTRUSION, FACES, accept, flag};
+use crate::format::{Block, EXTRUSION, accept, flag};
 use crate::missing::filled;
 use crate::ours::{Colour, WHITE};
 use crate::outline::{Outline, outline};
@@ -56,7 +56,7 @@ fn settle_texture(block: &Block, texture: &mut [u32]) -> bool {
 /// Whether the sign of a least zero could show through the texture transform: a -0 in the list, and -0 added to it twice.
 fn sign_shows(block: &Block) -> bool {
     let (list, made) = match block.kind {
-        FACES => (0, !block.flag(flag::TEXTURE)),
+        _ if block.is_face_set() => (0, !block.flag(flag::TEXTURE)),
         EXTRUSION => (1, true),
         _ => return false,
     };

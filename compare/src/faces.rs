@@ -1,6 +1,6 @@
-//! Generated face sets and line sets.
+//! Generated face sets, line sets, and triangle, fan, strip and quad sets.
 
-use crate::format::{FACES, LIMIT, LINES, flag, runs};
+use crate::format::{FACES, LIMIT, LINES, TRIANGLES, flag, runs};
 use crate::maker::{Maker, Taste};
 use crate::outlines;
 use crate::shape::Shape;
@@ -182,6 +182,52 @@ impl Maker {
 
     pub fn line_set(&mut self, size: usize) -> Shape {
         self.indexed(LINES, size)
+    }
+
+    /// A ribbon: points in two rows, and an index list that goes along it, with entries that name no point here and there.
+    fn ribbon(&mut self, entries: usize) -> Soup {
+        let taste = self.taste();
+        let mut points = Vec::new();
+        for k in 0..entries.max(3) {
+            points.extend([(k / 2) as f32, self.value(taste), (k % 2) as f32]);
+        }
+        let mut index: Vec<i32> = (0..entries as i32).collect();
+        for _ in 0..self.rng.below(4) {
+            if entries > 0 {
+                let k = self.rng.below(entries);
+                index[k] = self.rng.pick(&[entries as i32 + 3, i32::MAX, -1, -7, i32::MIN, 0, 1]);
+            }
+        }
+        Soup { points, index }
+    }
+
+    /// A triangle, fan, strip or quad set. Its attributes are per vertex and have no index; a few are refused for that.
+    pub fn primitive_set(&mut self, size: usize) -> Shape {
+        let kind = TRIANGLES + self.rng.below(4) as u32;
+        let soup = match self.rng.below(4) {
+            0 => self.soup(size),
+            1 => {
+                let entries = self.rng.below(6 * size + 1);
+                self.loose(size, entries)
+            }
+            _ => {
+                let entries = self.rng.below(3 * size + 3);
+                self.ribbon(entries)
+            }
+        };
+        let mut shape = Shape::new(kind);
+        self.common(&mut shape);
+        for k in [flag::COLOUR_PER_VERTEX, flag::NORMAL_PER_VERTEX] {
+            shape.flags[k] = !self.rng.one_in(40);
+        }
+        self.attributes(&mut shape, [soup.count(); 2], 0, 0);
+        shape.set_floats(0, &soup.points[..soup.points.len().min(3 * LIMIT)]);
+        shape.set_entries(1, &soup.index[..soup.index.len().min(LIMIT)]);
+        if self.rng.one_in(30) {
+            let k = self.rng.pick(&[3, 5, 7]);
+            shape.set_entries(k, &[0]);
+        }
+        shape
     }
 
     /// One face of many corners.

@@ -2,7 +2,7 @@
 
 use std::f32::consts::PI;
 
-use crate::format::{EXTRUSION, FACES, GRID, LIMIT, LINES, flag, widths};
+use crate::format::{EXTRUSION, FACES, FANS, GRID, LIMIT, LINES, QUADS, STRIPS, TRIANGLES, flag, widths};
 use crate::maker::{Maker, Taste};
 use crate::outlines;
 use crate::shape::Shape;
@@ -12,7 +12,7 @@ pub type Named = (String, Vec<u8>);
 /// A small accepted shape of each kind, with every attribute that the kind has.
 pub fn samples(maker: &mut Maker) -> Vec<Shape> {
     let mut list = Vec::new();
-    for kind in [FACES, LINES, GRID, EXTRUSION] {
+    for kind in [FACES, LINES, GRID, EXTRUSION, TRIANGLES, FANS, STRIPS, QUADS] {
         let mut shape = Shape::new(kind);
         for k in [flag::TEXTURE_WANTED, flag::TRANSFORM, flag::COLOURS, flag::ALPHA, flag::NORMALS] {
             shape.flags[k] = true;
@@ -22,6 +22,10 @@ pub fn samples(maker: &mut Maker) -> Vec<Shape> {
             FACES | LINES => {
                 shape.set_floats(0, &[0.0, 0.0, 0.0, 1.0, 0.0, 0.0, 1.0, 1.0, 0.0, 0.0, 1.0, 0.5]);
                 shape.set_entries(1, &[0, 1, 2, -1, 0, 2, 3, -7, 9, 1]);
+            }
+            TRIANGLES..=QUADS => {
+                shape.set_floats(0, &[0.0, 0.0, 0.0, 1.0, 0.0, 0.0, 1.0, 1.0, 0.0, 0.0, 1.0, 0.5]);
+                shape.set_entries(1, &[0, 1, 2, 3, -1, 0, 2, 9, 3, 1, 2, 0, 3, 1]);
             }
             GRID => {
                 shape.counts[..2].copy_from_slice(&[3, 2]);
@@ -187,13 +191,73 @@ fn great(maker: &mut Maker, out: &mut Vec<Named>) {
     }
 }
 
+/// Short lists of which one entry names no point, at each place; some end in a part that is not full.
+fn spoiled(kind: u32, out: &mut Vec<Named>) {
+    for n in 0..14usize {
+        for bad in 0..=n {
+            for entry in [5, -1, i32::MIN, i32::MAX] {
+                let mut shape = Shape::new(kind);
+                shape.flags[flag::CONVEX] = entry != -1;
+                shape.flags[flag::CCW] = bad % 2 == 0;
+                shape.flags[flag::TEXTURE_WANTED] = true;
+                shape.set_floats(0, &[0.0, 0.0, 0.0, 1.0, 0.0, 0.5, 1.0, 1.0, 0.0, 0.0, 1.0, 0.25, 2.0, 0.5, 1.0]);
+                let index: Vec<i32> = (0..n).map(|k| if k == bad { entry } else { (k % 5) as i32 }).collect();
+                shape.set_entries(1, &index);
+                out.push((format!("kind {kind}: {n} entries, {entry} at {bad}"), shape.block()));
+            }
+        }
+    }
+}
+
+/// Sets at the limits, and the grounds of refusal 9, each also where it meets refusal 7.
+fn primitives(maker: &mut Maker, out: &mut Vec<Named>) {
+    for kind in [TRIANGLES, FANS, STRIPS, QUADS] {
+        out.push((format!("nothing of kind {kind}"), Shape::new(kind).block()));
+        spoiled(kind, out);
+        for n in [2731, 2732, 2733, 8189, 8190, 8191, LIMIT] {
+            for crease in [0.0, 0.7, PI] {
+                let mut shape = Shape::new(kind);
+                shape.crease(crease);
+                let points = maker.values(3 * 3000, Taste::Coarse);
+                shape.set_floats(0, &points);
+                let index: Vec<i32> = (0..n).map(|k| (k % 3000) as i32).collect();
+                shape.set_entries(1, &index);
+                out.push((format!("kind {kind}: {n} entries, crease {crease}"), shape.block()));
+                let mut bad = shape.clone();
+                bad.lists[1][n / 2] = 9000;
+                out.push((format!("kind {kind}: {n} entries, a bad one, crease {crease}"), bad.block()));
+            }
+        }
+        for n in [4, 2733] {
+            let mut shape = Shape::new(kind);
+            shape.set_floats(0, &[0.0, 0.0, 0.0, 1.0, 0.0, 0.5, 1.0, 1.0, 0.0, 0.0, 1.0, 0.25]);
+            shape.set_entries(1, &(0..n).map(|k| k % 4).collect::<Vec<i32>>());
+            out.push((format!("kind {kind}: {n} entries over 4 points"), shape.block()));
+            for k in [flag::COLOUR_PER_VERTEX, flag::NORMAL_PER_VERTEX] {
+                for present in [false, true] {
+                    let mut other = shape.clone();
+                    other.flags[k] = false;
+                    other.flags[flag::COLOURS] = present;
+                    other.flags[flag::NORMALS] = present;
+                    out.push((format!("kind {kind}: {n} entries, flag {k} off, present {present}"), other.block()));
+                }
+            }
+            for k in [3, 5, 7] {
+                let mut other = shape.clone();
+                other.set_entries(k, &[0]);
+                out.push((format!("kind {kind}: {n} entries, list {k}"), other.block()));
+            }
+        }
+    }
+}
+
 /// Colours of which some are missing: an own index list with entries that are negative, too large and not there, or a
 /// list of colours that is too short. A listed grey and a listed white stand beside them at the same points.
 pub fn colourless() -> Vec<Named> {
     let mut out = Vec::new();
     let (grey, white, red) = ([0.8, 0.8, 0.8, 1.0], [1.0; 4], [1.0, 0.0, 0.0, 0.5]);
     let listed = [grey, white, red, grey, white, red];
-    for (kind, alpha, by_vertex) in [FACES, LINES, GRID].into_iter().flat_map(|kind| {
+    for (kind, alpha, by_vertex) in [FACES, LINES, GRID, TRIANGLES, FANS, STRIPS, QUADS].into_iter().flat_map(|kind| {
         [(kind, false, false), (kind, false, true), (kind, true, false), (kind, true, true)]
     }) {
         let mut shape = Shape::new(kind);
@@ -203,6 +267,10 @@ pub fn colourless() -> Vec<Named> {
         let own: &[&[i32]] = if kind == GRID {
             shape.counts[..2].copy_from_slice(&[3, 3]);
             shape.set_floats(3, &[0.0; 9]);
+            &[&[]]
+        } else if kind >= TRIANGLES {
+            shape.set_floats(0, &[0.0, 0.0, 0.0, 1.0, 0.0, 0.0, 1.0, 1.0, 0.0, 0.0, 1.0, 0.0]);
+            shape.set_entries(1, &[0, 1, 2, 3, 0, 2, 3, 1, -1, 1, 2, 3, 0, 0, 1, 3]);
             &[&[]]
         } else {
             shape.set_floats(0, &[0.0, 0.0, 0.0, 1.0, 0.0, 0.0, 1.0, 1.0, 0.0, 0.0, 1.0, 0.0]);
@@ -234,5 +302,6 @@ pub fn blocks(maker: &mut Maker) -> Vec<Named> {
     no_shapes(&mut out);
     corners(maker, &mut out);
     great(maker, &mut out);
+    primitives(maker, &mut out);
     out
 }

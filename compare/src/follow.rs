@@ -35,9 +35,9 @@ pub fn given(block: &Block, angles: &Angles) -> Option<Given> {
     let generated = block.kind != LINES && !block.supplies_normals();
     let angle = float(block, 0);
     let mut g = Given {
-        kind: block.kind,
+        kind: if block.is_primitives() { FACES } else { block.kind },
         ccw: on(flag::CCW),
-        convex: on(flag::CONVEX),
+        convex: on(flag::CONVEX) || block.is_primitives(),
         solid: on(flag::SOLID),
         colour_per_vertex: on(flag::COLOUR_PER_VERTEX),
         normal_per_vertex: on(flag::NORMAL_PER_VERTEX),
@@ -66,9 +66,9 @@ pub fn given(block: &Block, angles: &Angles) -> Option<Given> {
         g.heights = block.floats(3);
         return Some(g);
     }
-    debug_assert!(block.kind == FACES || block.kind == LINES);
+    debug_assert!(block.is_face_set() || block.kind == LINES);
     g.points = block.floats(0);
-    g.coord_index = block.entries(1);
+    g.coord_index = block.coord_index();
     g.colour_index = block.entries(3);
     g.normal_index = block.entries(5);
     g.texture_index = block.entries(7);

@@ -5,6 +5,10 @@ pub const FACES: u32 = 0;
 pub const LINES: u32 = 1;
 pub const GRID: u32 = 2;
 pub const EXTRUSION: u32 = 3;
+pub const TRIANGLES: u32 = 4;
+pub const FANS: u32 = 5;
+pub const STRIPS: u32 = 6;
+pub const QUADS: u32 = 7;
 
 /// Places of the thirteen flags of the header (FORMAT 2.2).
 pub mod flag {
@@ -23,7 +27,7 @@ pub mod flag {
     pub const END_CAP: usize = 12;
 }
 
-/// A block that passed refusals 1 to 5.
+/// A block that passed refusals 1 to 5 and 9.
 pub struct Block<'a> {
     bytes: &'a [u8],
     pub kind: u32,
@@ -54,7 +58,7 @@ pub fn widths(kind: u32, alpha: bool) -> [usize; 8] {
 }
 
 impl<'a> Block<'a> {
-    /// Refusals 1 to 5.
+    /// Refusals 1 to 5 and 9.
     pub fn read(bytes: &'a [u8]) -> Result<Self, u32> {
         if bytes.len() < 20 {
             return Err(1);
@@ -63,7 +67,7 @@ impl<'a> Block<'a> {
             return Err(2);
         }
         let kind = bits(bytes, 4, 3);
-        if kind > 3 || bits(bytes, 132, 28) != 0 {
+        if bits(bytes, 132, 28) != 0 {
             return Err(3);
         }
         let flags = std::array::from_fn(|k| bits(bytes, 7 + k, 1) == 1);
@@ -75,7 +79,33 @@ impl<'a> Block<'a> {
         if bytes.len() != 4 * block.start(8) {
             return Err(5);
         }
+        if block.is_primitives() && !block.by_point() {
+            return Err(9);
+        }
         Ok(block)
+    }
+
+    /// Whether it is a triangle, fan, strip or quad set.
+    pub fn is_primitives(&self) -> bool {
+        self.kind >= TRIANGLES
+    }
+
+    /// Whether it has faces over listed points: a face set, or one of the sets that list as one (FORMAT 6.4).
+    pub fn is_face_set(&self) -> bool {
+        self.kind == FACES || self.is_primitives()
+    }
+
+    /// Whether each attribute is read at the point's number (FORMAT 3, 9).
+    fn by_point(&self) -> bool {
+        self.flag(flag::COLOUR_PER_VERTEX)
+            && self.flag(flag::NORMAL_PER_VERTEX)
+            && [3, 5, 7].iter().all(|&k| self.counts[k] == 0)
+    }
+
+    /// coordIndex of the face set: the block's own, or the list that has the primitives one by one (FORMAT 6.4).
+    pub fn coord_index(&self) -> Vec<i32> {
+        let entries = self.entries(1);
+        if self.is_primitives() { listing(self.kind, self.counts[0], &entries) } else { entries }
     }
 
     /// The words before list k.
@@ -136,13 +166,13 @@ impl<'a> Block<'a> {
 
     /// Whether the block supplies the normals (FORMAT 8.1).
     pub fn supplies_normals(&self) -> bool {
-        (self.kind == FACES || self.kind == GRID) && self.flag(flag::NORMALS)
+        (self.is_face_set() || self.kind == GRID) && self.flag(flag::NORMALS)
     }
 
     /// Refusals 6 and 7 (FORMAT 3, 4).
     pub fn sizes(&self) -> Result<Sizes, u32> {
         let sizes = match self.kind {
-            FACES => self.face_sizes(),
+            FACES | TRIANGLES..=QUADS => self.face_sizes(),
             LINES => self.line_sizes(),
             GRID => self.grid_sizes()?,
             _ => self.extrusion_sizes()?,
@@ -155,7 +185,7 @@ impl<'a> Block<'a> {
 
     fn face_sizes(&self) -> Sizes {
         let (mut corners, mut indices) = (0, 0);
-        for run in runs(&self.entries(1)) {
+        for run in runs(&self.coord_index()) {
             if run.len() >= 3 && run.iter().all(|&v| (v as usize) < self.counts[0]) {
                 corners += run.len();
                 indices += 3 * (run.len() - 2);
@@ -209,6 +239,31 @@ pub fn runs(entries: &[i32]) -> Vec<&[i32]> {
         all.pop();
     }
     all
+}
+
+/// Where the corners of primitive k stand in its stretch, and how many a stretch of n entries has (FORMAT 6.4).
+fn places(kind: u32, n: usize) -> Vec<Vec<usize>> {
+    match kind {
+        TRIANGLES => (0..n / 3).map(|k| (3 * k..3 * k + 3).collect()).collect(),
+        QUADS => (0..n / 4).map(|k| (4 * k..4 * k + 4).collect()).collect(),
+        FANS => (2..n).map(|k| vec![0, k - 1, k]).collect(),
+        _ => (2..n).map(|k| if k % 2 == 0 { vec![k - 2, k - 1, k] } else { vec![k - 1, k - 2, k] }).collect(),
+    }
+}
+
+/// The index list of the face set that has the primitives one by one, without those that name a point that is not there.
+fn listing(kind: u32, points: usize, entries: &[i32]) -> Vec<i32> {
+    let stretches = if kind == FANS || kind == STRIPS { runs(entries) } else { vec![entries] };
+    let mut list = Vec::new();
+    for stretch in stretches {
+        for places in places(kind, stretch.len()) {
+            let face: Vec<i32> = places.into_iter().map(|k| stretch[k]).collect();
+            if face.iter().all(|&v| v >= 0 && (v as usize) < points) {
+                list.extend(face.into_iter().chain([-1]));
+            }
+        }
+    }
+    list
 }
 
 /// The lengths asked for (FORMAT 4): positions, normals, colours, texture, sources, indices, both working slices.

@@ -188,8 +188,8 @@ impl Run {
 
     /// Whether every kind and every refusal was met.
     fn met_all(&self) -> bool {
-        let kinds = (0..4).all(|k| self.counts.contains_key(&format!("meshes of kind {k}")));
-        kinds && (1..9).all(|n| self.counts.contains_key(&format!("calls refused by {n}")))
+        let kinds = (0..8).all(|k| self.counts.contains_key(&format!("meshes of kind {k}")));
+        kinds && (1..10).all(|n| self.counts.contains_key(&format!("calls refused by {n}")))
     }
 }
 

@@ -20,7 +20,7 @@ fn places(block: &Block, values: usize) -> Vec<Option<usize>> {
         let count = (block.counts[0] - less) * (block.counts[1] - less);
         return (0..count).map(|k| value(&[], k, values)).collect();
     }
-    let (coord, own) = (block.entries(1), block.entries(3));
+    let (coord, own) = (block.coord_index(), block.entries(3));
     if by_vertex {
         let list = if own.is_empty() { &coord } else { &own };
         return (0..coord.len()).map(|k| value(list, k, values)).collect();

@@ -43,13 +43,13 @@ struct Store {
     /// What the cases show, and how often.
     shown: BTreeMap<String, u64>,
     /// Meshes taken, by kind, and how many of them are empty.
-    taken: [u64; 4],
+    taken: [u64; 8],
     empty: u64,
 }
 
 impl Store {
     fn new() -> Self {
-        Self { bytes: Vec::new(), cases: 0, longest: [0; 2], shown: BTreeMap::new(), taken: [0; 4], empty: 0 }
+        Self { bytes: Vec::new(), cases: 0, longest: [0; 2], shown: BTreeMap::new(), taken: [0; 8], empty: 0 }
     }
 
     fn number(&mut self, n: usize) {
@@ -98,7 +98,7 @@ fn has_nan(mesh: &Mesh) -> bool {
 /// Whether the least of two zeros is asked for, which Rust leaves open.
 fn open_zeros(block: &Block) -> bool {
     let list = match block.kind {
-        FACES if !block.flag(flag::TEXTURE) => 0,
+        _ if block.is_face_set() && !block.flag(flag::TEXTURE) => 0,
         EXTRUSION => 1,
         _ => return false,
     };
@@ -108,7 +108,8 @@ fn open_zeros(block: &Block) -> bool {
 /// What a mesh shows of the format.
 fn features(block: &Block, mesh: &Mesh) -> Vec<&'static str> {
     let on = |k| block.flag(k);
-    let mut list = vec![["face set", "line set", "grid", "extrusion"][block.kind as usize]];
+    let names = ["face set", "line set", "grid", "extrusion", "triangle set", "fan set", "strip set", "quad set"];
+    let mut list = vec![names[block.kind as usize]];
     let mut put = |yes: bool, name| {
         if yes {
             list.push(name);
@@ -289,7 +290,8 @@ fn wanted(store: &mut Store, bytes: &[u8], corners: usize, angles: &Angles, coun
         Some(Err(n)) => store.shows(&format!("no {n}")) < few(count),
         Some(Ok(mesh)) => {
             let kind = Block::read(bytes).map_or(0, |b| b.kind as usize);
-            let share = [count * 9 / 20, count / 8, count / 5, count / 4][kind];
+            let sets = count / 4;
+            let share = [count * 9 / 20, count / 8, count / 5, count / 4, sets, sets, sets, sets][kind];
             let empty = mesh.indices.is_empty();
             let long = text::mesh(&mesh).len() > SMALL;
             if long || store.taken[kind] >= share || (empty && store.empty >= few(count)) {
@@ -326,7 +328,21 @@ fn corners_for(maker: &mut Maker, block: &[u8]) -> usize {
     }
 }
 
-/// Writes the cases; the answer is whether that went well.
+/// Generated blocks of these shapes, until there are `most` cases.
+fn generated(maker: &mut Maker, store: &mut Store, shape: fn(&mut Maker) -> Shape, seed: u64, count: u64, most: u64) {
+    let mut case = 0;
+    while store.cases < most && case < 1000 * count {
+        maker.rng = Rng::new(seed, case);
+        let block = cases::block_of(maker, shape);
+        let corners = corners_for(maker, &block);
+        if wanted(store, &block, corners, &maker.angles, count) {
+            put(store, &block, corners, &maker.angles);
+        }
+        case += 1;
+    }
+}
+
+/// Writes the cases, `count` and a third more of triangle, fan, strip and quad sets; the answer is whether that went well.
 pub fn record(count: u64, seed: u64, file: &str) -> bool {
     let mut maker = Maker { rng: Rng::new(seed, u64::MAX), angles: Default::default() };
     let mut store = Store::new();
@@ -344,16 +360,8 @@ pub fn record(count: u64, seed: u64, file: &str) -> bool {
         assert!(put(&mut store, &shape.block(), LIMIT, &maker.angles), "a large face with a short text");
     }
     refused(&mut maker, &mut store, count);
-    let mut case = 0;
-    while store.cases < count && case < 1000 * count {
-        maker.rng = Rng::new(seed, case);
-        let block = cases::block(&mut maker);
-        let corners = corners_for(&mut maker, &block);
-        if wanted(&mut store, &block, corners, &maker.angles, count) {
-            put(&mut store, &block, corners, &maker.angles);
-        }
-        case += 1;
-    }
+    generated(&mut maker, &mut store, cases::others, seed, count, count);
+    generated(&mut maker, &mut store, cases::primitives, seed, count, count + count / 3);
     for (what, n) in &store.shown {
         println!("{n:>7} {what}");
     }

@@ -1,7 +1,7 @@
 //! Blocks for the fuzzing: good ones of all sizes up to the limits, damaged ones, random ones.
 
 use crate::cases;
-use crate::format::LIMIT;
+use crate::format::{LIMIT, TRIANGLES, flag};
 use crate::maker::{Maker, Taste};
 use crate::shape::Shape;
 
@@ -20,7 +20,7 @@ fn sides(maker: &mut Maker) -> [usize; 2] {
 
 /// A good shape of any size.
 fn sized(maker: &mut Maker) -> Shape {
-    match maker.rng.below(4) {
+    match maker.rng.below(5) {
         0 => {
             let size = spread(maker, LIMIT);
             maker.face_set(size)
@@ -30,6 +30,10 @@ fn sized(maker: &mut Maker) -> Shape {
             maker.line_set(size)
         }
         2 => {
+            let size = spread(maker, LIMIT / 3);
+            maker.primitive_set(size)
+        }
+        3 => {
             let [x, z] = sides(maker);
             maker.grid_of(x, z)
         }
@@ -42,11 +46,16 @@ fn sized(maker: &mut Maker) -> Shape {
 
 /// A whole block of any words: odd numbers, numbers that may be indices, any bits.
 fn words(maker: &mut Maker) -> Vec<u8> {
-    let mut shape = Shape::new(maker.rng.below(4) as u32);
+    let mut shape = Shape::new(maker.rng.below(8) as u32);
     shape.flags = std::array::from_fn(|_| maker.rng.coin());
+    let by_point = shape.kind >= TRIANGLES && !maker.rng.one_in(8);
+    if by_point {
+        shape.flags[flag::COLOUR_PER_VERTEX] = true;
+        shape.flags[flag::NORMAL_PER_VERTEX] = true;
+    }
     shape.words = std::array::from_fn(|_| maker.value(Taste::Mixed).to_bits());
     for k in 0..8 {
-        shape.counts[k] = maker.rng.below(10);
+        shape.counts[k] = if by_point && [3, 5, 7].contains(&k) { 0 } else { maker.rng.below(10) };
         let word = |maker: &mut Maker| match maker.rng.below(8) {
             0 => maker.rng.bits(),
             1 => maker.odd().to_bits(),
