@@ -1,3 +1,4 @@
--- What an accepted set of primitives gives, and that it is a shape.
+-- What an accepted set of primitives gives, that it is a shape, and a worked case.
 mod Bounds
 mod Shapes
+mod Rows
