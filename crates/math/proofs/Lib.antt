@@ -8,7 +8,7 @@ pub mod Chain
 pub mod RootUnits
 -- Laws behind them and behind the functions.
 mod Whole
-mod Heron
+mod Digits
 mod RootDigits
 mod Place
 mod Sorts

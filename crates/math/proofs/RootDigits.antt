@@ -13,6 +13,9 @@ parity g = elim (eq-or-lt-of-le h) [ inl e ↦ inr e | inr l ↦ inl (omega arit
     h : g % 2 ≤ 1
     h = omega arith
 
+pub even : (g : ℕ) → (g % 2 ≡ 1 → ⊥) → g % 2 ≡ 0
+even g h = elim (parity g) [ inl e ↦ e | inr e ↦ absurd (h e) ]
+
 pub shift-even : (g m : ℕ) → g % 2 ≡ 0 → m * 33554432 ≡ m * 2 ^ (25 + g % 2)
 shift-even g m e = ap (λ (k : ℕ). m * 2 ^ (25 + k)) (sym e)
 

@@ -1,43 +1,38 @@
--- r is never below the whole root, and the steps down end at it.
-use Prim.Native.Nat.{_≤_, _<_, _+_, _*_, _^_}
+-- After each digit `SoFar` holds, the bound of the remainder in it.
+use Prim.Native.Nat.{_-_, _^_, _<_}
 use native.Mathlib.Omega.{arith}
-use Rattle.math.proofs.Whole.{whole-root}
-use Rattle.math.proofs.Heron.{square-fits, above-pos, above-next}
+use Rattle.math.specs.Digit.{SoFar}
+use Rattle.math.proofs.Digits.{so-far-start, so-far-room, so-far-step, so-far-end}
+use borrow.Author.Needs.{needs}
 use Rattle.math.proofs.square_root.int_root.Statement.{statement}
 use Rattle.math.proofs.square_root.int_root.Tie as tie
 
 abbrev Inv-loop : tie.InvT-loop
-Inv-loop n r₀ r = (r < 2 ^ 28) × (n < (r + 1) * (r + 1))
+Inv-loop s q₀ r₀ rest₀ done₀ q r rest done = SoFar s done q r rest
 
 abbrev μ-loop : tie.MeasureT-loop
-μ-loop n r₀ r = r
-
-first-guess-requires : tie.Need-first-guess-requires Inv-loop μ-loop
-first-guess-requires c κs = omega arith
-
-nearer-requires : tie.Need-nearer-requires Inv-loop μ-loop
-nearer-requires c κs = omega arith
-
-nearer-requires-2 : tie.Need-nearer-requires-2 Inv-loop μ-loop
-nearer-requires-2 c κs = omega arith
+μ-loop s q₀ r₀ rest₀ done₀ q r rest done = 25 - done
 
 loop-holds : tie.Need-loop-holds Inv-loop μ-loop
-loop-holds c = omega arith
+loop-holds c = so-far-start (c .args .s) (omega arith)
 
-mul-loop : tie.Need-mul-loop Inv-loop μ-loop
-mul-loop c = omega (arith, square-fits (c .loop .r) (omega arith))
+next-digit-requires : tie.Need-next-digit-requires Inv-loop μ-loop
+next-digit-requires c κs = let h = so-far-room _ _ _ _ _ (c .before .loop .inv) (omega (arith, c .loop-test .taken)) in omega (arith, h)
 
-sub-r : tie.Need-sub-r Inv-loop μ-loop
-sub-r c = above-pos (c .before .before .before .before .before .args .n) (c .before .loop .r) (omega arith)
+mul-rest : tie.Need-mul-rest Inv-loop μ-loop
+mul-rest c = search needs
+
+add-done : tie.Need-add-done Inv-loop μ-loop
+add-done c = search needs
 
 loop-less : tie.Need-loop-less Inv-loop μ-loop
-loop-less c = omega (arith, sub-r c)
+loop-less c = search needs
 
 loop-again : tie.Need-loop-again Inv-loop μ-loop
-loop-again c = (omega arith, above-next (c .before .before .before .before .before .args .n) (c .before .loop .r) (omega arith))
+loop-again c = so-far-step _ _ _ _ _ _ _ (c .before .before .loop .inv) (omega (arith, c .before .loop-test .taken)) (c .next-digit .ensures)
 
 returns : tie.Need-returns Inv-loop μ-loop
-returns c = whole-root (c .before .before .before .before .before .args .n) (c .before .loop .r) (omega arith) (omega arith) (omega arith)
+returns c = let h : c .before .before .args .s < 2 ^ 32 = omega arith in so-far-end _ _ _ _ _ h (c .before .loop .inv) (omega (arith, c .loop-test .left))
 
 pub int-root-spec : {M : Type 1} → statement M
 int-root-spec =
@@ -45,12 +40,10 @@ int-root-spec =
     (tie.spec
     Inv-loop
     μ-loop
-    first-guess-requires
-    nearer-requires
-    nearer-requires-2
     loop-holds
-    mul-loop
-    sub-r
+    next-digit-requires
+    mul-rest
+    add-done
     loop-less
     loop-again
     returns)

@@ -6,10 +6,10 @@ use Rattle.math.proofs.square_root.root_bits.Statement.{statement}
 use Rattle.math.proofs.square_root.root_bits.Tie as tie
 
 abbrev Inv-loop : tie.InvT-loop
-Inv-loop b n m₀ g₀ m g = Lifted b m g
+Inv-loop b m₀ g₀ m g = Lifted b m g
 
 abbrev μ-loop : tie.MeasureT-loop
-μ-loop b n m₀ g₀ m g = g
+μ-loop b m₀ g₀ m g = g
 
 loop-holds : tie.Need-loop-holds Inv-loop μ-loop
 loop-holds c = lifted-start (c .before .args .b) (c .before .pre .0) (c .if1 .taken)

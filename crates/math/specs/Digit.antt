@@ -1,0 +1,24 @@
+-- The root digit by digit: what one digit more makes of a root so far, and what holds after each.
+use Prim.Native.Nat.{ℕ, _+_, _*_, _/_, _^_, _≤_, _<_}
+use mathlib.Core.Path.{_≡_}
+use mathlib.Core.Logic.{_⊎_}
+
+-- 1 where rest is not below trial, else 0
+abbrev pub Bit : ℕ → ℕ → ℕ → Type 0
+Bit rest trial b = ((rest < trial) × (b ≡ 0)) ⊎ ((trial ≤ rest) × (b ≡ 1))
+
+-- From a root q with the remainder r, and the next two binary digits of the number, the root e with the remainder t: e is q with a digit more,
+-- its square and the remainder make up the longer number, and the remainder is at most twice the root.
+pub record Digit (q r two e t : ℕ) : Type 0 where
+  pub longer : e / 2 ≡ q
+  pub whole : e * e + t ≡ 4 * (q * q + r) + two
+  pub small : t ≤ 2 * e
+
+-- After so many digits of the root of s: what is done makes up q * q + r, rest has the other digits of s, at the top of a word of 32, and the
+-- remainder is at most twice the root so far.
+pub record SoFar (s done q r rest : ℕ) : Type 0 where
+  pub turns : done ≤ 25
+  pub small : r ≤ 2 * q
+  pub whole : s * 4 ^ done ≡ (q * q + r) * 2 ^ 32 + rest
+  pub word : rest < 2 ^ 32
+  pub within : q < 2 ^ done
