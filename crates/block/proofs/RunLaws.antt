@@ -15,6 +15,7 @@ use lib.Seq.{drop-cons, drop-drop}
 use Rattle.bits.specs.Bits.{table, entries}
 use Rattle.bits.proofs.Entries.{entries-length, entries-part}
 use Rattle.block.specs.Runs.{endsRun, Run, runOf, before, runsFrom, runs, splitFrom, runsLeft, runLength, runAt, RunPart, nextStart, allBelow, kept, faces, corners, triangles, sumOver}
+use Rattle.block.specs.Stream.{isNegative}
 
 -- ---- the length of a run
 
@@ -107,22 +108,36 @@ module _ (s k : ℕ) where
   joined-more w (h ∷ hs) [] p = refl
   joined-more w (h ∷ hs) (r ∷ rs) p = rw (append-assoc hs (w ∷ []) (r .items))
 
-split-joined : (s k : ℕ) (held ws : List ℕ) → s + length held ≡ k → splitFrom s k held ws ≡ joined s held (runsFrom k ws)
+split-joined : (s k : ℕ) (held ws : List ℕ) → s + length held ≡ k → splitFrom endsRun s k held ws ≡ joined s held (runsFrom k ws)
 unfolding splitFrom runsFrom joined
 split-joined s k held [] p = joined-none s k held p
 split-joined s k held (w ∷ ws) p =
     go (endsRun w) (split-joined (suc k) (suc k) [] ws (omega arith)) (split-joined s (suc k) (held ++ w ∷ []) ws (omega (arith, length-append held (w ∷ []))))
   where
     go : (b : Bool)
-        → splitFrom (suc k) (suc k) [] ws ≡ runsFrom (suc k) ws
-        → splitFrom s (suc k) (held ++ w ∷ []) ws ≡ joined s (held ++ w ∷ []) (runsFrom (suc k) ws)
-        → cond b (runOf s held ∷ splitFrom (suc k) (suc k) [] ws) (splitFrom s (suc k) (held ++ w ∷ []) ws) ≡ joined s held (before b k w (runsFrom (suc k) ws))
+        → splitFrom endsRun (suc k) (suc k) [] ws ≡ runsFrom (suc k) ws
+        → splitFrom endsRun s (suc k) (held ++ w ∷ []) ws ≡ joined s (held ++ w ∷ []) (runsFrom (suc k) ws)
+        → cond b (runOf s held ∷ splitFrom endsRun (suc k) (suc k) [] ws) (splitFrom endsRun s (suc k) (held ++ w ∷ []) ws) ≡ joined s held (before b k w (runsFrom (suc k) ws))
     go true a b = rw a (joined-stop s k held (runsFrom (suc k) ws) p)
     go false a b = b ∙ joined-more s k w held (runsFrom (suc k) ws) p
 
-pub runs-split : (ws : List ℕ) → splitFrom 0 0 [] ws ≡ runs ws
+pub runs-split : (ws : List ℕ) → splitFrom endsRun 0 0 [] ws ≡ runs ws
 unfolding joined
 runs-split ws = split-joined 0 0 [] ws refl
+
+-- where every negative entry is -1, the loop finds these runs by the source's own test, which takes any negative entry
+split-same : (s k : ℕ) (held ws : List ℕ)
+    → ((i : ℕ) → isNegative (getD ws i 0) ≡ endsRun (getD ws i 0))
+    → splitFrom isNegative s k held ws ≡ splitFrom endsRun s k held ws
+unfolding splitFrom
+split-same s k held [] h = refl
+split-same s k held (w ∷ ws) h =
+    let a = split-same (suc k) (suc k) [] ws (λ i. h (suc i)) in
+    let b = split-same s (suc k) (held ++ w ∷ []) ws (λ i. h (suc i)) in
+    λ j. cond (h 0 j) (runOf s held ∷ a j) (b j)
+
+pub runs-split-negative : (ws : List ℕ) → ((i : ℕ) → isNegative (getD ws i 0) ≡ endsRun (getD ws i 0)) → splitFrom isNegative 0 0 [] ws ≡ runs ws
+runs-split-negative ws h = split-same 0 0 [] ws h ∙ runs-split ws
 
 -- ---- a turn of a loop over the runs: r is the run at entry s of the list bs
 module _ (bs : List ℕ) (s : ℕ) (r : List ℕ) (e : entries r ≡ runAt (entries bs) s) where

@@ -13,8 +13,9 @@ wordOf (negsuc n) = 2 ^ 32 - suc n
 abbrev pub runsOf : List ℤ → List Run
 runsOf zs = runs (map wordOf zs)
 
--- 0 1 2 -1 3 -7: runs at 0 and at 4
-pub row-runs : runsOf (pos 0 ∷ pos 1 ∷ pos 2 ∷ negℤ (pos 1) ∷ pos 3 ∷ negℤ (pos 7) ∷ []) ≡ runOf 0 (0 ∷ 1 ∷ 2 ∷ []) ∷ runOf 4 (3 ∷ []) ∷ []
+-- 0 1 2 -1 3 -7: runs at 0 and at 4, 0 1 2 and 3 -7
+pub row-runs : runsOf (pos 0 ∷ pos 1 ∷ pos 2 ∷ negℤ (pos 1) ∷ pos 3 ∷ negℤ (pos 7) ∷ [])
+    ≡ runOf 0 (0 ∷ 1 ∷ 2 ∷ []) ∷ runOf 4 (map wordOf (pos 3 ∷ negℤ (pos 7) ∷ [])) ∷ []
 unfolding endsRun runsFrom wordOf
 row-runs = refl
 
@@ -41,3 +42,9 @@ row-kept = (refl, refl, refl)
 pub row-totals : totals 4 (runs (0 ∷ 1 ∷ 2 ∷ 3 ∷ 0xffff_ffff ∷ 0 ∷ 1 ∷ 0xffff_ffff ∷ 0 ∷ 1 ∷ 2 ∷ [])) ≡ record { faces = 2; corners = 7; triangles = 3 }
 unfolding endsRun runsFrom kept allBelow faces corners triangles sumOver
 row-totals = refl
+
+-- 0 1 2 -2 0 1 2 -1 0 1 2: no value below -1 parts faces; the face that names it is skipped, and the next counts on
+pub row-below : totals 4 (runsOf (pos 0 ∷ pos 1 ∷ pos 2 ∷ negℤ (pos 2) ∷ pos 0 ∷ pos 1 ∷ pos 2 ∷ negℤ (pos 1) ∷ pos 0 ∷ pos 1 ∷ pos 2 ∷ []))
+    ≡ record { faces = 1; corners = 3; triangles = 1 }
+unfolding endsRun runsFrom wordOf kept allBelow faces corners triangles sumOver
+row-below = refl

@@ -3,14 +3,14 @@ use Prim.Native.Nat.{ℕ, suc, _+_, _-_, _*_, _/_, _≤_}
 use mathlib.Core.Path.{_≡_}
 use mathlib.Core.Bool.{Bool, true, false, _&&_, cond}
 use mathlib.Core.List.{List, [], _∷_, _++_}
-use lib.Dec.{leb, ltb}
+use lib.Dec.{eqb, leb, ltb}
 use lib.ListN.{length, take, drop}
 use Rattle.bits.specs.Bits.{entries}
 use Rattle.block.specs.declared.runs.Totals.{Totals}
 
--- FORMAT 6.1: a negative entry, one with its top bit set, ends a run
+-- FORMAT 6.1: -1 ends a run, and nothing else does
 unfoldable pub endsRun : ℕ → Bool
-endsRun w = leb 0x8000_0000 w
+endsRun w = eqb w 0xffff_ffff
 
 -- where a run starts, and its entries without the one that ends it
 pub record Run : Type 0 where
@@ -34,10 +34,11 @@ runsFrom s (w ∷ ws) = before (endsRun w) s w (runsFrom (suc s) ws)
 abbrev pub runs : List ℕ → List Run
 runs ws = runsFrom 0 ws
 
--- FORMAT 6.1, the loop of split_runs: its start and k, the entries held from start up to k, and those that are left
-unfoldable pub splitFrom : ℕ → ℕ → List ℕ → List ℕ → List Run
-splitFrom start k held [] = cond (ltb start k) (runOf start held ∷ []) []
-splitFrom start k held (w ∷ ws) = cond (endsRun w) (runOf start held ∷ splitFrom (suc k) (suc k) [] ws) (splitFrom start (suc k) (held ++ w ∷ []) ws)
+-- FORMAT 6.1, the loop of split_runs, whatever ends a run: its start and k, the entries held from start up to k, and those that are left
+unfoldable pub splitFrom : (ℕ → Bool) → ℕ → ℕ → List ℕ → List ℕ → List Run
+splitFrom ends start k held [] = cond (ltb start k) (runOf start held ∷ []) []
+splitFrom ends start k held (w ∷ ws) =
+    cond (ends w) (runOf start held ∷ splitFrom ends (suc k) (suc k) [] ws) (splitFrom ends start (suc k) (held ++ w ∷ []) ws)
 
 -- the runs that start at entry s or after it
 abbrev pub runsLeft : List ℕ → ℕ → List Run

@@ -6,11 +6,11 @@ ghost use Rattle.bits.specs.Bits.{entries};
 ghost use Rattle.block.specs.Runs.{endsRun, runLength, runs, RunPart, nextStart, kept, totals};
 use crate::number::PointNumber;
 
-// The one test for what ends a run.
+// The one test for what ends a run: -1. A value below it is a point that is not there.
 pub fn ends_run(w: u32) -> bool
     ensures { λ r. ⌜ r ≡ endsRun w ⌝ }
 {
-    0x8000_0000 <= w
+    w == 0xffff_ffff
 }
 
 // The place of the first entry from `start` on that ends a run, or the number of entries.
