@@ -20,3 +20,9 @@ empty-and-bad : listingsOf 3 (minus-one ∷ 0 ∷ 1 ∷ 3 ∷ minus-one ∷ 2 �
     ≡ record { number = 2; uses = useOf 5 2 ∷ useOf 6 1 ∷ useOf 7 0 ∷ [] } ∷ []
 unfolding listingsOf listed joinN mapN runsFrom endsRun kept allBelow
 empty-and-bad = refl
+
+-- a value below -1 ends no run: the run that names it is skipped whole, and the next counts on
+below-minus-one : listingsOf 3 (0 ∷ 1 ∷ 2 ∷ 0xffff_fff9 ∷ 0 ∷ 1 ∷ 2 ∷ minus-one ∷ 2 ∷ 1 ∷ 0 ∷ [])
+    ≡ record { number = 1; uses = useOf 8 2 ∷ useOf 9 1 ∷ useOf 10 0 ∷ [] } ∷ []
+unfolding listingsOf listed joinN mapN runsFrom endsRun kept allBelow
+below-minus-one = refl

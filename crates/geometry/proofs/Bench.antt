@@ -1,7 +1,7 @@
 -- Ten worked cases, one from each part of a conversion, by computation under one theorem. Each row speaks of its crate's definition.
 use mathlib.Core.Path.{_≡_}
 use mathlib.Core.Bool.{true, false}
-use mathlib.Core.List.{List, [], _∷_}
+use mathlib.Core.List.{List, [], _∷_, map}
 use lib.IntN.{pos, negℤ}
 use lib.Ieee.{Float, nan, fin}
 use Rattle.bits.specs.declared.Words2.{Words2}
@@ -9,7 +9,7 @@ use Rattle.math.specs.Vector.{v3}
 use Rattle.math.proofs.Rows.{rootWord, roots}
 use Rattle.block.specs.Runs.{runOf}
 use Rattle.block.specs.Texture.{uvWords}
-use Rattle.block.proofs.RunRows.{runsOf, row-runs, row-empty, row-none}
+use Rattle.block.proofs.RunRows.{wordOf, runsOf, row-runs, row-empty, row-none}
 use Rattle.block.proofs.TextureRows.{identity, texture-rows}
 use Rattle.polygon.specs.Facing.{newell}
 use Rattle.polygon.specs.Ears.{triple, earClip}
@@ -23,7 +23,8 @@ l = fin false 1 (pos 0)
 
 pub record Bench : Type 0 where
   -- FORMAT 6.1
-  pub two-runs : runsOf (pos 0 ∷ pos 1 ∷ pos 2 ∷ negℤ (pos 1) ∷ pos 3 ∷ negℤ (pos 7) ∷ []) ≡ runOf 0 (0 ∷ 1 ∷ 2 ∷ []) ∷ runOf 4 (3 ∷ []) ∷ []
+  pub two-runs : runsOf (pos 0 ∷ pos 1 ∷ pos 2 ∷ negℤ (pos 1) ∷ pos 3 ∷ negℤ (pos 7) ∷ [])
+      ≡ runOf 0 (0 ∷ 1 ∷ 2 ∷ []) ∷ runOf 4 (map wordOf (pos 3 ∷ negℤ (pos 7) ∷ [])) ∷ []
   pub empty-runs : runsOf (negℤ (pos 1) ∷ negℤ (pos 1) ∷ []) ≡ runOf 0 [] ∷ runOf 1 [] ∷ []
   pub no-runs : runsOf [] ≡ []
   -- FORMAT 10.1

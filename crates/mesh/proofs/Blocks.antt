@@ -59,12 +59,12 @@ bare = 17 ∷ 192 ∷ 0 ∷ 1 ∷ 128 ∷ 8 ∷ 0 ∷ 0 ∷ 0 ∷ 0 ∷ 0 ∷ 0 
 abbrev furnished : List ℕ
 furnished = 17 ∷ 192 ∷ 128 ∷ 1 ∷ 128 ∷ 8 ∷ 0 ∷ 0 ∷ 0 ∷ 0 ∷ 0 ∷ 64 ∷ 0 ∷ 0 ∷ 0 ∷ 0 ∷ 0 ∷ 0 ∷ 0 ∷ 0 ∷ []
 
--- a run that shares an edge with the first, or nothing; and the same with an entry that names no point, so that it is skipped
+-- a run that shares an edge with the first, or nothing; and the same with an entry that names no point, so that it is skipped: -7, and a number too large
 abbrev pub beside : List ℕ
 beside = 1 ∷ 3 ∷ 2 ∷ []
 
 abbrev pub beside′ : List ℕ
-beside′ = 1 ∷ 9 ∷ 2 ∷ []
+beside′ = 1 ∷ 0xffff_fff9 ∷ 2 ∷ []
 
 abbrev pub away : List ℕ
 away = 3 ∷ 4 ∷ 5 ∷ []

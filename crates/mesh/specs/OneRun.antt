@@ -28,7 +28,7 @@ runIn bs r = getD (runsIn bs) r (runOf 0 [])
 unfoldable pub byteOf : List ℕ → ℕ → ℕ
 byteOf bs k = placeOf (headerOf bs) 1 .at + 4 * k
 
--- FORMAT 13: the two are equal byte for byte, except inside run r, which has the same place and length in both; so no entry inside it ends a run in either
+-- FORMAT 13: the two are equal byte for byte, except inside run r, which has the same place and length in both; so no entry inside it is -1 in either
 pub record OneRun (b c : List ℕ) (r : ℕ) : Type 0 where
   pub in-b : r < length (runsIn b)
   pub in-c : r < length (runsIn c)

@@ -25,3 +25,9 @@ strips-row = refl
 quads-row : faceList 9 Quads (0 ∷ 1 ∷ 2 ∷ 3 ∷ 4 ∷ 5 ∷ 6 ∷ 9 ∷ 5 ∷ 6 ∷ 7 ∷ 8 ∷ 1 ∷ []) ≡ 0 ∷ 1 ∷ 2 ∷ 3 ∷ 0xffff_ffff ∷ 5 ∷ 6 ∷ 7 ∷ 8 ∷ 0xffff_ffff ∷ []
 unfolding stretches primitiveCount placesOf primitiveOf primitiveRun stretchRuns faceList endsRun runsFrom allBelow tab flat
 quads-row = refl
+
+-- a value below -1 ends no run: it takes the triangles that name it, and those after count on
+below-row : (faceList 9 Strips (0 ∷ 0xffff_fff9 ∷ 2 ∷ 3 ∷ 4 ∷ 5 ∷ []) ≡ 2 ∷ 3 ∷ 4 ∷ 0xffff_ffff ∷ 4 ∷ 3 ∷ 5 ∷ 0xffff_ffff ∷ [])
+    × (faceList 9 Fans (0 ∷ 1 ∷ 2 ∷ 0xffff_fffe ∷ 3 ∷ 4 ∷ []) ≡ 0 ∷ 1 ∷ 2 ∷ 0xffff_ffff ∷ 0 ∷ 3 ∷ 4 ∷ 0xffff_ffff ∷ [])
+unfolding stretches primitiveCount placesOf primitiveOf primitiveRun stretchRuns faceList endsRun runsFrom allBelow tab flat
+below-row = (refl, refl)
