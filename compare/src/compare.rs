@@ -20,6 +20,8 @@ const NANS: [u32; 6] = [0x7fc0_0000, 0xffc0_0000, 0x7f80_0001, 0xff80_0001, 0xff
 /// Vertices that the colour joins, and vertices that white joined.
 const FEWER: &str = "with another colour, fewer vertices than with white";
 const MORE: &str = "with another colour, more vertices than with white";
+/// coordIndex is not the reference's own there (follow.rs).
+const BELOW: &str = "meshes with a value below -1 in coordIndex";
 
 #[derive(Default)]
 struct Run {
@@ -70,6 +72,9 @@ impl Run {
         self.blocks += 1;
         let base = expected(block, &ANY, &maker.angles, WHITE);
         let kind = Block::read(block).map_or(9, |b| b.kind);
+        if !matches!(base, Expected::Refused(_)) && Block::read(block).is_ok_and(|b| b.has_below()) {
+            self.count(BELOW.into());
+        }
         self.count(match &base {
             Expected::Refused(n) => format!("blocks refused by {n}"),
             Expected::Made(_, false) => format!("meshes of kind {kind}"),
@@ -189,6 +194,6 @@ pub fn compare(count: u64, seed: u64, first: u64, folder: &str) -> bool {
     }
     let seconds = start.elapsed().as_secs_f32();
     println!("{} blocks, {} calls, {} differ, {seconds:.1} s", run.blocks, run.calls, run.differ);
-    let joined = [FEWER, MORE].iter().all(|&what| run.counts.contains_key(what));
-    run.differ == 0 && (first > 0 || joined)
+    let met = [FEWER, MORE, BELOW].iter().all(|&what| run.counts.contains_key(what));
+    run.differ == 0 && (first > 0 || met)
 }

@@ -18,11 +18,12 @@ impl Soup {
 }
 
 impl Maker {
+    /// What ends a run and, at times, what does not: a value below -1.
     fn separator(&mut self) -> i32 {
-        match self.rng.below(10) {
+        match self.rng.below(30) {
             0 => -7,
             1 => i32::MIN,
-            2 => -1 - self.rng.below(100_000) as i32,
+            2 => -2 - self.rng.below(100_000) as i32,
             _ => -1,
         }
     }
@@ -96,7 +97,7 @@ impl Maker {
                 0 => soup.index.splice(k..k, [-1, -1]).for_each(drop),
                 1 => soup.index.splice(k..k, [-1, 0, 1, -1]).for_each(drop),
                 2 if k < soup.index.len() => {
-                    soup.index[k] = self.rng.pick(&[n, n + 1, i32::MAX, 8192, 65536, -1, i32::MIN]);
+                    soup.index[k] = self.rng.pick(&[n, n + 1, i32::MAX, 8192, 65536, -1, -2, i32::MIN]);
                 }
                 3 => soup.index.truncate(k),
                 4 if k < soup.index.len() => soup.index[k] = self.rng.below(n.max(1) as usize) as i32,

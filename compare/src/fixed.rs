@@ -21,7 +21,7 @@ pub fn samples(maker: &mut Maker) -> Vec<Shape> {
         match kind {
             FACES | LINES => {
                 shape.set_floats(0, &[0.0, 0.0, 0.0, 1.0, 0.0, 0.0, 1.0, 1.0, 0.0, 0.0, 1.0, 0.5]);
-                shape.set_entries(1, &[0, 1, 2, -1, 0, 2, 3, -7, 9, 1]);
+                shape.set_entries(1, &[0, 1, 2, -1, 0, 2, 3, -1, 9, 1]);
             }
             TRIANGLES..=QUADS => {
                 shape.set_floats(0, &[0.0, 0.0, 0.0, 1.0, 0.0, 0.0, 1.0, 1.0, 0.0, 0.0, 1.0, 0.5]);
@@ -290,6 +290,31 @@ pub fn colourless() -> Vec<Named> {
     out
 }
 
+/// Values below -1 in coordIndex, at the ends of a run and inside one: no run ends there, and faces and lines count on.
+fn below(out: &mut Vec<Named>) {
+    for (kind, by_vertex) in [(FACES, false), (FACES, true), (LINES, false), (LINES, true)] {
+        let mut shape = Shape::new(kind);
+        shape.flags[flag::COLOURS] = true;
+        shape.flags[flag::COLOUR_PER_VERTEX] = by_vertex;
+        shape.set_floats(0, &[0.0, 0.0, 0.0, 1.0, 0.0, 0.0, 1.0, 1.0, 0.0, 0.0, 1.0, 0.5]);
+        shape.set_floats(2, &[1.0, 0.0, 0.0, 0.0, 1.0, 0.0, 0.0, 0.0, 1.0, 0.5, 0.5, 0.5]);
+        for v in [-2, -7, i32::MIN + 1, i32::MIN] {
+            let lists = [
+                [v, 0, 1, 2, -1, 0, 2, 3, -1, 1],
+                [0, 1, 2, v, -1, 0, 2, 3, -1, 1],
+                [0, 1, 2, v, 0, 2, 3, -1, 0, 1],
+                [0, 1, 2, -1, v, -1, 0, 2, 3, -1],
+                [0, 1, 2, -1, 0, 2, 3, -1, 1, v],
+                [v; 10],
+            ];
+            for list in lists {
+                shape.set_entries(1, &list);
+                out.push((format!("kind {kind}, by vertex {by_vertex}, coordIndex {list:?}"), shape.block()));
+            }
+        }
+    }
+}
+
 pub fn blocks(maker: &mut Maker) -> Vec<Named> {
     let mut out = Vec::new();
     let samples = samples(maker);
@@ -299,6 +324,7 @@ pub fn blocks(maker: &mut Maker) -> Vec<Named> {
         ends(sample, &mut out);
         full_lists(sample, &mut out);
     }
+    below(&mut out);
     no_shapes(&mut out);
     corners(maker, &mut out);
     great(maker, &mut out);

@@ -28,6 +28,12 @@ fn orientations(block: &Block, angles: &Angles) -> Option<Vec<f32>> {
     Some(list)
 }
 
+/// coordIndex for the reference, which ends a run at every negative entry: a value below -1 becomes the largest number,
+/// which no list of points reaches.
+fn beyond(entries: Vec<i32>) -> Vec<i32> {
+    entries.into_iter().map(|v| if v < -1 { i32::MAX } else { v }).collect()
+}
+
 /// The reference's fields, or none where its sines and cosines cannot be the block's.
 pub fn given(block: &Block, angles: &Angles) -> Option<Given> {
     let on = |k| block.flag(k);
@@ -68,7 +74,7 @@ pub fn given(block: &Block, angles: &Angles) -> Option<Given> {
     }
     debug_assert!(block.is_face_set() || block.kind == LINES);
     g.points = block.floats(0);
-    g.coord_index = block.coord_index();
+    g.coord_index = beyond(block.coord_index());
     g.colour_index = block.entries(3);
     g.normal_index = block.entries(5);
     g.texture_index = block.entries(7);

@@ -183,6 +183,11 @@ impl<'a> Block<'a> {
         Ok(sizes)
     }
 
+    /// Whether coordIndex has a value below -1: a point that is not there (FORMAT 6.1).
+    pub fn has_below(&self) -> bool {
+        !matches!(self.kind, GRID | EXTRUSION) && self.entries(1).iter().any(|&v| v < -1)
+    }
+
     fn face_sizes(&self) -> Sizes {
         let (mut corners, mut indices) = (0, 0);
         for run in runs(&self.coord_index()) {
@@ -232,9 +237,9 @@ impl<'a> Block<'a> {
     }
 }
 
-/// Runs of an index list (FORMAT 6.1).
+/// Runs of an index list (FORMAT 6.1): -1 ends one.
 pub fn runs(entries: &[i32]) -> Vec<&[i32]> {
-    let mut all: Vec<&[i32]> = entries.split(|&v| v < 0).collect();
+    let mut all: Vec<&[i32]> = entries.split(|&v| v == -1).collect();
     if all.last().is_some_and(|run| run.is_empty()) {
         all.pop();
     }

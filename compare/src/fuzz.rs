@@ -33,6 +33,7 @@ use rng::Rng;
 use stack::Stack;
 
 const MOST_SHOWN: usize = 10;
+const BELOW: &str = "meshes with a value below -1 in coordIndex";
 const ANY: [usize; 8] = [usize::MAX; 8];
 /// The most that a block can have: one face of all corners has the most indices.
 const MOST: Sizes = Sizes { points: LIMIT, corners: LIMIT, indices: 3 * (LIMIT - 2) };
@@ -175,6 +176,9 @@ impl Run {
         match accept(block, &ANY) {
             Ok((read, sizes)) => {
                 self.count(format!("meshes of kind {}", read.kind));
+                if read.has_below() {
+                    self.count(BELOW.into());
+                }
                 self.accepted(block, &outline(&read, sizes));
             }
             Err(_) => {
@@ -186,10 +190,10 @@ impl Run {
         }
     }
 
-    /// Whether every kind and every refusal was met.
+    /// Whether every kind, every refusal and a value below -1 was met.
     fn met_all(&self) -> bool {
         let kinds = (0..8).all(|k| self.counts.contains_key(&format!("meshes of kind {k}")));
-        kinds && (1..10).all(|n| self.counts.contains_key(&format!("calls refused by {n}")))
+        kinds && self.counts.contains_key(BELOW) && (1..10).all(|n| self.counts.contains_key(&format!("calls refused by {n}")))
     }
 }
 

@@ -29,7 +29,7 @@ mod text;
 
 use std::process::ExitCode;
 
-const USAGE: &str = "compare COUNT SEED [FIRST] | record COUNT SEED FILE | bench [PART] | search SECONDS SEED";
+const USAGE: &str = "compare COUNT SEED [FIRST] | record COUNT SEED FILE | again FILE | bench [PART] | search SECONDS SEED";
 
 fn number(word: Option<&String>, otherwise: u64) -> u64 {
     word.and_then(|w| w.parse().ok()).unwrap_or(otherwise)
@@ -39,7 +39,7 @@ fn main() -> ExitCode {
     let words: Vec<String> = std::env::args().skip(1).collect();
     let (folder, words) = words.split_first().expect("the folder for what differs");
     let mode = words.first().map_or("compare", String::as_str);
-    if mode != "record" && !ours::present() {
+    if !["record", "again"].contains(&mode) && !ours::present() {
         println!("compare: SITEMESH_LIB names no archive, so nothing is compared");
         return ExitCode::from(3);
     }
@@ -48,6 +48,7 @@ fn main() -> ExitCode {
             compare::compare(number(words.get(1), 10_000), number(words.get(2), 1), number(first, 0), folder)
         }
         ("record", Some(file)) => record::record(number(words.get(1), 600), number(words.get(2), 1), file),
+        ("again", _) if words.len() == 2 => record::again(&words[1]),
         ("bench", _) => bench::bench(words.get(1).map_or("", String::as_str)),
         ("search", _) => search::search(number(words.get(1), 900), number(words.get(2), 1)),
         _ => {

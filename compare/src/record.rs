@@ -73,6 +73,20 @@ impl Store {
     fn shows(&self, what: &str) -> u64 {
         self.shown.get(what).copied().unwrap_or(0)
     }
+
+    /// Says what the cases show, and writes them; the answer is whether that went well.
+    fn write(&self, file: &str) -> bool {
+        for (what, n) in &self.shown {
+            println!("{n:>7} {what}");
+        }
+        let [block, text] = self.longest;
+        println!("{} cases, {} bytes, longest block {block}, longest text {text}", self.cases, self.bytes.len());
+        let written = std::fs::write(file, &self.bytes);
+        if let Err(why) = &written {
+            println!("{file}: {why}");
+        }
+        written.is_ok()
+    }
 }
 
 /// The lengths of slices for so many corners and as many points (FORMAT 4).
@@ -362,14 +376,46 @@ pub fn record(count: u64, seed: u64, file: &str) -> bool {
     refused(&mut maker, &mut store, count);
     generated(&mut maker, &mut store, cases::others, seed, count, count);
     generated(&mut maker, &mut store, cases::primitives, seed, count, count + count / 3);
-    for (what, n) in &store.shown {
-        println!("{n:>7} {what}");
+    store.write(file)
+}
+
+/// The angles that a generated block may have.
+fn drawn_angles() -> Angles {
+    let mut maker = Maker { rng: Rng::new(0, 0), angles: Default::default() };
+    for _ in 0..100_000 {
+        let angle = maker.angle();
+        maker.angles.words(angle);
+        maker.angles.words(angle / 2.0);
     }
-    let [block, text] = store.longest;
-    println!("{} cases, {} bytes, longest block {block}, longest text {text}", store.cases, store.bytes.len());
-    let written = std::fs::write(file, &store.bytes);
-    if let Err(why) = &written {
-        println!("{file}: {why}");
+    maker.angles
+}
+
+/// The next part of the bytes, which begins with its length.
+fn take_part<'a>(bytes: &mut &'a [u8]) -> &'a [u8] {
+    let (len, rest) = bytes.split_first_chunk::<4>().expect("a whole case");
+    let (part, rest) = rest.split_at(u32::from_be_bytes(*len) as usize);
+    *bytes = rest;
+    part
+}
+
+/// Keeps the blocks of a file and works out their texts anew. Where coordIndex has no value below -1 the text has to stay;
+/// the answer is whether it did.
+pub fn again(file: &str) -> bool {
+    let old = std::fs::read(file).unwrap_or_else(|why| panic!("{file}: {why}"));
+    let (angles, mut store, mut rest) = (drawn_angles(), Store::new(), &old[..]);
+    let (mut below, mut changed, mut wrong) = (0, 0, 0);
+    while let Some((corners, after)) = rest.split_first_chunk::<4>() {
+        rest = after;
+        let (block, text) = (take_part(&mut rest), take_part(&mut rest));
+        let corners = u32::from_be_bytes(*corners) as usize;
+        let start = store.bytes.len();
+        assert!(put(&mut store, block, corners, &angles), "a block that the reference follows");
+        let other = &store.bytes[start + 12 + block.len()..] != text;
+        let has_below = Block::read(block).is_ok_and(|b| b.has_below());
+        below += has_below as usize;
+        changed += other as usize;
+        wrong += (other && !has_below) as usize;
     }
-    written.is_ok()
+    println!("{below} cases with a value below -1, {changed} texts changed, {wrong} of other cases");
+    wrong == 0 && store.write(file)
 }
