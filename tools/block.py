@@ -30,7 +30,8 @@ Warnings, each a line on standard error with the line of the text; the block is 
   - a run, point or quad that is drawn without its colour, normal or texture point (FORMAT 7); a missing colour is the
     one that the caller chooses: sitemesh passes white, a terminal grey;
   - a shape that draws nothing, a cap that is asked for and not drawn, a list that is not read or is too short.
-Runs, points and values are numbered from 0; an empty run counts and is not warned of.
+Runs, points and values are numbered from 0; an empty run counts and is not warned of. -1 alone ends a run: a value
+below -1 names no point.
 
 A triangle set takes its index in threes, a quad set in fours: nothing separates there, and -1 is a point that is not
 there. The runs of a fan or strip set end as those of a face set do. Attributes are read at the point's number.

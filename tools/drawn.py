@@ -24,10 +24,10 @@ chance = random.Random(14)
 
 
 def indices(count, names):
-    """An index list with ends of runs, and with names beyond the last."""
+    """An index list with ends of runs, a value below -1 here and there, and names beyond the last."""
     def entry():
         kind = chance.random()
-        return -chance.choice((1, 1, 7)) if kind < 0.2 else chance.randrange(names + (2 if kind > 0.9 else 0))
+        return -chance.choice((1, 1, 1, 1, 7)) if kind < 0.2 else chance.randrange(names + (2 if kind > 0.9 else 0))
     return [entry() for _ in range(count)]
 
 
@@ -65,7 +65,7 @@ def drawn_count(text, run, said):
     if 'is not drawn' in said:
         return 0
     if 'is broken' in said:
-        return sum(max(pair) < text.count('point') for pair in zip(run.entries, run.entries[1:]))
+        return len(losses.lines(run, text.count('point')))
     return len(run.entries) - (2 if text.kind == 'IndexedFaceSet' else 1)
 
 

@@ -94,7 +94,7 @@ def runs(text, name='coordIndex'):
     entries, lines = text.values(name), text.entry_lines.get(name, [])
     found, number, start = [], 0, 0
     for place in range(len(entries) + 1):
-        if place == len(entries) or entries[place] < 0:
+        if place == len(entries) or entries[place] == -1:
             if start < place:
                 found.append(Run(number, lines[start], start, entries[start:place]))
             number, start = number + 1, place + 1
@@ -113,7 +113,7 @@ def set_losses(text):
     for run in found:
         what = fault(run, points)
         if what:
-            yield run.line, f'run {run.number} {what}'
+            yield run.line, f'run {run.number} {what}{below(run.entries)}'
     if not found:
         yield text.line_number('coordIndex'), 'nothing is drawn: coordIndex has no run'
     drawn = [run for run in found if (is_kept if is_face_set else has_line)(run, points)]
@@ -121,19 +121,28 @@ def set_losses(text):
         yield from attribute_losses(text, name, drawn)
 
 
+def below(entries):
+    """What to say where a run has a value below -1, which may have been meant to end it (FORMAT 6.1)."""
+    return '; only -1 ends a run' if min(entries) < -1 else ''
+
+
 def is_kept(run, points):
     """FORMAT 6.2."""
-    return len(run.entries) > 2 and max(run.entries) < points
+    return len(run.entries) > 2 and all(0 <= entry < points for entry in run.entries)
+
+
+def lines(run, points):
+    """The pairs of entries in a row that both name points (FORMAT 8.2)."""
+    return [pair for pair in zip(run.entries, run.entries[1:]) if all(0 <= entry < points for entry in pair)]
 
 
 def has_line(run, points):
-    """Whether two entries in a row name points (FORMAT 8.2)."""
-    return any(max(pair) < points for pair in zip(run.entries, run.entries[1:]))
+    return bool(lines(run, points))
 
 
 def beyond(run, points):
     """The entries that name no point, for a message; '' where there are none."""
-    found = [str(entry) for entry in run.entries if entry >= points]
+    found = [str(entry) for entry in run.entries if not 0 <= entry < points]
     names = f"{', '.join(found[:4])}{' ..' * (len(found) > 4)} name{'s' * (len(found) == 1)} no point"
     return f"{names} ({listed('point', points)})" if found else ''
 
@@ -172,7 +181,7 @@ def vertices_lack(text, name, run):
     """Of each entry that names a point, why its value is missing; '' where it is there."""
     index = name + 'Index' if text.values(name + 'Index') else 'coordIndex'
     points = text.count('point')
-    places = [run.start + k for k, entry in enumerate(run.entries) if entry < points]
+    places = [run.start + k for k, entry in enumerate(run.entries) if 0 <= entry < points]
     return [index_lacks(text, name, index, place) for place in places]
 
 
@@ -236,13 +245,18 @@ def primitives_losses(text):
         if stretch.rest:
             more = ' or more' * (name in ('fan', 'strip'))
             has = f'a {name} has {width} entries{more}, and it has {len(stretch.rest)}'
-            yield stretch.line, f'{stretch.name} is not drawn: {has}'
+            yield stretch.line, f'{stretch.name} is not drawn: {has}{run_below(stretch, stretch.rest)}'
         yield from parts_lost(text, stretch)
     if not found:
         yield text.line_number('index'), 'nothing is drawn: index has no entries'
     for attribute in ATTRIBUTES:
         for stretch in found:
             yield from values_lost(text, attribute, stretch)
+
+
+def run_below(stretch, entries):
+    """The same of a fan or a strip, which is a run; a triangle or quad set has none."""
+    return below(entries) if stretch.name.startswith('run ') else ''
 
 
 def parts_lost(text, stretch):
@@ -253,7 +267,8 @@ def parts_lost(text, stretch):
         names = f"{', '.join(map(str, bad[:4]))}{' ..' * (len(bad) > 4)} name{'s' * (len(bad) == 1)} no point"
         some = '' if len(lost) == len(stretch.parts) else f'{len(lost)} of the {len(stretch.parts)} triangles of '
         verb = 'are' if some and len(lost) > 1 else 'is'
-        yield stretch.line, f"{some}{stretch.name} {verb} not drawn: {names} ({listed('point', text.count('point'))})"
+        where = f"({listed('point', text.count('point'))}){run_below(stretch, bad)}"
+        yield stretch.line, f'{some}{stretch.name} {verb} not drawn: {names} {where}'
 
 
 def values_lost(text, name, stretch):

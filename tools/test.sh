@@ -245,12 +245,15 @@ faulty "shape IndexedTriangleStripSet\npoint 0 0 0\nindex $(yes 0 | head -n 2733
 faces='shape IndexedFaceSet\npoint 0 0 0, 1 0 0\n  1 1 0, 0 1 0\n'
 warned 'shape ElevationGrid\nxDimension 2\nzDimension 2\nheight 1 234.5 0 0 0\n' 4 'height has 5 entries for the 4 points of the grid'
 warned "${faces}coordIndex 0 1 2 -1\n0\n1 4 -1\n" 5 'run 1 is not drawn: 4 names no point (there are 4'
-warned "${faces}coordIndex 0 1 2 -1 -1 -7\n0 1 -1\n" 5 'run 3 is not drawn: a face has 3 .*, and it has 2'
+warned "${faces}coordIndex 0 1 2 -1 -1 -1\n0 1 -1\n" 5 'run 3 is not drawn: a face has 3 .*, and it has 2$'
+warned "${faces}coordIndex 0 1 2 -1 -1\n0 1 2 -7 0 2 3 -1 0 1 3\n" 5 'run 2 is not drawn: -7 names no point .*; only -1 ends a run$'
+warned "${faces}coordIndex 0 1 2 -1\n-2 0\n" 5 'run 1 is not drawn: a face .* it has 2; only -1 ends a run$'
 warned "${faces}coordIndex 0 1 2 -1\n\n0" 6 'run 1 is not drawn: .* it has 1'
 warned "${faces}coordIndex -1 -1\n" 4 'nothing is drawn'
 warned "$faces" 1 'nothing is drawn'
 warned 'shape IndexedFaceSet\npoint\ncoordIndex 0 1 2 3 4 -1\n' 3 'run 0 is not drawn: 0, 1, 2, 3 .. name no point'
 lines='shape IndexedLineSet\npoint 0 0 0, 1 0 0, 1 1 0\n'
+warned "${lines}coordIndex 0 1 -1\n1 2 -2147483648 0\n" 4 'run 1 is broken: -2147483648 names no point .*; only -1 ends a run$'
 warned "${lines}coordIndex 0 1 -1\n0 1\n3 2 -1\n" 4 'run 1 is broken: 3 names no point'
 warned "${lines}coordIndex 0 1 -1\n0 3 2 -1\n" 4 'run 1 is not drawn: 3 names no point'
 warned "${lines}coordIndex 0 1 -1\n -1 2\n" 4 'run 2 is not drawn: a line has 2'
@@ -262,9 +265,12 @@ warned "shape IndexedQuadSet\n${primitives}index 0 1 2 3\n 0 1 2\n" 5 'the last 
 warned "shape IndexedTriangleFanSet\n${primitives}index 0 1 2 -1\n 9 1 2 3\n" 5 'run 1 is not drawn: 9 names no point'
 warned "shape IndexedTriangleFanSet\n${primitives}index 0 1 2 -1\n 1 3\n" 5 'run 1 is not drawn: a fan has 3 entries or more, and it has 2'
 warned "shape IndexedTriangleStripSet\n${primitives}index 0 1 2 -1 -1\n 0 1 3 2 9\n" 5 '1 of the 3 triangles of run 2 is not drawn: 9 names no point'
+warned "shape IndexedTriangleStripSet\n${primitives}index 0 1 3 2 -7\n" 4 '1 of the 3 triangles of run 0 is not drawn: -7 names no point .*; only -1 ends a run$'
+warned "shape IndexedTriangleFanSet\n${primitives}index 0 1 2 -1\n-2 0\n" 5 'run 1 is not drawn: a fan .* it has 2; only -1 ends a run$'
+warned "shape IndexedTriangleSet\n${primitives}index 0 1 2\n 0 1 -7\n" 5 'triangle 1 is not drawn: -7 names no point (there are 4, numbered from 0)$'
 warned "shape IndexedTriangleStripSet\n${primitives}" 1 'nothing is drawn: index has no entries'
 silent 'a strip, a fan and empty runs' "shape IndexedTriangleStripSet\n${primitives}index -1 0 1 3 2 -1 -1 0 1 2\n" 156
-silent 'empty runs' "${faces}coordIndex -1 -7 0 1 2 -1 -1 0 2 3 -1 -1\n" 164
+silent 'empty runs' "${faces}coordIndex -1 -1 0 1 2 -1 -1 0 2 3 -1 -1\n" 164
 
 # What would be drawn without its colour, normal or texture point (FORMAT 7).
 two="${faces}coordIndex 0 1 2 -1\n0 2 3 -1\n"
@@ -274,6 +280,7 @@ warned "${two}$red, 1 0 0, 1 0 0\n" 5 'run 1 has no color at 1 of its 3 entries:
 warned "${two}$red\ncolorIndex 0 0 0 -1 0 0\n" 5 'run 1 has no color at 1 of its 3 .*: colorIndex has 6 entries'
 warned "${two}$red\ncolorIndex 0 0 1 -1 0 0 0\n" 4 'run 0 has no color .*: 1 names no color (color has 1 entry)'
 warned "${two}normal 0 0 1\nnormalIndex 0 0 0 0 0 -1 0\n" 5 'run 1 has no normal at 1 .*: normalIndex has -1 there'
+warned "${two}$red\ncolorIndex 0 0 0 0 0 -7 0\n" 5 'run 1 has no color at 1 .*: colorIndex has -7 there'
 warned "${two}texCoord 0 0, 1 0\ntexCoordIndex 0 0 1 -1 0 1 2\n" 5 'run 1 has no texCoord at 1 .*: 2 names no texCoord'
 warned "${two}$each$red\n" 5 'run 1 has no color of its own: color has 1 entry'
 warned "${two}$each$red\ncolorIndex 0\n" 5 'run 1 has no color of its own: colorIndex has 1 entry, too few'
@@ -283,7 +290,7 @@ warned "${two}colorIndex 0 0 0 -1 0 0 0 -1\n" 6 'colorIndex is not read'
 warned "${lines}coordIndex 0 1 -1 1 2\n$each$red\n" 3 'run 1 has no color of its own'
 warned "shape IndexedTriangleSet\n${primitives}index 0 1 2\n 0 2 3\n$red, 1 0 0, 1 0 0\n" 5 'triangle 1 has no color at 1 of its 3 points: 3 names no color'
 silent 'a value for each face, empty runs counted' "${faces}coordIndex -1 0 1 2 -1\n$each$red, 0 0 1\n" 160
-silent 'values that nothing needs' "${two}$red\ncolorIndex 0 0 0 9 0 0 0 9 9\n" 196
+silent 'values that nothing needs' "${two}$red\ncolorIndex 0 0 0 9 0 0 0 -7 9\n" 196
 grid='shape ElevationGrid\nxDimension 2\nzDimension 3\nheight 0 0 0 0 0 0\n'
 warned "${grid}$red\n" 5 'color has 1 entry for the 6 points of the grid'
 warned "${grid}${each}colorRGBA 1 0 0 1\n" 6 'colorRGBA has 1 entry for the 2 quads of the grid'

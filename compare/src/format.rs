@@ -183,9 +183,9 @@ impl<'a> Block<'a> {
         Ok(sizes)
     }
 
-    /// Whether coordIndex has a value below -1: a point that is not there (FORMAT 6.1).
+    /// Whether a list of runs has a value below -1: a point that is not there (FORMAT 6.1).
     pub fn has_below(&self) -> bool {
-        !matches!(self.kind, GRID | EXTRUSION) && self.entries(1).iter().any(|&v| v < -1)
+        !matches!(self.kind, GRID | EXTRUSION | TRIANGLES | QUADS) && self.entries(1).iter().any(|&v| v < -1)
     }
 
     fn face_sizes(&self) -> Sizes {
