@@ -23,8 +23,7 @@ l = fin false 1 (pos 0)
 
 pub record Bench : Type 0 where
   -- FORMAT 6.1
-  pub two-runs : runsOf (pos 0 ∷ pos 1 ∷ pos 2 ∷ negℤ (pos 1) ∷ pos 3 ∷ negℤ (pos 7) ∷ [])
-      ≡ runOf 0 (0 ∷ 1 ∷ 2 ∷ []) ∷ runOf 4 (map wordOf (pos 3 ∷ negℤ (pos 7) ∷ [])) ∷ []
+  pub two-runs : runsOf (pos 0 ∷ pos 1 ∷ pos 2 ∷ negℤ (pos 1) ∷ pos 3 ∷ negℤ (pos 7) ∷ []) ≡ runOf 0 (0 ∷ 1 ∷ 2 ∷ []) ∷ runOf 4 (map wordOf (pos 3 ∷ negℤ (pos 7) ∷ [])) ∷ []
   pub empty-runs : runsOf (negℤ (pos 1) ∷ negℤ (pos 1) ∷ []) ≡ runOf 0 [] ∷ runOf 1 [] ∷ []
   pub no-runs : runsOf [] ≡ []
   -- FORMAT 10.1
