@@ -1,12 +1,11 @@
 -- FORMAT 14: there is room for the text of every answer, so none is cut off.
 use Prim.Native.Nat.{ℕ, _≤_}
-use mathlib.Core.Path.{_≡_, refl, sym, ap, _∙_}
+use mathlib.Core.Path.{_≡_, refl}
 use mathlib.Core.Bool.{Bool, true, false}
 use mathlib.Core.List.{List}
 use native.Mathlib.Omega.{arith}
 use lib.Dec.{ltb}
-use lib.ListN.{length, take, drop}
-use lib.Seq.{take-at, length-sets, length-take-le}
+use lib.ListN.{length}
 use Rattle.block.specs.Header.{headerOf}
 use Rattle.lists.specs.Loops.{pick}
 use Rattle.mesh.specs.Mesh.{Slices}
@@ -14,6 +13,7 @@ use Rattle.geometry.specs.Answer.{resultFor, Saying, refused, made, said}
 use Rattle.text.specs.declared.lines.Parts.{Parts}
 use Rattle.text.specs.Answer.{longText, textRoom}
 use Rattle.text.specs.Wrote.{Printed}
+use Rattle.text.proofs.Pieces.{Shown, shown}
 use Rattle.text.proofs.TextFits.{text-fits, refusal-fits, long-fits}
 use Rattle.answer.specs.Lending.{passed, number, left}
 use Rattle.answer.specs.Text.{longest, headOf, partsOf, textOf, blockText, answerText}
@@ -33,22 +33,7 @@ fits bs = go (ltb longest (length bs))
     go false =
         saying-fits (said (number bs) (resultFor passed bs)) (partsOf (headerOf bs)) (left bs) (said-few bs (said (number bs) (resultFor passed bs)) refl)
 
--- ---- a text in a buffer that has room for every answer
-
--- FORMAT 14: the first k bytes of m are the whole answer
-pub record Whole (bs m : List ℕ) (k : ℕ) : Type 0 where
-  pub inside : k ≤ length m
-  pub long : k ≡ length (take k m)
-  pub text : take k m ≡ answerText bs
-
-pub whole-text : (bs l m : List ℕ) (k : ℕ) → Printed l (answerText bs) m k → 41747 ≤ length l → Whole bs m k
+-- FORMAT 14: in a buffer that has room for every answer the first k bytes are the whole answer
+pub whole-text : (bs l m : List ℕ) (k : ℕ) → Printed l (answerText bs) m k → 41747 ≤ length l → Shown (answerText bs) m k
 unfolding textRoom
-whole-text bs l m k p room =
-    let f : length (answerText bs) ≤ length l = omega (arith, fits bs) in
-    let e : length m ≡ length l = ap length (p .bytes) ∙ length-sets l 0 (answerText bs) in
-    let h : k ≤ length m = omega (arith, p .long, e) in
-    record {
-      inside = h;
-      long = sym (length-take-le k m h);
-      text = ap (take k) (p .whole f) ∙ take-at (answerText bs) (drop (length (answerText bs)) l) k (sym (p .long));
-    }
+whole-text bs l m k p room = shown l m (answerText bs) k p (omega (arith, fits bs))

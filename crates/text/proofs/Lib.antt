@@ -1,5 +1,5 @@
 -- The laws behind the functions, and the theorems that callers cite.
-mod Pieces
+pub mod Pieces
 mod Spelling
 pub mod ReadBack
 pub mod TextFits

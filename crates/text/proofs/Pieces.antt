@@ -4,8 +4,8 @@ use mathlib.Core.Path.{_≡_, refl, sym, ap, _∙_, subst}
 use mathlib.Core.List.{List, [], _++_}
 use native.Mathlib.Omega.{arith}
 use native.Mathlib.Nat.{add-zero, zero-add, sub-zero}
-use lib.ListN.{length, drop, length-append}
-use lib.Seq.{sets, sets-eq}
+use lib.ListN.{length, take, drop, length-append}
+use lib.Seq.{sets, sets-eq, take-at, length-sets, length-take-le}
 use Rattle.lists.specs.Loops.{tab}
 use Rattle.lists.specs.Lists.{flat}
 use Rattle.lists.proofs.Stores.{sets-append}
@@ -68,4 +68,20 @@ printed {l} {m} {s} {k} {r} w =
       bytes = w .bytes;
       long = w .next ∙ zero-add (length s);
       whole = λ h. w .bytes ∙ sets-eq s l 0 (omega arith) ∙ ap (λ (q : ℕ). s ++ drop q l) (zero-add (length s));
+    }
+
+-- the first k bytes of the buffer m are the whole text
+pub record Shown (s m : List ℕ) (k : ℕ) : Type 0 where
+  pub inside : k ≤ length m
+  pub long : k ≡ length (take k m)
+  pub text : take k m ≡ s
+
+pub shown : (l m text : List ℕ) (k : ℕ) → Printed l text m k → length text ≤ length l → Shown text m k
+shown l m text k p f =
+    let e : length m ≡ length l = ap length (p .bytes) ∙ length-sets l 0 text in
+    let h : k ≤ length m = omega (arith, p .long, e) in
+    record {
+      inside = h;
+      long = sym (length-take-le k m h);
+      text = ap (take k) (p .whole f) ∙ take-at text (drop (length text) l) k (sym (p .long));
     }

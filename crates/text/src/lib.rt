@@ -8,4 +8,6 @@ pub use answer::Head;
 pub use answer::put_long;
 pub use answer::put_mesh;
 pub use answer::put_refusal;
+pub use digits::put_byte;
+pub use digits::put_digits;
 pub use lines::Parts;
