@@ -1,0 +1,2 @@
+-- The text of the table of the sine.
+pub mod Lines
