@@ -100,6 +100,19 @@ uint32_t sitemesh_convert(sitemesh_call call,
                           float *floats, size_t floats_length,
                           size_t *result, size_t result_length);
 
+typedef struct {
+    float sin, cos;
+} sitemesh_sincos;
+
+/*
+ * Sine and cosine of an angle in radians, from a table (docs/FORMAT.md 16): for whoever fills a block where there is no
+ * maths library, with the same bits on every machine. Each is within 2^-20 of its series where the angle is at most 1024
+ * in size; any other angle, an infinite one and a NaN give 0 and 1. What it is for (docs/FORMAT.md 2.3, 2.4): the cosine of
+ * the crease angle, sine and cosine of a texture's rotation, sine and cosine of half the angle of an orientation. It takes
+ * some 4.1 KiB of stack: the table is laid out there in each call.
+ */
+sitemesh_sincos sitemesh_sin_cos(float angle);
+
 #ifdef __cplusplus
 }
 #endif

@@ -89,6 +89,14 @@ pub struct Mesh {
     pub has_colors: bool,
 }
 
+/// Sine and cosine of an angle.
+#[repr(C)]
+#[derive(Clone, Copy, Debug, PartialEq)]
+pub struct SinCos {
+    pub sin: f32,
+    pub cos: f32,
+}
+
 // A slice is handed over as a pointer and a length, two arguments each.
 unsafe extern "C" {
     fn sitemesh_convert(
@@ -104,6 +112,7 @@ unsafe extern "C" {
         floats: *mut f32, floats_length: usize,
         result: *mut usize, result_length: usize,
     ) -> u32;
+    fn sitemesh_sin_cos(angle: f32) -> SinCos;
 }
 
 /// Converts a block into the lent slices, or says why it is refused and leaves every lent element as it was.
@@ -130,4 +139,28 @@ pub fn convert(call: Call, block: &[u8], lent: Lent) -> Result<Mesh, Refusal> {
     }
     let [vertices, indices, solid, unlit, has_colors] = result;
     Ok(Mesh { vertices, indices, solid: solid != 0, unlit: unlit != 0, has_colors: has_colors != 0 })
+}
+
+/// Sine and cosine of an angle in radians, from a table (docs/FORMAT.md 16): the same bits on every machine, within 2^-20 where
+/// the angle is at most 1024 in size; any other angle, an infinite one and a NaN give 0 and 1.
+pub fn sin_cos(angle: f32) -> SinCos {
+    // SAFETY: a number goes in and two come out.
+    unsafe { sitemesh_sin_cos(angle) }
+}
+
+/// Word 1 of the twelve (docs/FORMAT.md 2.3): the cosine of the crease angle.
+pub fn crease_cosine(angle: f32) -> f32 {
+    sin_cos(angle).cos
+}
+
+/// Words 6 and 7 of the twelve (docs/FORMAT.md 2.3): sine and cosine of a texture's rotation.
+pub fn texture_rotation(angle: f32) -> [f32; 2] {
+    let r = sin_cos(angle);
+    [r.sin, r.cos]
+}
+
+/// An orientation of an extrusion (docs/FORMAT.md 2.4): the axis, then sine and cosine of half the angle.
+pub fn orientation(axis: [f32; 3], angle: f32) -> [f32; 5] {
+    let r = sin_cos(angle / 2.0);
+    [axis[0], axis[1], axis[2], r.sin, r.cos]
 }

@@ -83,6 +83,25 @@ for slice in positions normals colours textures sources; do
     tally "$slice one short" $?
 done
 
+# Sine and cosine: those of the library are what tools/sine.py works out from the stored table.
+if have 'sines and cosines' python3; then
+    for ((k = 0; k < 65536; k += 7)); do printf '%04x%04x\n' "$k" $((k * 40503 % 65536)); done > "$out/angles"
+    python3 tools/sine.py < "$out/angles" > "$out/sines"
+    cc -std=c99 -O2 -Wall -Wextra -Wpedantic -Werror hosts/sine.c "$archive" -o "$out/sine_c" &&
+        "$out/sine_c" < "$out/angles" | cmp - "$out/sines"
+    tally 'sines and cosines from C' $?
+    if have 'sines and cosines from C++' g++; then
+        g++ -x c++ -Wall -Wextra -Werror -I hosts hosts/sine.c -x none "$archive" -o "$out/sine_cpp" &&
+            "$out/sine_cpp" < "$out/angles" | cmp - "$out/sines"
+        tally 'sines and cosines from C++' $?
+    fi
+    if [ "${#callers[@]}" -ne 0 ]; then
+        rustc --edition 2024 -D warnings -O hosts/sine.rs -C "link-arg=$archive" -o "$out/sine_rs" &&
+            "$out/sine_rs" < "$out/angles" | cmp - "$out/sines"
+        tally 'sines and cosines from Rust' $?
+    fi
+fi
+
 # README's lines, as they stand there: each compiles, and the programs say the same of the duct.
 duct='96 vertices, 372 indices
 first corner at 29.920 12.000 42.620'

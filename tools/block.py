@@ -30,6 +30,7 @@ Warnings, each a line on standard error with the line of the text; the block is 
   - a run, point or quad that is drawn without its colour, normal or texture point (FORMAT 7); a missing colour is the
     one that the caller chooses: sitemesh passes white, a terminal grey;
   - a shape that draws nothing, a cap that is asked for and not drawn, a list that is not read or is too short.
+  - with --table, an angle above 1024 in size (for an orientation, half of it), whose sine is then 0 and cosine 1 (FORMAT 16).
 Runs, points and values are numbered from 0; an empty run counts and is not warned of. -1 alone ends a run: a value
 below -1 names no point.
 
@@ -52,6 +53,7 @@ import textwrap
 sys.dont_write_bytecode = True
 import files
 import losses
+import sine
 from files import Fault, shown
 from losses import DIMENSIONS, PRIMITIVES
 
@@ -330,26 +332,40 @@ def header(text, counts):
     return bits.bytes()
 
 
-def twelve(text):
-    """FORMAT 2.3. Sines and cosines are those of the f32 angle, rounded to f32."""
+def host_sine(angle):
+    """The host's, rounded to f32 when they are written."""
+    return math.sin(angle), math.cos(angle)
+
+
+def twelve(text, sin_cos):
+    """FORMAT 2.3. Sines and cosines are those of the f32 angle."""
     def of(name):
         return text.fields.get(name, DEFAULTS[name])
     crease, turn = of('creaseAngle')[0], of('textureRotation')[0]
-    words = [crease, math.cos(crease)] + of('xSpacing') + of('zSpacing') + of('textureCenter')
-    words += [math.sin(turn), math.cos(turn)] + of('textureScale') + of('textureTranslation')
+    words = [crease, sin_cos(crease)[1]] + of('xSpacing') + of('zSpacing') + of('textureCenter')
+    words += [*sin_cos(turn)] + of('textureScale') + of('textureTranslation')
     return struct.pack('>12f', *words)
 
 
-def turned(values):
+def turned(values, sin_cos):
     """Orientations with the sine and cosine of half the angle in place of the angle."""
     made = []
     for k in range(0, len(values), 4):
         half = f32(values[k + 3] * 0.5)
-        made += values[k:k + 3] + [math.sin(half), math.cos(half)]
+        made += values[k:k + 3] + [*sin_cos(half)]
     return made
 
 
-def list_bytes(text, name):
+def out_of_reach(text):
+    """The angles that the table does not reach (FORMAT 16), by line."""
+    angles = [(name, text.fields.get(name, DEFAULTS[name])[0]) for name in ('creaseAngle', 'textureRotation')]
+    if 'orientation' in LISTS[text.kind]:
+        angles += [('orientation', f32(angle * 0.5)) for angle in text.values('orientation')[3::4]]
+    return [(text.line_number(name), f'{name}: the table has no angle above 1024, so the sine is 0 and the cosine 1')
+            for name, angle in angles if abs(angle) > 1024]
+
+
+def list_bytes(text, name, sin_cos):
     """The count of a list and its bytes."""
     if name in DIMENSIONS:
         return text.fields.get(name, 0), b''
@@ -357,14 +373,14 @@ def list_bytes(text, name):
     if is_index(name):
         return len(values), struct.pack(f'>{len(values)}i', *values)
     if name == 'orientation':
-        values = turned(values)
+        values = turned(values, sin_cos)
     return text.count(name), struct.pack(f'>{len(values)}f', *values)
 
 
-def block(text):
+def block(text, sin_cos=host_sine):
     """The block of a text."""
-    lists = [list_bytes(text, name) for name in LISTS[text.kind]]
-    return header(text, [count for count, _ in lists]) + twelve(text) + b''.join(part for _, part in lists)
+    lists = [list_bytes(text, name, sin_cos) for name in LISTS[text.kind]]
+    return header(text, [count for count, _ in lists]) + twelve(text, sin_cos) + b''.join(part for _, part in lists)
 
 
 def accepted(lines):
@@ -395,16 +411,18 @@ def work():
     parser.add_argument('text', metavar='FILE.txt', help="the text that is read; '-' is standard input")
     parser.add_argument('block', metavar='OUT.block', help="the block that is written; '-' is standard output")
     parser.add_argument('--strict', action='store_true', help='every warning is an error: nothing is written, status 1')
+    parser.add_argument('--table', action='store_true',
+                        help="sines and cosines from the converter's own table (FORMAT 16) in place of the host's")
     choice = parser.parse_args()
     text = files.read(choice.text, accepted)
     refuse_same_file(choice.text, choice.block)
-    found = losses.warnings(text)
+    found = losses.warnings(text) + (out_of_reach(text) if choice.table else [])
     for line, what in found:
         mark = '' if choice.strict else 'warning: '
         files.tell('block.py', f'{files.source_name(choice.text)}: line {line}: {mark}{what}')
     if found and choice.strict:
         return 1
-    files.write(choice.block, block(text))
+    files.write(choice.block, block(text, sine.sin_cos if choice.table else host_sine))
     return 0
 
 

@@ -216,6 +216,19 @@ done
 fails 'standard input twice' 'named twice' python3 tools/mesh.py obj - -
 fails "painter's order of no mesh" 'none.mesh: No such file' python3 tools/painter.py none.mesh
 
+# With --table the sines and cosines are the table's: of the crease angle 0.5, the rotation 0.25 and half of the angle 2000.
+printf 'shape Extrusion\ncreaseAngle 0.5\ntextureRotation 0.25\nspine 0 0 0, 0 1 0\norientation 0 1 0 2000\n' > "$work/turned.txt"
+words=$(python3 tools/block.py --table "$work/turned.txt" - | od -An -v -tx1 | tr -d ' \n')
+sines=$(printf '3f000000\n3e800000\n447a0000\n' | python3 tools/sine.py)
+[ "$sines" = $'3ef57742 3f60a93f\n3e7d5774 3f780aa4\n3f53ae5c 3f0ff810' ] &&
+    [[ $words == *3f0000003f60a93f*3e7d57743f780aa4*3f53ae5c3f0ff810 ]]
+tally 'block.py --table' $?
+sed -i 's/2000$/3000/' "$work/turned.txt"
+python3 tools/block.py --table "$work/turned.txt" "$work/made.block" 2> "$work/said" &&
+    grep -q 'turned.txt: line 5: warning: orientation: the table has no angle above 1024' "$work/said" &&
+    python3 tools/block.py --strict "$work/turned.txt" "$work/made.block"
+tally 'block.py --table, an angle out of reach' $?
+
 # Standard input and output, help, and a wrong command line.
 python3 tools/block.py - - < "$good" | cmp - examples/mast.block
 tally 'block.py from standard input to standard output' $?

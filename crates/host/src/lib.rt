@@ -3,12 +3,14 @@ ghost use mathlib.Core.Path.{_≡_};
 ghost use lib.ListN.{set};
 ghost use lib.Seq.{sets};
 ghost use Rattle.mesh.specs.Sizes.{one};
+ghost use Rattle.sine.specs.SinCos.{sinCosOf};
 ghost use Rattle.host.specs.Hosted.{callOf, Hosted, wordsOf};
 use bits::Words4;
 use block::number_of;
 use geometry::Answer;
 use geometry::Call;
 use geometry::Report;
+use sine::SinCos;
 
 // A colour as a host has it: the bits of four f32, laid out as in C.
 #[repr(C)]
@@ -105,4 +107,12 @@ pub extern "C" fn sitemesh_convert(
             0
         }
     }
+}
+
+// Sine and cosine of an angle (FORMAT 16), for whoever fills a block.
+#[no_mangle]
+pub extern "C" fn sitemesh_sin_cos(angle: f32) -> SinCos
+    ensures { λ r. ⌜ r ≡ sinCosOf angle ⌝ }
+{
+    sine::sin_cos(angle)
 }
