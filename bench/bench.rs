@@ -71,6 +71,7 @@ fn rows() -> Vec<(&'static str, Made)> {
         ("faces of 3 corners", Box::new(blocks::triangles)),
         ("faces of 4 corners over heights", Box::new(blocks::quads)),
         ("strip set", Box::new(blocks::strip)),
+        ("fan set, faces within the crease angle", Box::new(blocks::fan)),
         ("triangle set", Box::new(blocks::triangle_set)),
         ("quad set", Box::new(blocks::quad_set)),
         ("concave faces of 127 corners", Box::new(|_, n| blocks::stars(n))),

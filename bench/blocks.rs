@@ -1,6 +1,6 @@
 //! The blocks of the benchmark. Each is made for a number of entries of its index list, or of corners where it has none.
 
-use crate::format::{EXTRUSION, FACES, GRID, LINES, QUADS, STRIPS, TRIANGLES, flag};
+use crate::format::{EXTRUSION, FACES, FANS, GRID, LINES, QUADS, STRIPS, TRIANGLES, flag};
 use crate::maker::{Maker, Taste};
 use crate::outlines::{self, Outline};
 use crate::shape::Shape;
@@ -90,6 +90,17 @@ pub fn strip(maker: &mut Maker, corners: usize) -> Shape {
     let points: Vec<f32> = (0..entries).flat_map(|k| [(k / 2) as f32, heights[k], (k % 2) as f32]).collect();
     let mut shape = faces(CREASE, &points, &(0..entries as i32).collect::<Vec<_>>());
     shape.kind = STRIPS;
+    shape
+}
+
+/// One fan of a ring of heights round its first point, of no more than so many corners.
+pub fn fan(maker: &mut Maker, corners: usize) -> Shape {
+    let entries = corners / 3 + 2;
+    let heights = maker.values(entries, Taste::Real);
+    let ring = outlines::circle(entries);
+    let points: Vec<f32> = (0..entries).flat_map(|k| [ring[k][0], heights[k], ring[k][1]]).collect();
+    let mut shape = faces(CREASE, &points, &(0..entries as i32).collect::<Vec<_>>());
+    shape.kind = FANS;
     shape
 }
 

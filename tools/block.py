@@ -20,6 +20,7 @@ The text is UTF-8.
 
 A list that is named without values is present and empty. Beyond VRML97's names: 'texture TRUE' asks for texture
 (need_uvs), and one of textureCenter, textureRotation, textureScale, textureTranslation makes the transform present.
+X3D's four sets have no creaseAngle; here it stands in them too.
 
 Commas count as spaces, as in VRML97. But a number with a fraction is written with a point: '0,5' alone between
 spaces is an error where fractions may stand, unless its comma parts two entries, as in '0 0 0,1 0 0'.

@@ -238,7 +238,7 @@ impl Maker {
         list
     }
 
-    /// Colours, normals and texture points of a face set, line set or grid. `ask` is how many values a list by
+    /// Colours, normals and texture points of a set or grid. `ask` is how many values a list by
     /// vertex and one by face would have, `places` the length of coordIndex.
     pub fn attributes(&mut self, shape: &mut Shape, ask: [usize; 2], places: usize, faces: usize) {
         for (k, present, by_vertex) in [

@@ -20,7 +20,7 @@ use Rattle.block.specs.declared.header.Header.{Header}
 use Rattle.block.specs.Lists.{placeOf}
 use Rattle.block.specs.Value.{countOf, value2At, value3At, value4At}
 
--- FORMAT 2.4: only face and line sets have index lists
+-- FORMAT 2.4: only sets have index lists
 abbrev pub indexBytes : Kind → ℕ → ℕ
 indexBytes kind len = cond (isIndexed kind) len 0
 

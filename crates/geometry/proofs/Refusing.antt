@@ -106,7 +106,7 @@ no-eighth : (b : Bool) → _≡_ {A = ℕ} (cond b 8 0) 0 → b ≡ false
 no-eighth true e = absurd (let z : 8 ≡ 0 = e in omega arith)
 no-eighth false e = refl
 
--- FORMAT 3, 4: a call that none of the eight rows refuses
+-- FORMAT 3, 4: a call that none of the rows refuses
 pub asked-of : (bs : List ℕ) (l : Lending) → refusal bs (lengthsOf l) ≡ 0
     → Asked (headerOf bs .kind) bs (headerOf bs) (settingsOf bs) (l .slices) (length (l .words)) (length (l .floats))
 asked-of bs l e = go (seven.rows bs (headerOf bs)) refl

@@ -1,4 +1,4 @@
--- The root digit by digit: what one digit more makes of a root so far, and what holds after each.
+-- FORMAT 9.2: the root digit by digit: what one digit more makes of a root so far, and what holds after each.
 use Prim.Native.Nat.{ℕ, _+_, _*_, _/_, _^_, _≤_, _<_}
 use mathlib.Core.Path.{_≡_}
 use mathlib.Core.Logic.{_⊎_}

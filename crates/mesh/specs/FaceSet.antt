@@ -58,7 +58,7 @@ coordIn bs = listBytes bs (headerOf bs) 1
 unfoldable pub runsIn : List ℕ → List Run
 runsIn bs = runs (entries (coordIn bs))
 
--- FORMAT 2.2: how many points a face or line set lists
+-- FORMAT 2.2: how many points a set lists
 abbrev pub pointCount : Rest → ℕ
 pointCount R = getD (R .head .counts) 0 0
 
