@@ -10,8 +10,8 @@
 
 enum { SIDE = 46, POINTS = SIDE * SIDE, CORNERS = 4 * (SIDE - 1) * (SIDE - 1), INDICES = CORNERS / 4 * 6 };
 enum { WORKING = 8 * (CORNERS + POINTS) + 8, BLOCK = 68 + 4 * POINTS };
-/* As many roots as a call took when the root was made narrower: one for each of 2,025 faces, 8,100 corners and 6,324 vertices. */
-enum { ROOTS = 16449, ROUNDS = 400 };
+/* As many roots as the call takes: one for each of 2,025 faces and 8,100 corners. */
+enum { ROOTS = 10125, ROUNDS = 400 };
 
 typedef struct {
     float positions[3 * CORNERS], normals[3 * CORNERS], colours[4 * CORNERS], textures[2 * CORNERS], floats[WORKING];

@@ -20,7 +20,8 @@ The text is UTF-8.
 
 A list that is named without values is present and empty. Beyond VRML97's names: 'texture TRUE' asks for texture
 (need_uvs), and one of textureCenter, textureRotation, textureScale, textureTranslation makes the transform present.
-X3D's four sets have no creaseAngle; here it stands in them too.
+X3D's four sets have no creaseAngle; here they have: 0, flat, where it is not given. Their colorPerVertex and
+normalPerVertex may only be TRUE, and a quad that is not convex begins at its inward corner or the one opposite.
 
 Commas count as spaces, as in VRML97. But a number with a fraction is written with a point: '0,5' alone between
 spaces is an error where fractions may stand, unless its comma parts two entries, as in '0 0 0,1 0 0'.
@@ -30,8 +31,8 @@ Warnings, each a line on standard error with the line of the text; the block is 
   - a triangle or quad of an index that is not drawn, or entries left over at its end (FORMAT 6.4);
   - a run, point or quad that is drawn without its colour, normal or texture point (FORMAT 7); a missing colour is the
     one that the caller chooses: sitemesh passes white, a terminal grey;
-  - a shape that draws nothing, a cap that is asked for and not drawn, a list that is not read or is too short.
-  - with --table, an angle above 1024 in size (for an orientation, half of it), whose sine is then 0 and cosine 1 (FORMAT 16).
+  - a shape that draws nothing, a cap that is asked for and not drawn, a list that is not read or is too short;
+  - with --table, an angle above 1024 in size, of an orientation half of it (FORMAT 16).
 Runs, points and values are numbered from 0; an empty run counts and is not warned of. -1 alone ends a run: a value
 below -1 names no point.
 
@@ -263,7 +264,8 @@ class Text:
     def list(self, name, line):
         plain = 'color' if name == 'colorRGBA' else name
         if plain not in LISTS[self.kind]:
-            raise LineFault(line, f'{self.kind} has no field {shown(name)}')
+            hint = ': its list is index' if name == 'coordIndex' and 'index' in LISTS[self.kind] else ''
+            raise LineFault(line, f'{self.kind} has no field {shown(name)}{hint}')
         if plain == 'color' and {'color', 'colorRGBA'} & set(self.fields):
             raise LineFault(line, 'color and colorRGBA: one of the two')
         if name in DIMENSIONS:
@@ -358,12 +360,17 @@ def turned(values, sin_cos):
 
 
 def out_of_reach(text):
-    """The angles that the table does not reach (FORMAT 16), by line."""
-    angles = [(name, text.fields.get(name, DEFAULTS[name])[0]) for name in ('creaseAngle', 'textureRotation')]
+    """The angles that the table does not reach (FORMAT 16), by line; the cosine of a crease angle from half a turn on is not read."""
+    found = []
+    turn = text.fields.get('textureRotation', DEFAULTS['textureRotation'])[0]
+    if abs(turn) > 1024:
+        found.append((text.line_number('textureRotation'), f'textureRotation {turn:g} is beyond the table, which ends at 1024'))
     if 'orientation' in LISTS[text.kind]:
-        angles += [('orientation', f32(angle * 0.5)) for angle in text.values('orientation')[3::4]]
-    return [(text.line_number(name), f'{name}: the table has no angle above 1024, so the sine is 0 and the cosine 1')
-            for name, angle in angles if abs(angle) > 1024]
+        lines = text.entry_lines.get('orientation', [])
+        for k, angle in enumerate(text.values('orientation')[3::4]):
+            if abs(f32(angle * 0.5)) > 1024:
+                found.append((lines[4 * k + 3], f'half of the angle {angle:g} is beyond the table, which ends at 1024'))
+    return [(line, f'{what}: the sine is written as 0 and the cosine as 1') for line, what in found]
 
 
 def list_bytes(text, name, sin_cos):

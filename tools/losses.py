@@ -245,18 +245,21 @@ def primitives_losses(text):
         if stretch.rest:
             more = ' or more' * (name in ('fan', 'strip'))
             has = f'a {name} has {width} entries{more}, and it has {len(stretch.rest)}'
-            yield stretch.line, f'{stretch.name} is not drawn: {has}{run_below(stretch, stretch.rest)}'
+            yield stretch.line, f'{stretch.name} is not drawn: {has}{entry_hint(text, stretch, stretch.rest)}'
         yield from parts_lost(text, stretch)
     if not found:
-        yield text.line_number('index'), 'nothing is drawn: index has no entries'
+        yield text.line_number('index'), f"nothing is drawn: index has no {'entries' if not text.values('index') else 'run'}"
     for attribute in ATTRIBUTES:
         for stretch in found:
             yield from values_lost(text, attribute, stretch)
 
 
-def run_below(stretch, entries):
-    """The same of a fan or a strip, which is a run; a triangle or quad set has none."""
-    return below(entries) if stretch.name.startswith('run ') else ''
+def entry_hint(text, stretch, entries):
+    """What to say of an entry that may have been meant to end something: a fan or a strip is a run, the others have none."""
+    if stretch.name.startswith('run '):
+        return below(entries)
+    threes = 'fours' if text.kind == 'IndexedQuadSet' else 'threes'
+    return f'; nothing parts entries here: they go in {threes}' if -1 in entries else ''
 
 
 def parts_lost(text, stretch):
@@ -267,7 +270,7 @@ def parts_lost(text, stretch):
         names = f"{', '.join(map(str, bad[:4]))}{' ..' * (len(bad) > 4)} name{'s' * (len(bad) == 1)} no point"
         some = '' if len(lost) == len(stretch.parts) else f'{len(lost)} of the {len(stretch.parts)} triangles of '
         verb = 'are' if some and len(lost) > 1 else 'is'
-        where = f"({listed('point', text.count('point'))}){run_below(stretch, bad)}"
+        where = f"({listed('point', text.count('point'))}){entry_hint(text, stretch, bad)}"
         yield stretch.line, f'{some}{stretch.name} {verb} not drawn: {names} {where}'
 
 

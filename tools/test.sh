@@ -225,7 +225,7 @@ sines=$(printf '3f000000\n3e800000\n447a0000\n' | python3 tools/sine.py)
 tally 'block.py --table' $?
 sed -i 's/2000$/3000/' "$work/turned.txt"
 python3 tools/block.py --table "$work/turned.txt" "$work/made.block" 2> "$work/said" &&
-    grep -q 'turned.txt: line 5: warning: orientation: the table has no angle above 1024' "$work/said" &&
+    grep -q 'turned.txt: line 5: warning: half of the angle 3000 is beyond the table' "$work/said" &&
     python3 tools/block.py --strict "$work/turned.txt" "$work/made.block"
 tally 'block.py --table, an angle out of reach' $?
 
@@ -272,7 +272,7 @@ warned "${lines}coordIndex 0 1 -1\n0 3 2 -1\n" 4 'run 1 is not drawn: 3 names no
 warned "${lines}coordIndex 0 1 -1\n -1 2\n" 4 'run 2 is not drawn: a line has 2'
 primitives='point 0 0 0, 1 0 0\n  1 1 0, 0 1 0\n'
 warned "shape IndexedTriangleSet\n${primitives}index 0 1 2\n 0 2 4 0 2 3\n" 5 'triangle 1 is not drawn: 4 names no point (there are 4'
-warned "shape IndexedTriangleSet\n${primitives}index 0 1 2\n -1 0 2\n" 5 'triangle 1 is not drawn: -1 names no point'
+warned "shape IndexedTriangleSet\n${primitives}index 0 1 2\n -1 0 2\n" 5 'triangle 1 is not drawn: -1 names no point .*; nothing parts entries here: they go in threes$'
 warned "shape IndexedTriangleSet\n${primitives}index 0 1 2\n 3 0\n" 5 'the last triangle is not drawn: a triangle has 3 entries, and it has 2'
 warned "shape IndexedQuadSet\n${primitives}index 0 1 2 3\n 0 1 2\n" 5 'the last quad is not drawn: a quad has 4 entries, and it has 3'
 warned "shape IndexedTriangleFanSet\n${primitives}index 0 1 2 -1\n 9 1 2 3\n" 5 'run 1 is not drawn: 9 names no point'
@@ -281,6 +281,8 @@ warned "shape IndexedTriangleStripSet\n${primitives}index 0 1 2 -1 -1\n 0 1 3 2 
 warned "shape IndexedTriangleStripSet\n${primitives}index 0 1 3 2 -7\n" 4 '1 of the 3 triangles of run 0 is not drawn: -7 names no point .*; only -1 ends a run$'
 warned "shape IndexedTriangleFanSet\n${primitives}index 0 1 2 -1\n-2 0\n" 5 'run 1 is not drawn: a fan .* it has 2; only -1 ends a run$'
 warned "shape IndexedTriangleSet\n${primitives}index 0 1 2\n 0 1 -7\n" 5 'triangle 1 is not drawn: -7 names no point (there are 4, numbered from 0)$'
+faulty "shape IndexedQuadSet\n${primitives}coordIndex 0 1 2 3\n" 4 'IndexedQuadSet has no field coordIndex: its list is index'
+warned "shape IndexedTriangleFanSet\n${primitives}index -1 -1\n" 4 'nothing is drawn: index has no run'
 warned "shape IndexedTriangleStripSet\n${primitives}" 1 'nothing is drawn: index has no entries'
 silent 'a strip, a fan and empty runs' "shape IndexedTriangleStripSet\n${primitives}index -1 0 1 3 2 -1 -1 0 1 2\n" 156
 silent 'empty runs' "${faces}coordIndex -1 -1 0 1 2 -1 -1 0 2 3 -1 -1\n" 164
