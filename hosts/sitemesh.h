@@ -12,7 +12,7 @@
  *   changes that for the whole program, and so did, with gcc 12.2, a shared library linked with it. Then the mesh
  *   may be another: a duct whose cross-section is (0, 0), (1, 0), (1, 1), (0, 1), (1e-40, 0) lost two of its fourteen
  *   triangles. A host that cannot be sure puts _mm_setcsr(0x1f80) before the call and its own mode back after it.
- * - Stack. Some 3.5 KiB: 3,576 bytes were the most in 1.3 million fuzzed calls, arguments included, and there is no
+ * - Stack. Some 3.7 KiB: 3,720 bytes were the most in 1.3 million fuzzed calls, arguments included, and there is no
  *   recursion. Leave 8 KiB, which is all that the fuzzing gives a call (compare/README.md).
  *
  * There is no state outside the arguments, so threads may call at the same time, each with slices of its own; they may
