@@ -37,7 +37,7 @@ fn flag(block: &[u8], at: u32) -> bool
 }
 
 // Edition, kind and thirteen single bits stand before the counts.
-const COUNTS_AT: u32 = 4 + 3 + 13;
+pub const COUNTS_AT: u32 = 4 + 3 + 13;
 
 // Count `k`, of `width` bits each.
 fn count_at(block: &[u8], width: u32, k: u32) -> u32

@@ -20,6 +20,7 @@ pub use edition::LIMIT;
 pub use edition::edition_in;
 pub use edition::edition_of;
 pub use edition::limit_of;
+pub use header::COUNTS_AT;
 pub use header::Header;
 pub use header::read_header;
 pub use kind::Kind;

@@ -2,6 +2,7 @@
 mod blocks;
 mod full;
 
+use block::LIMIT;
 use blocks::face;
 use blocks::primitives;
 use blocks::triangles;
@@ -52,30 +53,35 @@ const QUADS: u32 = 0x1f30_0000;
 
 const COLOURS_BY_FACE: u32 = 0x1d10_0000;
 
+// The most entries that a list has, and that a strip has, whose triangles have three corners each (FORMAT 3, 4 and 7).
+const MOST: u16 = LIMIT as u16;
+
+const STRIP: u16 = MOST / 3 + 2;
+
 fn tell_primitives() {
     tell(
-        b"a strip of 2732 entries passes:",
-        primitives(STRIPS, 2732),
-        seen(0, 8190, 0, 1, 2),
+        b"the longest strip passes:",
+        primitives(STRIPS, STRIP),
+        seen(0, LIMIT / 3 * 3, 0, 1, 2),
     );
     tell(
-        b"a strip of 2733 entries is refused:",
-        primitives(STRIPS, 2733),
+        b"a strip of one entry more is refused:",
+        primitives(STRIPS, STRIP + 1),
         seen(7, 0, 0, 0, 0),
     );
     tell(
-        b"8192 entries of triangles pass:",
-        primitives(TRIANGLES, 8192),
-        seen(0, 8190, 0, 1, 2),
+        b"triangles of the most entries pass:",
+        primitives(TRIANGLES, MOST),
+        seen(0, LIMIT / 3 * 3, 0, 1, 2),
     );
     tell(
-        b"8192 entries of quads pass:",
-        primitives(QUADS, 8192),
-        seen(0, 12288, 0, 1, 2),
+        b"quads of the most entries pass:",
+        primitives(QUADS, MOST),
+        seen(0, LIMIT / 4 * 6, 0, 1, 2),
     );
     tell(
         b"9 comes before 7:",
-        primitives(COLOURS_BY_FACE, 2733),
+        primitives(COLOURS_BY_FACE, STRIP + 1),
         seen(9, 0, 0, 0, 0),
     );
 }
@@ -92,13 +98,13 @@ fn main() {
         seen(0, 0, 0, 0, 0),
     );
     tell(
-        b"8192 entries pass:",
-        triangles(8192, 3),
-        seen(0, 6144, 0, 1, 2),
+        b"the most entries pass:",
+        triangles(MOST, 3),
+        seen(0, LIMIT / 4 * 3, 0, 1, 2),
     );
     tell(
-        b"8193 entries are refused:",
-        triangles(8193, 3),
+        b"one entry more is refused:",
+        triangles(MOST + 1, 3),
         seen(4, 0, 0, 0, 0),
     );
     tell(

@@ -10,10 +10,10 @@ use Rattle.limits.proofs.blocks.put_word.Reads as put-word-reads
 use Rattle.math.proofs.bits_of.Reads as bits-of-reads
 
 abbrev Inv-loop : tie.InvT-loop
-Inv-loop block₀ n i₀ block i = (length block ≡ length block₀) × (i ≤ n)
+Inv-loop block₀ from n i₀ block i = (length block ≡ length block₀) × (i ≤ n)
 
 abbrev μ-loop : tie.MeasureT-loop
-μ-loop block₀ n i₀ block i = n - i
+μ-loop block₀ from n i₀ block i = n - i
 
 loop-holds : tie.Need-loop-holds Inv-loop μ-loop
 loop-holds c = search needs
