@@ -1,4 +1,3 @@
 -- The laws that other crates cite.
 pub mod Fields
 pub mod Entries
-pub mod Parts

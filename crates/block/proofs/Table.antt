@@ -1,7 +1,7 @@
 -- The table of refusals: which number the conditions give, what a block has that is not refused, and how the table goes on. Assumes nothing.
-use Prim.Native.Nat.{ℕ, zero, suc, _+_, _*_, _≤_, _<_}
+use Prim.Native.Nat.{ℕ, suc, _*_, _≤_, _<_}
 use mathlib.Core.Path.{_≡_, refl, ap, sym, _∙_, subst}
-use mathlib.Core.Bool.{Bool, true, false, not, _||_, _&&_, cond, true≢false}
+use mathlib.Core.Bool.{Bool, true, false, not, _&&_, cond, true≢false}
 use mathlib.Core.List.{List, [], _∷_, _++_}
 use native.Mathlib.Omega.{arith}
 use lib.Dec.{T, ltb, eqb}
@@ -108,11 +108,6 @@ none-of (r ∷ rs) a e = go (r .holds) refl (λ z. none-of rs (a .1) z) e
     go : (b : Bool) → r .holds ≡ b → (firstOf rs ≡ 0 → NoneOf rs) → cond b (numberOf (r .answer)) (firstOf rs) ≡ 0 → (r .holds ≡ false) × NoneOf rs
     go true q k z = absurd (a .0 z)
     go false q k z = (q, k z)
-
-pub or-none : (a b : Bool) → (a || b) ≡ false → (a ≡ false) × (b ≡ false)
-or-none false false e = (refl, refl)
-or-none false true e = absurd (true≢false e)
-or-none true b e = absurd (true≢false e)
 
 -- what lies past the eight counts reads as 0
 counts-within : (limit : ℕ) (ns : List ℕ) → allBelow (suc limit) ns ≡ true → (k : ℕ) → getD ns k 0 ≤ limit

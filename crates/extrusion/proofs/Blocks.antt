@@ -2,7 +2,7 @@
 use mathlib.Core.Path.{_≡_, refl, sym, ap, _∙_}
 use mathlib.Core.Bool.{false}
 use mathlib.Core.List.{List}
-use Prim.Native.Nat.{ℕ, _+_, _*_, _^_, _≤_, _<_}
+use Prim.Native.Nat.{ℕ, _*_, _^_, _≤_, _<_}
 use native.Mathlib.Omega.{arith}
 use borrow.Author.Tests.{ltb-false}
 use lib.Dec.{ltb}
@@ -14,7 +14,6 @@ use Rattle.block.specs.Settings.{settingsOf}
 use Rattle.block.specs.Refusal.{Taken}
 use Rattle.block.specs.Lists.{extrusionWidths, listBytes}
 use Rattle.block.proofs.EditionLaws.{count-narrow}
-use Rattle.block.proofs.Table.{or-none}
 use Rattle.block.proofs.ListLaws.{widths-of, size-by, list-length}
 use Rattle.lists.specs.Loops.{tab}
 use Rattle.lists.proofs.Tabs.{tab-same}
@@ -23,13 +22,10 @@ use Rattle.mesh.specs.Extrusion.{spineCount, sectionCount, threes, twos, turnIn
 use Rattle.mesh.specs.Sizes.{extrusionSizes, isNoExtrusion, isNoShape}
 use Rattle.mesh.proofs.Sizes.{extrusion-points}
 use Rattle.lists.specs.Parts.{spliced}
-use native.Mathlib.Nat.{mul-left-comm}
+use Rattle.lists.proofs.Tests.{or-none}
 use Rattle.extrusion.specs.Given.{scaleCount, turnCount, Given}
 use Rattle.extrusion.specs.Rows.{rowBy, rowsBy}
 use Rattle.extrusion.proofs.Values.{count2, count3}
-
-pub rows-room : (n m a b k len : ℕ) → n ≡ a → m ≡ b → k + 3 * (a * b) ≤ len → k + n * (3 * m) ≤ len
-rows-room n m a b k len en em h = rw (en, em, mul-left-comm a 3 b) h
 
 module _ {bs : List ℕ} {h : Header} (G : Given bs h) where
   list-size : (k : ℕ) → length (listBytes bs h k) ≡ 4 * (getD extrusionWidths k 0 * getD (h .counts) k 0)

@@ -1,22 +1,20 @@
 -- FORMAT 4, 8.4: the listed faces have as many corners as C says, three or more each, and each corner names one of P points.
 use mathlib.Core.Path.{_≡_, refl, ap, _∙_}
 use mathlib.Core.Bool.{Bool, true, false}
-use mathlib.Core.List.{List, []}
+use mathlib.Core.List.{List}
 use Prim.Native.Nat.{ℕ, _+_, _*_, _≤_, _<_}
 use native.Mathlib.Omega.{arith}
-use lib.ListN.{length, getD, length-map}
+use lib.ListN.{length, length-map}
 use Rattle.block.specs.declared.header.Header.{Header}
 use Rattle.block.specs.Header.{headerOf}
 use Rattle.lists.specs.Lists.{total}
 use Rattle.mesh.specs.Extrusion.{spineCount, sectionCount, sectionOf, capLength, hasCap}
 use Rattle.mesh.specs.Sizes.{one, sideCount, capCount, extrusionSizes}
-use Rattle.lists.proofs.Lists.{All-getD}
 use Rattle.lists.proofs.Totals.{total-mapN}
-use Rattle.tables.specs.Listed.{Use, Listing, noUse, usesAt}
+use Rattle.tables.specs.Listed.{Listing, usesAt}
 use Rattle.extrusion.specs.Listings.{facePoints, useOf, extrusionListings}
 use Rattle.extrusion.proofs.Counting.{corners-count, three-there, face-full}
-use Rattle.extrusion.proofs.Inside.{Below, faces-below}
-use Rattle.extrusion.proofs.Tabled.{listings-length, uses-length, use-at}
+use Rattle.extrusion.proofs.Tabled.{listings-length, uses-length}
 
 listed-total : (n m cap : ℕ) (b e : Bool) → total (λ (l : Listing). length (l .uses)) (extrusionListings n m cap b e) ≡ total length (facePoints n m cap b e)
 unfolding extrusionListings
@@ -35,13 +33,6 @@ module _ (n m cap : ℕ) (b e : Bool) (j : ℕ) (l : j < length (extrusionListin
   listed-full h =
       let k : j < length (facePoints n m cap b e) = rw (listings-length n m cap b e) at l in
       rw (uses-length n m cap b e j k) (face-full n m cap b e h j k)
-
-  pub listed-within : 2 ≤ n → cap ≤ m → (i : ℕ) → i < length (usesAt (extrusionListings n m cap b e) j) → getD (usesAt (extrusionListings n m cap b e) j) i noUse .point < n * m
-  listed-within hn hc i h =
-      let k : j < length (facePoints n m cap b e) = rw (listings-length n m cap b e) at l in
-      let q : i < length (getD (facePoints n m cap b e) j []) = rw (uses-length n m cap b e j k) at h in
-      rw (ap (λ (u : Use). u .point) (use-at n m cap b e j i k h))
-      (All-getD (λ (p : ℕ). p < n * m) (getD (facePoints n m cap b e) j []) (All-getD (Below n m cap b e hn hc) (facePoints n m cap b e) (faces-below n m cap b e hn hc) [] j k) 0 i q)
 
 -- FORMAT 4: a third of the corners is room for the faces
 pub faces-third : (h : Header) (cap : ℕ) → (sideCount h + capCount h cap) * 3 ≤ 4 * sideCount h + capCount h cap * cap

@@ -6,10 +6,8 @@ use Prim.Native.Nat.{ℕ, _+_, _-_, _≤_, _<_}
 use native.Mathlib.Numerals.{add-one}
 use borrow.Author.Tests.{lt-ltb, le-ltb}
 use lib.ListN.{length}
-use lib.Ieee.{Float, binary32, sub, lt, eq, ofBits}
-use lib.Ieee.Scale.{finite}
-use Rattle.math.specs.Vector.{zeroF}
-use Rattle.math.specs.Order.{minOf, maxOf}
+use lib.Ieee.{Float, binary32, sub, eq}
+use Rattle.math.specs.Order.{maxOf}
 use Rattle.block.specs.declared.header.Header.{Header}
 use Rattle.block.specs.declared.texture.Pair.{Pair}
 use Rattle.block.specs.Lists.{listBytes}
@@ -26,12 +24,6 @@ closes-long l m p q em h ep eq' = rw (ep, eq', ← em, lt-ltb 2 m h) refl
 pub closes-short : (l : List Pair) (m : ℕ) → m ≡ length l → m ≤ 2 → false ≡ closes l
 unfolding closes
 closes-short l m em h = rw (← em, le-ltb 2 m h) refl
-
-pub and-yes : (a b : Bool) → a ≡ true → b ≡ (a && b)
-and-yes a b e = rw e refl
-
-pub and-no : (a b : Bool) → a ≡ false → false ≡ (a && b)
-and-no a b e = rw e refl
 
 -- the cross-section by its bytes
 module _ (bs : List ℕ) (h : Header) (b : List ℕ) (m : ℕ) (eb : b ≡ listBytes bs h 1) (em : m ≡ sectionCount h) where
@@ -51,10 +43,6 @@ module _ (bs : List ℕ) (h : Header) (b : List ℕ) (m : ℕ) (eb : b ≡ listB
       go : (l : List Pair) → m ≡ length l → t ≡ closes l → m ≡ capLength l
       go l el et = unfold capLength in rw (← et, e, ← el) refl
 
-pub widened-is : (s : Span) (v low high : Float) → low ≡ minOf (s .low) v → high ≡ maxOf (s .high) v → _≡_ {A = Span} (record { low = low; high = high }) (widened s v)
-unfolding widened
-widened-is s v low high el eh = rw (el, eh) refl
-
 pub span-none : (s : Span) (f g : ℕ → Float) → s ≡ spanOf f 0 → s ≡ spanOf g 0
 unfolding spanOf
 span-none s f g e = e
@@ -62,18 +50,6 @@ span-none s f g e = e
 pub span-more : (f : ℕ → Float) (j : ℕ) (s r : Span) (v : Float) → s ≡ spanOf f j → v ≡ f j → r ≡ widened s v → r ≡ spanOf f (j + 1)
 unfolding spanOf
 span-more f j s r v es ev er = rw (er, es, ev, add-one) refl
-
-pub divisor-yes : (s : Float) (p : Bool) → lt zeroF s ≡ true → p ≡ finite s → p ≡ true → s ≡ divisor s
-unfolding divisor
-divisor-yes s p h e t = rw (h, ← e, t) refl
-
-pub divisor-not : (s : Float) (p : Bool) → lt zeroF s ≡ true → p ≡ finite s → p ≡ false → ofBits binary32 0x3f80_0000 ≡ divisor s
-unfolding divisor
-divisor-not s p h e t = rw (h, ← e, t) refl
-
-pub divisor-none : (s : Float) → lt zeroF s ≡ false → ofBits binary32 0x3f80_0000 ≡ divisor s
-unfolding divisor
-divisor-none s h = rw h refl
 
 -- the coordinates of a cross-section
 abbrev pub sOf : List Pair → ℕ → Float

@@ -3,12 +3,11 @@ use mathlib.Core.Path.{_≡_, refl, sym, ap, _∙_}
 use mathlib.Core.Bool.{Bool, true, false}
 use mathlib.Core.List.{List, [], _++_, append-assoc, append-nil, reverse}
 use Prim.Native.Nat.{ℕ, suc, _+_, _-_, _*_, _≤_, _<_}
-use native.Mathlib.Nat.{suc-mul, mul-le-mul-left, mul-le-mul-right}
+use native.Mathlib.Nat.{suc-mul, mul-le-mul-right}
 use native.Mathlib.Omega.{arith}
 use lib.Dec.{leb}
 use lib.ListN.{length, set, length-append}
 use Rattle.lists.specs.Loops.{tab}
-use Rattle.lists.proofs.Tabs.{length-tab}
 use Rattle.lists.specs.Lists.{flat}
 use Rattle.mesh.specs.Quads.{tabs, quad}
 use Rattle.mesh.specs.Extrusion.{hasCap}
@@ -43,15 +42,6 @@ rows-most n m i h l =
     let p : suc (suc i) * m ≤ n * m = mul-le-mul-right m (omega arith) in
     omega (arith, suc-mul (suc i) m, suc-mul i m)
 
-pub last-row : (n m : ℕ) → 2 ≤ n → n * m ≡ (n - 1) * m + m
-last-row n m h = let e : n ≡ suc (n - 1) = omega arith in ap (λ (k : ℕ). k * m) e ∙ suc-mul (n - 1) m
-
-pub row-least : (i m : ℕ) → 1 ≤ m → i ≤ i * m
-row-least i m h = let e : i * 1 ≤ i * m = mul-le-mul-left i h in omega arith
-
-pub section-least : (n m : ℕ) → 2 ≤ n → m ≤ n * m
-section-least n m h = let e : 1 * m ≤ n * m = mul-le-mul-right m (omega arith) in omega arith
-
 -- ---- caps
 
 pub cap-yes : (w : Bool) (cap : ℕ) (r : Bool) → w ≡ true → r ≡ leb 3 cap → r ≡ hasCap w cap
@@ -76,9 +66,6 @@ module _ (w : Bool) (cap : ℕ) (t : Bool) (e : t ≡ hasCap w cap) where
   pub end-no : (p : ℕ) → t ≡ false → flat (endPoints w p cap) ≡ []
   unfolding endPoints flat
   end-no p f = rw (← e, f) refl
-
-pub length-by : (p : List ℕ) (f : ℕ → ℕ) (n : ℕ) → p ≡ tab f n 0 → length p ≡ n
-length-by p f n e = ap length e ∙ length-tab f n 0
 
 -- ---- all faces
 

@@ -16,13 +16,13 @@ use Rattle.lists.specs.Parts.{seg, spliced, Kept, TableOf}
 use Rattle.tables.specs.Soups.{pointIn, placeIn, startIn, numberIn}
 use Rattle.tables.specs.Listed.{Use, Listing, noUse, noListing, usesAt, Beside, Listed}
 use Rattle.lists.proofs.Keep.{kept-then, kept-seg, seg-at, table-kept}
+use Rattle.lists.proofs.Numbers.{rows-least}
 use Rattle.extrusion.specs.Listings.{facePoints, useOf, extrusionListings, startAt, Planned}
 use Rattle.lists.proofs.Splices.{put-kept, put-seg, put-table}
 use Rattle.lists.specs.Loops.{tab}
 use Rattle.lists.proofs.Tabs.{length-tab}
 use Rattle.lists.proofs.Totals.{flat-place}
 use Rattle.tables.proofs.Besides.{beside-then, beside-corners, beside-starts, beside-places, beside-numbers}
-use Rattle.extrusion.proofs.Sides.{section-least}
 use Rattle.extrusion.proofs.Counting.{face-size, faces-count, flat-count, starts-are, starts-last, start-none, start-suc, start-rises}
 use Rattle.extrusion.proofs.Inside.{point-below}
 
@@ -197,7 +197,7 @@ module _ {h : Header} {cap len : ℕ} {t : Plan} (P : Planned h cap len t) (n m 
   starts-room l r = (
     P .room .many,
     omega (arith, start-planned, P .room .few),
-    omega (arith, spots-planned, P .room .some, cap-planned, section-least n m spine-planned),
+    omega (arith, spots-planned, P .room .some, cap-planned, rows-least n m spine-planned),
     r,
   )
 

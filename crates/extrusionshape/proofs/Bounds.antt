@@ -3,7 +3,6 @@ use mathlib.Core.Path.{_≡_, refl, sym, ap, _∙_, subst}
 use mathlib.Core.Bool.{Bool, true, false}
 use mathlib.Core.List.{List}
 use Prim.Native.Nat.{ℕ, _+_, _-_, _*_, _≤_}
-use native.Mathlib.Nat.{mul-le-mul-left, mul-comm}
 use native.Mathlib.Omega.{arith}
 use Rattle.block.specs.declared.kind.Kind.the-variants.{Extrusion}
 use Rattle.block.specs.declared.header.Header.{Header}
@@ -22,14 +21,8 @@ use Rattle.extrusion.specs.Listings.{Planned}
 use Rattle.extrusion.proofs.Blocks.{given-of}
 use Rattle.extrusion.proofs.Joined.{planned}
 use Rattle.extrusion.proofs.Counted.{faces-third}
+use Rattle.lists.proofs.Numbers.{sum-product}
 use Rattle.extrusionshape.specs.Shape.{Sized, extrusionPlan}
-
--- two sides of 2 or more are no more, added, than multiplied
-sum-product : (n m : ℕ) → 2 ≤ n → 2 ≤ m → m + n ≤ n * m
-sum-product n m hn hm =
-    let a : n * 2 ≤ n * m = mul-le-mul-left n hm in
-    let b : m * 2 ≤ m * n = mul-le-mul-left m hn in
-    omega (arith, mul-comm n m)
 
 -- ---- the code's numbers
 

@@ -4,11 +4,10 @@ use mathlib.Core.Bool.{Bool, true, false, cond}
 use mathlib.Core.List.{List}
 use Prim.Native.Nat.{ℕ, _+_, _*_, _≤_}
 use native.Mathlib.Omega.{arith}
-use lib.ListN.{length, take}
+use lib.ListN.{length}
 use lib.Ieee.{Float}
 use Rattle.block.specs.declared.header.Header.{Header}
 use Rattle.lists.specs.Parts.{spliced}
-use Rattle.lists.proofs.Splices.{spliced-front}
 use Rattle.mesh.specs.declared.texture.Fit.{Fit}
 use Rattle.mesh.specs.Extrusion.{extrusionOf, extrusionPoints, capFit}
 use Rattle.tables.specs.declared.layout.Plan.{Plan}
@@ -22,10 +21,6 @@ use Rattle.extrusion.specs.Listings.{Planned}
 use Rattle.extrusion.specs.Corners.{Measured, Cornered}
 use Rattle.extrusion.proofs.Blocks.{points-length}
 use Rattle.extrusionshape.specs.Shape.{ArcsAt}
-
--- the parameters are put behind the normals
-pub arcs-behind : (l : List Float) {made : List Float} (a : ℕ) (p : List Float) → made ≡ spliced l a p → a ≤ length l → take a made ≡ take a l
-arcs-behind l a p e h = ap (take a) e ∙ spliced-front l a p h
 
 -- the points as they are put
 pub points-there : {bs : List ℕ} {h : Header} {cap : ℕ} {t : Plan} (w : List ℕ) {w₁ : List ℕ} → Given bs h → Planned h cap (length w) t → w₁ ≡ spliced w (t .points) (extrusionPoints (extrusionOf bs))

@@ -84,7 +84,3 @@ module _ {w : List ℕ} {t : Plan} (S : Sound w t) (ccw convex : Bool) where
       let r = S .rises g (omega arith) in
       let i = few-from k (suc g) (omega arith) in
       omega (arith, a, b, r, i)
-
-  pub all-few : length (allFaces w t ccw convex) ≤ t .count * 3
-  unfolding allFaces
-  all-few = let r = few-from (t .faces) 0 (omega arith) in omega (arith, r)

@@ -1,7 +1,7 @@
 -- One face of the tables: how many indices it has, that it is kept, and what the functions leave. Then the room that is lent.
 use mathlib.Core.Path.{_≡_, refl, sym, ap, ap₂, _∙_}
 use mathlib.Core.Bool.{Bool, true, false}
-use mathlib.Core.List.{List, [], _∷_}
+use mathlib.Core.List.{List}
 use Prim.Native.Nat.{ℕ, suc, _+_, _-_, _*_, _≤_, _<_}
 use native.Mathlib.Omega.{arith}
 use borrow.Author.Tests.{le-leb}
@@ -24,6 +24,7 @@ use Rattle.lists.specs.Parts.{seg, Kept}
 use Rattle.tables.specs.Soups.{startIn, pointsIn, Sound}
 use Rattle.lists.proofs.Keep.{kept-all, kept-seg, length-seg, part-seg}
 use Rattle.tables.proofs.Stays.{start-le, start-kept, points-kept}
+use Rattle.lists.proofs.Lists.{no-elements}
 use Rattle.faces.specs.Naming.{threes, numbered}
 use Rattle.faces.specs.Indices.{outlineIn, facingIn, trianglesIn, cornersMade, oneFace, planeIn, cornersFloats, oneFloats, Ready, Put}
 use Rattle.faces.proofs.Threes.{length-numbered, in-place}
@@ -71,10 +72,6 @@ floats-few : (w : List ℕ) (t : Plan) (ccw convex : Bool) (a n : ℕ) (f : List
 unfolding cornersFloats isFan
 floats-few w t ccw convex a n f h = rw (le-leb n 3 (omega arith))
 
-none : (l : List ℕ) → length l ≡ 0 → l ≡ []
-none [] e = refl
-none (x ∷ l) e = let z : ⊥ = omega arith in absurd z
-
 module _ {w : List ℕ} {t : Plan} (S : Sound w t) (ccw convex : Bool) where
   pub corners-in : (a n : ℕ) → a + n ≤ t .count → t .corners + a + n ≤ length w
   corners-in a n h = let R = S .room in omega arith
@@ -115,7 +112,7 @@ module _ {w : List ℕ} {t : Plan} (S : Sound w t) (ccw convex : Bool) where
         let l : length (oneFace w t ccw convex g) ≡ 0 = length-here ∙ omega arith in
         record {
           next = omega arith;
-          made = ap (sets o at) (sym (none (oneFace w t ccw convex g) l));
+          made = ap (sets o at) (sym (no-elements (oneFace w t ccw convex g) l));
           kept = kept-all;
           floats = sym (floats-are f ∙ floats-few w t ccw convex a (b - a) f few);
         }

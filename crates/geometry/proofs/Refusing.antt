@@ -13,7 +13,7 @@ use Rattle.block.specs.declared.refusal.Refusal.the-variants.{Buffer}
 use Rattle.block.specs.Header.{headerOf}
 use Rattle.block.specs.Settings.{settingsOf}
 use Rattle.block.specs.Refusal.{Row, row, blockRows, firstOf}
-use Rattle.block.proofs.Table.{or-none, first-before, first-after}
+use Rattle.block.proofs.Table.{first-before, first-after}
 use Rattle.mesh.specs.Sizes.{Sizes as Defined, sizesOf, shapeRows}
 use Rattle.tables.specs.Layout.{most}
 use Rattle.lent.specs.Lent.{Accepted, Enough, Asked}
@@ -22,6 +22,7 @@ use Rattle.sizes.specs.declared.kinds.Sizes.{Sizes}
 use Rattle.sizes.specs.Known.{Counted}
 use Rattle.sizes.proofs.Decided as seven
 use Rattle.sizes.proofs.Decided.{all-answered, accepted-of}
+use Rattle.lists.proofs.Tests.{or-none}
 use Rattle.geometry.specs.declared.answer.Lengths.{Lengths}
 use Rattle.geometry.specs.Answer.{isShort, rows, refusal}
 use Rattle.geometry.specs.Converted.{Lending, lengthsOf}

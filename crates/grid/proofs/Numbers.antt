@@ -1,20 +1,16 @@
 -- The numbers of a grid's quads and points.
-use mathlib.Core.Path.{_≡_, refl}
+use mathlib.Core.Path.{_≡_}
 use Prim.Native.Nat.{ℕ, zero, suc, _+_, _-_, _*_, _/_, _%_, _≤_, _<_}
-use native.Mathlib.Nat.{mod-lt, mod-le, div-le-self, div-lt-iff-lt-mul, mul-le-mul, mul-le-mul-left, mul-suc, mul-comm}
+use native.Mathlib.Nat.{mod-lt, mod-le, div-le-self, div-lt-iff-lt-mul, mul-le-mul, mul-comm}
 use native.Mathlib.Omega.{arith}
 use lib.ListN.{getD}
-use Rattle.lists.proofs.Numbers.{cell}
+use Rattle.lists.proofs.Numbers.{cell-turned}
 use Rattle.block.specs.declared.header.Header.{Header}
 use Rattle.mesh.specs.Quads.{quad}
 use Rattle.mesh.specs.Grid.{xDimension, zDimension}
 use Rattle.tables.specs.Layout.{most}
 use Rattle.grid.specs.Sides.{Sides}
 use Rattle.grid.specs.Listings.{quadOf, cornerPoint}
-
--- the point (i, j) is one of the grid's
-inside : (xd zd i j : ℕ) → i < xd → j < zd → i + j * xd < xd * zd
-inside xd zd i j h k = omega (arith, cell i j xd zd h k, mul-comm zd xd)
 
 -- a quad lies within the grid
 module _ (xd zd q : ℕ) (wide : 2 ≤ xd) (h : q < (zd - 1) * (xd - 1)) where
@@ -27,11 +23,11 @@ module _ (xd zd q : ℕ) (wide : 2 ≤ xd) (h : q < (zd - 1) * (xd - 1)) where
   -- each of the four points is below the sides multiplied
   pub quad-below : (k : ℕ) → getD (quadOf (λ p. p) xd q) k 0 < xd * zd
   unfolding quad
-  quad-below zero = inside xd zd _ _ (omega (arith, column)) (omega (arith, row))
-  quad-below (suc zero) = inside xd zd _ _ (omega (arith, column)) row
-  quad-below (suc (suc zero)) = inside xd zd _ _ column row
-  quad-below (suc (suc (suc zero))) = inside xd zd _ _ column (omega (arith, row))
-  quad-below (suc (suc (suc (suc k)))) = omega (arith, inside xd zd _ _ column row)
+  quad-below zero = cell-turned xd zd _ _ (omega (arith, column)) (omega (arith, row))
+  quad-below (suc zero) = cell-turned xd zd _ _ (omega (arith, column)) row
+  quad-below (suc (suc zero)) = cell-turned xd zd _ _ column row
+  quad-below (suc (suc (suc zero))) = cell-turned xd zd _ _ column (omega (arith, row))
+  quad-below (suc (suc (suc (suc k)))) = omega (arith, cell-turned xd zd _ _ column row)
 
 -- a corner's point is one of the grid's
 pub point-below : (xd zd c : ℕ) → 2 ≤ xd → c < 4 * ((zd - 1) * (xd - 1)) → cornerPoint xd c < xd * zd
@@ -50,20 +46,6 @@ quad-fits xd c h = (omega (arith, mod-le (c / 4) (xd - 1)), omega (arith, div-le
 
 pub product-fits : (j xd : ℕ) → j ≤ most → xd ≤ most → j * xd ≤ most * most
 product-fits j xd h l = mul-le-mul h l
-
-pub multiple-below : (by j n b : ℕ) → j < n → by * n ≤ b + by → by * j ≤ b
-multiple-below by j n b h l = let a : by * suc j ≤ by * n = mul-le-mul-left by h in omega (arith, mul-suc by j)
-
--- the fourth corner is what is left
-pub four-left : (c : ℕ) → (c % 4 ≡ 0 → ⊥) → (c % 4 ≡ 1 → ⊥) → (c % 4 ≡ 2 → ⊥) → c % 4 ≡ 3
-four-left c a b d = go (c % 4) (mod-lt c (omega arith)) a b d
-  where
-    go : (k : ℕ) → k < 4 → (k ≡ 0 → ⊥) → (k ≡ 1 → ⊥) → (k ≡ 2 → ⊥) → k ≡ 3
-    go zero l a b d = absurd (a refl)
-    go (suc zero) l a b d = absurd (b refl)
-    go (suc (suc zero)) l a b d = absurd (d refl)
-    go (suc (suc (suc zero))) l a b d = refl
-    go (suc (suc (suc (suc k)))) l a b d = omega arith
 
 -- ---- the column and the row of a point fit 16 bits
 module _ (h : Header) (k xd : ℕ) (S : Sides h) (e : xd ≡ xDimension h) where

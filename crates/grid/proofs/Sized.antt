@@ -1,8 +1,8 @@
 -- What is asked of a grid, its plan and its tables, from a block that was not refused.
-use mathlib.Core.Path.{_≡_, refl}
+use mathlib.Core.Path.{_≡_}
 use mathlib.Core.Bool.{false}
 use mathlib.Core.List.{List}
-use Prim.Native.Nat.{ℕ, _+_, _-_, _*_, _≤_}
+use Prim.Native.Nat.{ℕ, _+_, _*_, _≤_}
 use native.Mathlib.Omega.{arith}
 use borrow.Author.Tests.{ltb-false}
 use lib.Dec.{ltb}
@@ -13,16 +13,15 @@ use Rattle.block.specs.declared.header.Header.{Header}
 use Rattle.block.specs.Header.{headerOf}
 use Rattle.block.specs.Lists.{gridWidths, wordCount, listSize, listBytes}
 use Rattle.block.proofs.EditionLaws.{count-narrow}
-use Rattle.block.proofs.Table.{or-none}
 use Rattle.block.proofs.ListLaws.{widths-of, size-by, list-entries}
 use Rattle.mesh.specs.Grid.{xDimension, zDimension}
-use Rattle.mesh.specs.Sizes.{quadCount, heightCount, isNoGrid}
+use Rattle.mesh.specs.Sizes.{heightCount, isNoGrid}
 use Rattle.tables.specs.declared.layout.Plan.{Plan}
-use Rattle.tables.specs.Layout.{most, planOf}
+use Rattle.tables.specs.Layout.{most}
 use Rattle.tables.specs.Soups.{pointIn}
 use Rattle.tables.specs.Listed.{Listing, Listed}
-use Rattle.tables.proofs.Room.{plan-fits}
-use Rattle.grid.specs.Sides.{Sides, Planned}
+use Rattle.lists.proofs.Tests.{or-none}
+use Rattle.grid.specs.Sides.{Sides}
 use Rattle.grid.specs.Textures.{Placed}
 
 pub sides-of : (bs : List ℕ) (h : Header) → h ≡ headerOf bs → 2 ≤ xDimension h → 2 ≤ zDimension h → xDimension h * zDimension h ≤ most → Sides h
@@ -47,19 +46,6 @@ shape-of h e =
     let a = or-none (ltb (xDimension h) 2) _ e in
     let b = or-none (ltb (zDimension h) 2) _ (a .1) in
     (ltb-false _ _ (a .0), ltb-false _ _ (b .0), ltb-false _ _ (b .1))
-
--- FORMAT 4: the plan of a grid, in the words that are lent
-pub planned : (h : Header) (len : ℕ) → Sides h → 4 * quadCount h ≤ most → 8 * (4 * quadCount h + xDimension h * zDimension h) + 8 ≤ len
-    → Planned h len (planOf (xDimension h * zDimension h) (4 * quadCount h) (quadCount h))
-unfolding planOf
-planned h len S c l = record {
-  sides = S;
-  room = plan-fits (xDimension h * zDimension h) (4 * quadCount h) (quadCount h) len (S .few) c (omega arith) l;
-  gathers = refl;
-  spots = refl;
-  count = refl;
-  faces = refl;
-}
 
 -- the corners that are listed name points of the grid
 pub placed : (h : Header) (w : List ℕ) (t : Plan) (ls : List Listing) (textures : ℕ) → Listed w t ls → t .spots ≡ xDimension h * zDimension h → t .corners + t .count ≤ textures

@@ -1,31 +1,24 @@
 -- FORMAT 8.3: the grid's faces are those of its listings.
 use mathlib.Core.Path.{_≡_, refl, sym, ap₂, _∙_}
-use mathlib.Core.Bool.{false}
-use mathlib.Core.List.{List, [], _∷_, map}
+use mathlib.Core.List.{[], _∷_, map}
 use Prim.Native.Nat.{ℕ, _+_, _-_, _*_, _/_, _%_, _≤_, _<_}
 use native.Mathlib.Nat.{mul-comm}
 use native.Mathlib.Omega.{arith}
-use lib.ListN.{length, getD}
+use lib.ListN.{length}
 use Rattle.lists.proofs.Numbers.{column-of, row-of}
 use Rattle.lists.proofs.Tabs.{tab-same, map-tab}
 use Rattle.bits.specs.declared.Words4.{Words4}
 use Rattle.block.specs.declared.header.Header.{Header}
-use Rattle.block.specs.Kind.{isIndexed}
-use Rattle.block.specs.Header.{headerOf}
-use Rattle.block.specs.Settings.{settingsOf}
 use Rattle.mesh.specs.FaceSet.{Rest, cornerBy}
 use Rattle.mesh.specs.Quads.{quad}
-use Rattle.mesh.specs.Grid.{xDimension, zDimension, gridDefault, gridCorner, gridFaces, gridOf}
+use Rattle.mesh.specs.Grid.{xDimension, zDimension, gridDefault, gridCorner, gridFaces}
 use Rattle.lists.specs.Lists.{total}
 use Rattle.mesh.specs.Sizes.{quadCount}
-use Rattle.lists.proofs.Lists.{getD-map-lt}
 use Rattle.lists.proofs.Totals.{total-tab}
 use Rattle.mesh.proofs.Shapes.{grid-listed}
-use Rattle.tables.specs.Listed.{Use, noUse, Listing, facesWith}
-use Rattle.texture.proofs.Streams.{texture-grid}
+use Rattle.tables.specs.Listed.{Listing, facesWith}
 use Rattle.grid.specs.Listings.{quadOf, useOf, gridListing, gridListings, gridUse}
-use Rattle.grid.specs.Textures.{gridTexture}
-use Rattle.grid.proofs.Numbers.{column, quad-below}
+use Rattle.grid.proofs.Numbers.{column}
 
 -- the use of the point (i, j) makes the grid's corner there
 corner-used : (missing : Words4) (G : Rest) (num i j : ℕ) → i < xDimension (G .head) → gridCorner missing G num i j ≡ gridUse missing G num (useOf (i + j * xDimension (G .head)))
@@ -70,15 +63,4 @@ pub listed-corners : (h : Header) → total (λ (l : Listing). length (l .uses))
 unfolding gridListings
 listed-corners h = total-tab (λ (l : Listing). length (l .uses)) (gridListing (xDimension h)) 4 (four-uses (xDimension h)) (quadCount h) 0 ∙ mul-comm (quadCount h) 4
 
--- each use names a point of the grid
-pub listed-below : (xd zd q k : ℕ) → 2 ≤ xd → q < (zd - 1) * (xd - 1) → k < 4 → getD (gridListing xd q .uses) k noUse .point < xd * zd
-unfolding gridListing quad
-listed-below xd zd q k h l m = rw (sym (getD-map-lt (λ (u : Use). u .point) (quadOf useOf xd q) k 0 noUse m)) (quad-below xd zd q h l k)
-
 -- ---- the texture of a use is the one that is written
-pub use-texture : (missing : Words4) (bs : List ℕ) (num p : ℕ) → isIndexed (headerOf bs .kind) ≡ false
-    → gridUse missing (gridOf bs) num (useOf p) .texture ≡ gridTexture bs (headerOf bs) (settingsOf bs) p
-unfolding gridUse cornerBy gridTexture gridOf
-use-texture missing bs num p h =
-    let xd = xDimension (headerOf bs) in
-    sym (texture-grid bs [] num p (gridDefault (headerOf bs) (p % xd) (p / xd)) h)

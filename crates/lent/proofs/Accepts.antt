@@ -10,10 +10,10 @@ use Rattle.block.specs.declared.kind.Kind.{Kind}
 use Rattle.block.specs.declared.settings.Settings.{Settings}
 use Rattle.block.specs.Edition.{limitOf}
 use Rattle.block.proofs.EditionLaws.{limit-low}
-use Rattle.block.proofs.Table.{or-none}
 use Rattle.mesh.specs.Mesh.{Slices}
 use Rattle.mesh.specs.Sizes.{Sizes, sizesOf, isOverCorners}
 use Rattle.tables.specs.Layout.{most}
+use Rattle.lists.proofs.Tests.{or-none}
 use Rattle.lent.specs.Lent.{Accepted, Enough, Asked}
 
 module _ {bs : List ℕ} {h : Header} {s : Settings} (A : Accepted bs h s) where

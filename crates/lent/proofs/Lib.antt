@@ -2,4 +2,3 @@
 pub mod Accepts
 pub mod Points
 pub mod Just
-pub mod Made

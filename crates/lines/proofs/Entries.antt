@@ -14,10 +14,11 @@ use Rattle.mesh.specs.Lines.{these, somes}
 use Rattle.mesh.specs.Sizes.{named}
 use Rattle.lists.proofs.Lists.{All-getD, head-left}
 use Rattle.lists.specs.Parts.{Kept, TableOf}
-use Rattle.lists.proofs.Keep.{kept-all, kept-set, set-miss, table-none, table-more}
+use Rattle.lists.proofs.Keep.{kept-all, kept-set, table-none, table-more}
 use Rattle.corners.specs.declared.laid.CornerTables.{CornerTables}
 use Rattle.corners.specs.Laid.{Laid}
 use Rattle.corners.specs.Corner.{pointAt, placeAt, numberAt}
+use Rattle.lists.proofs.Splices.{table-miss}
 use Rattle.lines.specs.Uses.{LineUse, noUse, useOf, runUses, lineUses, listedAt, listed, Listed}
 use Rattle.lists.specs.Parts.{Added}
 use Rattle.lists.proofs.Lists.{drop-next}
@@ -97,10 +98,6 @@ module _ {p : ℕ} {bs : List ℕ} {t : CornerTables} {w₀ : List ℕ} {num s c
     listing-next A = record { left = left-next (L .left) next-run (listing t) A }
 
 -- ---- the tables
-
--- a store outside a table
-table-miss : {f : ℕ → ℕ} (w : List ℕ) (a n i v : ℕ) → ((j : ℕ) → j < n → a + j ≡ i → ⊥) → TableOf w a n f → TableOf (set w i v) a n f
-table-miss w a n i v h T = record { at = λ j b. set-miss w i v (a + j) (h j b) ∙ T .at j b }
 
 -- corner c in the three tables
 module _ (t : CornerTables) (w : List ℕ) (c : ℕ) (u : LineUse) (Q : Laid t (length w)) (l : c < t .count) where

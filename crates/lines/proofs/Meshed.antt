@@ -1,10 +1,10 @@
 -- FORMAT 5, 8.2: the vertices of all corners and the lines through their numbers are the mesh of the line set.
 use mathlib.Core.Path.{_≡_, refl, sym, ap, _∙_}
-use mathlib.Core.List.{List, [], _++_, map}
+use mathlib.Core.List.{List, [], map}
 use Prim.Native.Nat.{ℕ, _+_, _*_}
 use native.Mathlib.Nat.{add-zero, zero-add}
 use native.Mathlib.Omega.{arith}
-use lib.ListN.{length, getD, drop, length-map}
+use lib.ListN.{length, getD, length-map}
 use Rattle.lists.proofs.Tabs.{length-tab, tab-shift, map-tab, seg-tab}
 use Rattle.bits.specs.Bits.{entries}
 use Rattle.bits.specs.declared.Words4.{Words4}
@@ -16,7 +16,7 @@ use Rattle.mesh.specs.Mesh.{meshOf, slicesOf}
 use Rattle.mesh.specs.FaceSet.{Rest}
 use Rattle.mesh.specs.Lines.{lineKeys, lineVertices, lineIndices, linesOf, lineFrame}
 use Rattle.mesh.specs.Sizes.{named}
-use Rattle.lists.proofs.Lists.{length-words}
+use Rattle.lists.proofs.Lists.{length-words, beyond}
 use Rattle.lists.specs.Parts.{seg}
 use Rattle.vertices.specs.declared.places.Widths.{Widths}
 use Rattle.vertices.specs.Places.{Store}
@@ -31,10 +31,6 @@ use Rattle.lines.specs.Steps.{runPairs, Put}
 use Rattle.lines.specs.Made.{Told, Lined}
 use Rattle.lines.proofs.UseKeys.{keys-count}
 use Rattle.lines.proofs.Indices.{indices-runs}
-
--- a slice that holds what is made, and beyond it what it held
-beyond : (made z : List ℕ) (n : ℕ) {l : List ℕ} → length made ≡ n → l ≡ made ++ drop n z → l ≡ made ++ drop (length made) z
-beyond made z n e h = h ∙ ap (λ (k : ℕ). made ++ drop k z) (sym e)
 
 module _ {missing : Words4} {R : Rest} {L : Lent} {a : Attributes} {widths : Widths} {w : List ℕ} {t : CornerTables} {p : ℕ}
     (T : Told missing R L a widths w t p) where

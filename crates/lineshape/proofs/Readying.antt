@@ -27,10 +27,10 @@ use Rattle.corners.specs.Laid.{Laid}
 use Rattle.corners.specs.Corner.{Lent}
 use Rattle.soups.specs.Attributes.{attributesOf}
 use Rattle.lent.specs.declared.Counts.{Counts}
-use Rattle.lent.proofs.Made.{wide-by, wide-most, wide-few}
 use Rattle.lent.specs.Lent.{Asked, Shaped, Cleared}
 use Rattle.lines.specs.Made.{Told, Ready, Lined, Done}
 use Rattle.lines.proofs.Keyed.{Coloured, told-listed}
+use Rattle.lists.proofs.Numbers.{wide-by, wide-most, wide-few}
 use Rattle.lineshape.specs.Shape.{lineTables, lineWidths, Tabled}
 use Rattle.lineshape.proofs.Tabling.{stand, points-before}
 use Rattle.lineshape.proofs.Bounds.{points-whole, enough, corners-low, laid-at}

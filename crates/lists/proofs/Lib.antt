@@ -12,3 +12,5 @@ pub mod Lists
 pub mod Totals
 pub mod Words
 pub mod Pieces
+pub mod Squares
+pub mod Cuts

@@ -2,17 +2,19 @@
 use mathlib.Core.Path.{_≡_, refl, sym, ap, _∙_, subst}
 use mathlib.Core.Bool.{Bool, true, false, _||_, cond, true≢false}
 use mathlib.Core.List.{List, [], _∷_, _++_, map, append-assoc}
-use Prim.Native.Nat.{ℕ, zero, suc, _+_, _*_, _-_, _≤_, _<_, suc-le-suc}
-use native.Mathlib.Nat.{mul-zero, mul-suc, add-comm, le-of-suc-le-suc, not-suc-le-zero, suc-add, add-suc, add-zero, zero-lt-suc, suc-ne-zero, suc-inj, zero-add, sub-zero, zero-sub, suc-sub-suc}
+use Prim.Native.Nat.{ℕ, zero, suc, _+_, _*_, _-_, _≤_, _<_, suc-le-suc, _%_}
+use native.Mathlib.Nat.{mul-zero, mul-suc, add-comm, le-of-suc-le-suc, not-suc-le-zero, suc-add, add-suc, add-zero, zero-lt-suc, suc-ne-zero, suc-inj, zero-add, sub-zero, zero-sub, suc-sub-suc, eq-or-lt-of-le}
 use native.Mathlib.Numerals.{add-one}
 use native.Mathlib.Omega.{arith}
 use borrow.Author.Tests.{ltb-true, ltb-false}
+use mathlib.Core.Logic.{⊎-elim}
 use lib.Dec.{T, eqb, ltb, eqb→eq, eqb-refl}
 use lib.Ieee.Fits.{and-i, and-l, and-r}
-use lib.ListN.{length, getD, take, drop, length-append, length-map, List·getD-append}
-use lib.Seq.{take-at, drop-append-add, getD-at, take-nil, take-take, drop-drop, drop-cons}
+use lib.ListN.{length, getD, take, drop, length-append, length-map, List·getD-append, length-drop, length-take}
+use lib.Seq.{take-at, drop-append-add, getD-at, take-nil, take-take, drop-drop, drop-cons, drop-at, getD-take, getD-drop}
 use Rattle.lists.specs.Loops.{tab, All}
 use Rattle.lists.specs.Lists.{mapN, joinN, total, has, place, meet, firsts, sameWords, flat}
+use Rattle.lists.proofs.Loops.{on-last, on-more}
 
 -- ---- a fact of each element
 
@@ -356,10 +358,6 @@ module _ {K : Type 0} (same : K → K → Bool) where
   firsts-append vs [] ls = refl
   firsts-append vs (k ∷ ks) ls = firsts-append (meet same vs k) ks ls
 
-  pub firsts-snoc : (vs ks : List K) (k : K) → firsts same vs (ks ++ (k ∷ [])) ≡ meet same (firsts same vs ks) k
-  unfolding firsts
-  firsts-snoc vs ks k = firsts-append vs ks (k ∷ [])
-
   length-meet : (k : K) (vs : List K) → length (meet same vs k) ≤ suc (length vs)
   unfolding has meet
   length-meet k vs = go (has same k vs)
@@ -481,3 +479,86 @@ pub sameWords-self : (a : List ℕ) → T (sameWords a a)
 unfolding sameWords
 sameWords-self [] = tt
 sameWords-self (x ∷ xs) = and-i (eqb x x) (sameWords xs xs) (eqb-refl x) (sameWords-self xs)
+
+-- ---- mapped, cut and joined
+
+pub map-part : {A B : Type 0} (f : A → B) (n k : ℕ) (l : List A) → map f (take n (drop k l)) ≡ take n (drop k (map f l))
+map-part f n k l = fore n (drop k l) ∙ ap (take n) (aft k l)
+  where
+    fore : (n : ℕ) (l : List _) → map f (take n l) ≡ take n (map f l)
+    fore zero l = refl
+    fore (suc n) [] = refl
+    fore (suc n) (x ∷ l) = ap (λ (r : List _). f x ∷ r) (fore n l)
+
+    aft : (k : ℕ) (l : List _) → map f (drop k l) ≡ drop k (map f l)
+    aft zero l = refl
+    aft (suc k) [] = refl
+    aft (suc k) (x ∷ l) = aft k l
+
+pub map-map : {A B C : Type 0} (g : B → C) (f : A → B) (l : List A) → map g (map f l) ≡ map (λ (x : A). g (f x)) l
+map-map g f [] = refl
+map-map g f (x ∷ l) = ap (λ (r : List _). g (f x) ∷ r) (map-map g f l)
+
+pub cond-map : {A B : Type 0} (f : A → B) (c : Bool) (x : A) (l : List A) → map f (cond c (x ∷ l) l) ≡ cond c (f x ∷ map f l) (map f l)
+cond-map f true x l = refl
+cond-map f false x l = refl
+
+pub all-low : (n : ℕ) (us : List ℕ) → All (λ (g : ℕ). g < n) us → (k g : ℕ) → k < length us → g ≡ getD us k 0 → g < n
+all-low n us a k g h e = rw e (All-getD (λ (g : ℕ). g < n) us a 0 k h)
+
+pub no-elements : {A : Type 0} (l : List A) → length l ≡ 0 → l ≡ []
+no-elements [] e = refl
+no-elements (x ∷ l) e = let z : ⊥ = omega arith in absurd z
+
+pub drop-past : {A : Type 0} (p u q : List A) (n k : ℕ) → length p ≡ n → length u ≡ k → drop (n + k) (p ++ (u ++ q)) ≡ q
+drop-past p u q n k e f = ap (λ (i : ℕ). drop (i + k) (p ++ (u ++ q))) (sym e) ∙ drop-append-add p (u ++ q) k ∙ drop-at u q k f
+
+pub drop-filled : {A : Type 0} (z p : List A) (a n : ℕ) → length p ≡ a → drop (a + n) (p ++ drop a z) ≡ drop (a + n) z
+drop-filled z p a n e = sym (drop-drop n a (p ++ drop a z)) ∙ ap (drop n) (drop-at p (drop a z) a e) ∙ drop-drop n a z
+
+pub length-filled : {A : Type 0} (z p : List A) (a : ℕ) → length p ≡ a → a ≤ length z → length (p ++ drop a z) ≡ length z
+length-filled z p a e h = length-append p (drop a z) ∙ omega (arith, length-drop a z)
+
+pub three-at : (m : List ℕ) (a : ℕ) → a + 3 ≤ length m → take 3 (drop a m) ≡ getD m a 0 ∷ getD m (a + 1) 0 ∷ getD m (a + 2) 0 ∷ []
+three-at m a h =
+    let e : a + 1 ≡ suc a = omega arith in
+    let f : a + 2 ≡ suc (suc a) = omega arith in
+    rw (e, f, drop-cons m a 0 (omega arith), drop-cons m (suc a) 0 (omega arith), drop-cons m (suc (suc a)) 0 (omega arith))
+
+pub one-more : {A : Type 0} (x : List A) (c : A) (k : ℕ) → length x ≤ k → length (x ++ (c ∷ [])) ≤ suc k
+one-more x c k h = omega (arith, length-append x (c ∷ []))
+
+pub join-most : {A : Type 0} (x y : List A) {j k : ℕ} → length x ≤ j → length y ≤ k → length (x ++ y) ≤ j + k
+join-most x y {j} {k} p q = omega (arith, length-append x y, p, q)
+
+pub cond-long : {A : Type 0} (b : Bool) (x y : List A) → length x ≡ 3 → length y ≡ 3 → length (cond b x y) ≡ 3
+cond-long true x y e f = e
+cond-long false x y e f = f
+
+pub next-around : (x : ℕ) (r : List ℕ) (j : ℕ) → j < length r → getD (x ∷ r) ((suc j + 1) % suc (length r)) 0 ≡ getD (r ++ (x ∷ [])) (suc j) 0
+next-around x r j b = ⊎-elim at-end inside (eq-or-lt-of-le b)
+  where
+    w : suc j < suc (length r)
+    w = omega arith
+
+    at-end : suc j ≡ length r → getD (x ∷ r) ((suc j + 1) % suc (length r)) 0 ≡ getD (r ++ (x ∷ [])) (suc j) 0
+    at-end e = ap (λ (k : ℕ). getD (x ∷ r) k 0) (sym (on-last (suc (length r)) (suc j) w (omega arith))) ∙ sym (getD-at r x [] 0 (suc j) (sym e))
+
+    inside : suc j < length r → getD (x ∷ r) ((suc j + 1) % suc (length r)) 0 ≡ getD (r ++ (x ∷ [])) (suc j) 0
+    inside q =
+        let n : suc j + 1 ≡ suc (suc j) = omega arith in
+        ap (λ (k : ℕ). getD (x ∷ r) k 0) (sym (on-more (suc (length r)) (suc j) w (λ (z : suc j + 1 ≡ suc (length r)). omega arith)) ∙ n) ∙ sym (List·getD-append r (x ∷ []) 0 (suc j) q)
+
+-- a slice that holds what is made, and beyond it what it held
+pub beyond : {A : Type 0} (made z : List A) (n : ℕ) {l : List A} → length made ≡ n → l ≡ made ++ drop n z → l ≡ made ++ drop (length made) z
+beyond made z n e h = h ∙ ap (λ (k : ℕ). made ++ drop k z) (sym e)
+
+-- what stands in a back, and in a part, stands in the whole
+pub in-drop : {A : Type 0} (d : A) (l : List A) (s i : ℕ) → i < length (drop s l) → (s + i < length l) × (getD l (s + i) d ≡ getD (drop s l) i d)
+in-drop d l s i h = (omega (arith, length-drop s l), sym (getD-drop s l i d))
+
+pub in-part : {A : Type 0} (d : A) (l : List A) (s m i : ℕ) → i < length (take m (drop s l)) → (s + i < length l) × (getD l (s + i) d ≡ getD (take m (drop s l)) i d)
+in-part d l s m i h =
+    let b = length-take m (drop s l) in
+    let q = in-drop d l s i (omega arith) in
+    (q .0, q .1 ∙ sym (getD-take m (drop s l) i d (omega arith)))

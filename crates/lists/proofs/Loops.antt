@@ -3,12 +3,14 @@ use mathlib.Core.Path.{_≡_, sym, ap, _∙_}
 use mathlib.Core.Bool.{Bool, true, false}
 use mathlib.Core.List.{List}
 use Prim.Native.Nat.{ℕ, suc, _+_, _-_, _%_, _≤_, _<_}
-use native.Mathlib.Nat.{mod-eq-of-lt, add-mod-right, mod-self}
+use native.Mathlib.Nat.{mod-eq-of-lt, add-mod-right, mod-self, eq-or-lt-of-le}
 use native.Mathlib.Numerals.{add-one}
 use native.Mathlib.Omega.{arith}
-use lib.ListN.{set}
-use lib.Seq.{sets}
+use mathlib.Core.Logic.{⊎-elim}
+use lib.ListN.{set, length, getD}
+use lib.Seq.{sets, getD-set-same, getD-set-other}
 use Rattle.lists.specs.Loops.{pick, tab, run, first}
+use Rattle.lists.specs.Parts.{Full}
 
 left-suc : (n i : ℕ) → i < n → n - i ≡ suc (n - (i + 1))
 left-suc n i h = omega arith
@@ -72,3 +74,15 @@ module _ (m i : ℕ) (h : i < m) where
 
   pub on-more : (i + 1 ≡ m → ⊥) → i + 1 ≡ (i + 1) % m
   on-more n = sym (mod-eq-of-lt (omega arith))
+
+pub full-go : (v i : ℕ) (s s′ : List ℕ) → Full v i s → i < length s → s′ ≡ set s i v → Full v (i + 1) s′
+full-go v i s s′ f h e j q = rw e (⊎-elim last less (eq-or-lt-of-le u))
+  where
+    u : j ≤ i
+    u = omega arith
+
+    last : j ≡ i → getD (set s i v) j 0 ≡ v
+    last w = ap (λ (k : ℕ). getD (set s i v) k 0) w ∙ getD-set-same s i v 0 h
+
+    less : j < i → getD (set s i v) j 0 ≡ v
+    less w = getD-set-other s i j v 0 (λ (z : j ≡ i). omega arith) ∙ f j w

@@ -8,19 +8,12 @@ use native.Mathlib.Numerals.{add-one}
 use native.Mathlib.Omega.{arith}
 use lib.ListN.{length, getD, set, take, drop, replicate, length-append, length-take, length-drop, drop-of-length-le, length-replicate, getD-replicate, take-append-drop}
 use lib.Seq.{take-at, drop-at, drop-append-add, drop-drop, length-take-le, sets, sets-eq, getD-take, getD-drop}
-use borrow.Rule.Slice.PartMut.{putMid, post-is}
 use Rattle.lists.specs.Loops.{tab}
 use Rattle.lists.specs.Parts.{seg, spliced, Kept, Out, TableOf}
 use Rattle.lists.proofs.Tabs.{length-tab, tab-at}
+use Rattle.lists.proofs.Keep.{set-miss}
 
 module _ {A : Type 0} where
-  -- a part that was lent and came back as ys
-  pub part-back : (a e : ℕ) (xs ys : List A) → a ≤ e → length ys ≡ e - a → putMid a (e - a) xs ys ≡ spliced xs a ys
-  unfolding spliced
-  part-back a e xs ys h l =
-      let q : a + length ys ≡ e = omega arith in
-      rw (post-is a e xs h, q) (sym (append-assoc (take a xs) ys (drop e xs)))
-
   -- a list whose front p is made: the next part
   pub grow : (p d xs ys : List A) (a : ℕ) → xs ≡ p ++ drop a d → length p ≡ a → spliced xs a ys ≡ p ++ ys ++ drop (a + length ys) d
   unfolding spliced
@@ -135,3 +128,11 @@ put-table l f {a = a} {n = n} h e = record { at = λ j b. put-at l a (tab f n 0)
 
 pub put-same : (l : List ℕ) (v : ℕ) {m : List ℕ} {a n : ℕ} → a + n ≤ length l → m ≡ spliced l a (replicate n v) → TableOf m a n (λ j. v)
 put-same l v {a = a} {n = n} h e = record { at = λ j b. put-at l a (replicate n v) e (length-replicate n v) h 0 j b ∙ getD-replicate n j v 0 b }
+
+-- a store outside a table
+pub table-miss : {f : ℕ → ℕ} (w : List ℕ) (a n i v : ℕ) → ((j : ℕ) → j < n → a + j ≡ i → ⊥) → TableOf w a n f → TableOf (set w i v) a n f
+table-miss w a n i v h T = record { at = λ j b. set-miss w i v (a + j) (h j b) ∙ T .at j b }
+
+-- what stands before a splice
+pub put-behind : {A : Type 0} (l : List A) {m : List A} (a : ℕ) (p : List A) → m ≡ spliced l a p → a ≤ length l → take a m ≡ take a l
+put-behind l a p e h = ap (take a) e ∙ spliced-front l a p h

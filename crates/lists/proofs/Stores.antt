@@ -1,9 +1,12 @@
 -- A run of stores that may lie past the end, where it does nothing: `sets`.
 use mathlib.Core.Path.{_≡_, refl, sym, ap, _∙_}
 use mathlib.Core.List.{List, [], _∷_, _++_, append-nil}
-use Prim.Native.Nat.{ℕ, suc, _+_, _-_, _≤_, _<_}
+use Prim.Native.Nat.{ℕ, suc, _+_, _-_, _≤_, _<_, zero}
 use native.Mathlib.Nat.{add-zero, zero-add, add-suc, suc-add}
 use native.Mathlib.Omega.{arith}
+use mathlib.Core.Bool.{Bool, true, false, not, _&&_}
+use borrow.Author.Tests.{eqb-true, eqb-false}
+use lib.Dec.{eqb}
 use lib.ListN.{length, getD, set, take, drop, length-drop, take-append-drop, drop-of-length-le}
 use lib.Seq.{sets, sets-eq, length-sets, take-set-le, drop-set-lt, drop-set-add, getD-set-other, length-take-le, take-all, take-at, drop-at, drop-append-add, drop-drop}
 use borrow.Rule.Slice.PartMut.{putMid, midOf}
@@ -92,3 +95,20 @@ module _ {A : Type 0} where
       let q : length last + (k - m) ≡ k = omega arith in
       let r : m + (k - m) ≡ k = omega arith in
       ap (λ (j : ℕ). drop j (last ++ drop m w)) (sym q) ∙ drop-append-add last (drop m w) (k - m) ∙ drop-drop (k - m) m w ∙ ap (λ (j : ℕ). drop j w) r
+
+pub zero-there : (left : List ℕ) (x : ℕ) → getD (set left x 0) x 0 ≡ 0
+zero-there [] x = refl
+zero-there (y ∷ l) zero = refl
+zero-there (y ∷ l) (suc x) = zero-there l x
+
+pub flag-gone : (left : List ℕ) (x j : ℕ) → eqb (getD (set left x 0) j 0) 1 ≡ (not (eqb j x) && eqb (getD left j 0) 1)
+flag-gone left x j = go (eqb j x) refl
+  where
+    go : (b : Bool) → eqb j x ≡ b → eqb (getD (set left x 0) j 0) 1 ≡ (not b && eqb (getD left j 0) 1)
+    go true e = let w : getD (set left x 0) j 0 ≡ 0 = ap (λ (k : ℕ). getD (set left x 0) k 0) (eqb-true j x e) ∙ zero-there left x in ap (λ (v : ℕ). eqb v 1) w
+    go false e = ap (λ (v : ℕ). eqb v 1) (getD-set-other left x j 0 0 (eqb-false j x e))
+
+pub put-back : (l : List ℕ) (k : ℕ) → set (set l k 0) k (getD l k 0) ≡ l
+put-back [] k = refl
+put-back (x ∷ l) zero = refl
+put-back (x ∷ l) (suc k) = ap (λ (r : List ℕ). x ∷ r) (put-back l k)

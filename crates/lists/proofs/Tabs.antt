@@ -75,3 +75,6 @@ seg-tab w a n i h =
     ext-getD 0 (seg w (a + i) n) (tab f n i) (l ∙ sym (length-tab f n i))
     (λ j b. let q : j < n = omega arith in let s : a + i + j ≡ a + (i + j) = omega arith in
     seg-at w (a + i) n j q ∙ ap (λ (k : ℕ). getD w k 0) s ∙ sym (getD-tab f n i j 0 q))
+
+pub length-by : (p : List ℕ) (f : ℕ → ℕ) (n : ℕ) → p ≡ tab f n 0 → length p ≡ n
+length-by p f n e = ap length e ∙ length-tab f n 0

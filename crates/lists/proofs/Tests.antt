@@ -1,6 +1,10 @@
 -- Laws of tests.
 use mathlib.Core.Path.{_≡_, refl, sym}
-use mathlib.Core.Bool.{Bool, true, false, not, _&&_}
+use mathlib.Core.Bool.{Bool, true, false, not, _&&_, _||_, true≢false, cond}
+use Prim.Native.Nat.{ℕ}
+use borrow.Author.Tests.{eqb-false, ne-eqb}
+use mathlib.Core.Logic.{_⊎_, inl, inr}
+use lib.Dec.{eqb}
 use Rattle.lists.specs.Loops.{pick}
 
 pub both : (a b : Bool) → (a ≡ true → b ≡ true) → (b ≡ true → a ≡ true) → a ≡ b
@@ -39,6 +43,12 @@ pub and-drop : (a b c : Bool) → (b && c) ≡ false → ((a && b) && c) ≡ fal
 and-drop true b c e = e
 and-drop false b c e = refl
 
+pub and-comm : (a b : Bool) → (a && b) ≡ (b && a)
+and-comm true true = refl
+and-comm true false = refl
+and-comm false true = refl
+and-comm false false = refl
+
 -- ---- the test of a search, and of the rest of it
 
 pub none-head : (b r : Bool) → pick b true r ≡ false → b ≡ false
@@ -49,3 +59,41 @@ pub none-tail : (b r : Bool) → pick b true r ≡ false → r ≡ false
 none-tail true true e = e
 none-tail true false e = refl
 none-tail false r e = e
+
+-- ---- one or both
+
+pub or-none : (a b : Bool) → (a || b) ≡ false → (a ≡ false) × (b ≡ false)
+or-none false false e = (refl, refl)
+or-none false true e = absurd (true≢false e)
+or-none true b e = absurd (true≢false e)
+
+pub and-on : (a b : Bool) → a ≡ true → b ≡ (a && b)
+and-on a b e = rw e refl
+
+pub and-off : (a b : Bool) → a ≡ false → false ≡ (a && b)
+and-off a b e = rw e refl
+
+pub no-and : (a : Bool) {b : Bool} → b ≡ false → (a && b) ≡ false
+no-and true e = e
+no-and false e = refl
+
+pub and-far : (q x y z u t : Bool) → (q && t) ≡ false → (q && (x && (y && (z && (u && t))))) ≡ false
+and-far false x y z u t e = refl
+and-far true x y z u t e = no-and x (no-and y (no-and z (no-and u e)))
+
+pub eqb-other : (x y : ℕ) → eqb x y ≡ false → eqb y x ≡ false
+eqb-other x y e = ne-eqb y x (λ (q : y ≡ x). eqb-false x y e (sym q))
+
+pub neither : (a b : Bool) → (not a || b) ≡ false → (a ≡ true) × (b ≡ false)
+neither true b e = (refl, e)
+neither false b e = absurd (true≢false e)
+
+-- ---- by cases
+
+pub cond-same : {A : Type 0} (x : Bool) (n : A) → cond x n n ≡ n
+cond-same true n = refl
+cond-same false n = refl
+
+pub cases : (b : Bool) → (b ≡ true) ⊎ (b ≡ false)
+cases true = inl refl
+cases false = inr refl

@@ -30,3 +30,7 @@ pub record Kept (a : ℕ) (w w′ : List ℕ) : Type 0 where
 -- the n words from a are f 0, f 1, ..
 pub record TableOf (w : List ℕ) (a n : ℕ) (f : ℕ → ℕ) : Type 0 where
   pub at : (j : ℕ) → j < n → getD w (a + j) 0 ≡ f j
+
+-- the first n words are v
+abbrev pub Full : ℕ → ℕ → List ℕ → Type 0
+Full v n l = (j : ℕ) → j < n → getD l j 0 ≡ v

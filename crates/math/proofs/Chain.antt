@@ -1,13 +1,12 @@
 -- The numbers behind the length of a vector: bounds by powers of two, in units of 2 ^ -149. Nothing here is about floats.
-use mathlib.Core.Path.{_≡_, sym, ap, _∙_, subst}
+use mathlib.Core.Path.{_≡_, sym, ap, _∙_}
 use mathlib.Core.Logic.{_⊎_, inl, inr}
 use Prim.Native.Nat.{ℕ, suc, _+_, _-_, _*_, _^_, _≤_, _<_, zero-le}
-use native.Mathlib.Nat.{le-trans, le-of-eq, le-of-lt, not-le-of-lt, mul-one, zero-mul, mul-le-mul, mul-le-mul-left, mul-le-mul-right, two-pow-succ, eq-zero-or-pos}
+use native.Mathlib.Nat.{le-trans, le-of-eq, le-of-lt, not-le-of-lt, mul-one, zero-mul, mul-le-mul-left, mul-le-mul-right, eq-zero-or-pos}
 use native.Mathlib.Omega.{arith}
 use lib.Pow.{pow-add, pow-mono, pow-lt}
-use lib.Ieee.{size}
-use lib.Ieee.Digits.{size-lt, size-reaches}
-use Rattle.math.proofs.Whole.{le-or-lt, size-pos}
+use Rattle.lists.proofs.Numbers.{le-or-lt}
+use Rattle.lists.proofs.Squares.{times-up, times-lo, plus-up, clash, binade}
 
 -- p is near num / den: on the same side of each power of two
 abbrev pub Up : ℕ → ℕ → ℕ → Type 0
@@ -24,24 +23,6 @@ abbrev pub RootLo : ℕ → ℕ → Type 0
 RootLo D r = (j : ℕ) → 2 ^ j * 2 ^ j ≤ D * 2 ^ 149 → 2 ^ j ≤ r
 
 -- ---- the same by exponents
-pub times-up : (a b i k : ℕ) → a ≤ 2 ^ i → b ≤ 2 ^ k → a * b ≤ 2 ^ (i + k)
-times-up a b i k h l = le-trans (mul-le-mul h l) (le-of-eq (sym (pow-add 2 i k)))
-
-pub times-lo : (a b i k : ℕ) → 2 ^ i ≤ a → 2 ^ k ≤ b → 2 ^ (i + k) ≤ a * b
-times-lo a b i k h l = le-trans (le-of-eq (pow-add 2 i k)) (mul-le-mul h l)
-
-double : (a b p : ℕ) → a ≤ p → b ≤ p → a + b ≤ p + p
-double a b p h k = omega arith
-
-pub plus-up : (a b i : ℕ) → a ≤ 2 ^ i → b ≤ 2 ^ i → a + b ≤ 2 ^ suc i
-plus-up a b i h k = le-trans (double a b (2 ^ i) h k) (le-of-eq (sym (two-pow-succ i)))
-
-pub more-left : (a b i : ℕ) → 2 ^ i ≤ a → 2 ^ i ≤ a + b
-more-left a b i h = omega arith
-
-pub more-right : (a b i : ℕ) → 2 ^ i ≤ b → 2 ^ i ≤ a + b
-more-right a b i h = omega arith
-
 pub up-at : (n p i j : ℕ) → Up n (2 ^ 149) p → n ≤ 2 ^ i → i ≤ j + 149 → p ≤ 2 ^ j
 up-at n p i j U h l = U j (le-trans h (le-trans (pow-mono l) (le-of-eq (pow-add 2 j 149))))
 
@@ -67,19 +48,7 @@ inv-up r q i j U h l = U j (le-trans (le-of-eq (sym (pow-add 2 149 149))) (le-tr
 pub inv-lo : (r q i j : ℕ) → Lo (2 ^ 149 * 2 ^ 149) r q → r ≤ 2 ^ i → j + i ≤ 149 + 149 → 2 ^ j ≤ q
 inv-lo r q i j L h l = L j (le-trans (mul-le-mul-left (2 ^ j) h) (le-trans (le-of-eq (sym (pow-add 2 j i))) (le-trans (pow-mono l) (le-of-eq (pow-add 2 149 149)))))
 
--- two powers on the wrong sides
-pub clash : (i j x : ℕ) → x ≤ 2 ^ i → 2 ^ j ≤ x → i < j → ⊥
-clash i j x h k l = not-le-of-lt (pow-lt l) (le-trans k h)
-
 -- ---- the binade of a number above zero
-suc-pred : (z : ℕ) → 0 < z → suc (z - 1) ≡ z
-suc-pred z h = omega arith
-
-pub binade : (a : ℕ) → 0 < a → (i : ℕ) × (2 ^ i ≤ a) × (a < 2 ^ suc i)
-binade a A =
-    let e = suc-pred (size a) (size-pos a A) in
-    (size a - 1, size-reaches a (size a - 1) (omega arith), subst (λ (x : ℕ). a < 2 ^ x) (sym e) (size-lt a))
-
 -- ---- a component whose square is finite
 far : (i : ℕ) → 277 ≤ i → 405 + 149 ≤ i + i
 far i h = omega arith
@@ -173,11 +142,3 @@ component-lo x y z px py pz e D r q m pm u X Y Z PX PY PZ E DD R r82 L F Q U = g
     go (inr A) = let b = binade m A in normal (b .0) (b .1) (b .2) (le-or-lt 149 (suc (b .0) + suc (b .0)))
 
 -- ---- which of three is the largest
-pub largest : (a b c : ℕ) → ((b ≤ a) × (c ≤ a)) ⊎ (((a ≤ b) × (c ≤ b)) ⊎ ((a ≤ c) × (b ≤ c)))
-largest a b c = go (le-or-lt b a) (le-or-lt c a) (le-or-lt c b)
-  where
-    go : (b ≤ a) ⊎ (a < b) → (c ≤ a) ⊎ (a < c) → (c ≤ b) ⊎ (b < c) → ((b ≤ a) × (c ≤ a)) ⊎ (((a ≤ b) × (c ≤ b)) ⊎ ((a ≤ c) × (b ≤ c)))
-    go (inl p) (inl q) r = inl (p, q)
-    go (inl p) (inr q) r = inr (inr (omega arith))
-    go (inr p) q (inl r) = inr (inl (omega arith))
-    go (inr p) q (inr r) = inr (inr (omega arith))

@@ -1,13 +1,15 @@
 -- The root digit by digit: what a digit takes and leaves (`Digit`), that each leaves what the next asks for (`SoFar`), and the last the whole root.
 use mathlib.Core.Logic.{inl, inr}
 use mathlib.Core.Path.{_≡_, sym, ap, _∙_, subst}
-use Prim.Native.Nat.{ℕ, suc, _+_, _-_, _*_, _/_, _%_, _^_, _≤_, _<_}
-use native.Mathlib.Nat.{mul-assoc, mul-zero, mul-one, pow-suc}
+use Prim.Native.Nat.{ℕ, _+_, _-_, _*_, _/_, _%_, _^_, _≤_, _<_}
+use native.Mathlib.Nat.{mul-assoc, mul-zero, mul-one, pow-suc, mul-comm}
 use native.Mathlib.Omega.{arith}
+use native.Mathlib.Numerals.{add-one}
 use lib.Pow.{pow-mono}
+use Rattle.lists.proofs.Squares.{square-next, square-double}
 use Rattle.math.specs.SquareRoot.{isqrt}
 use Rattle.math.specs.Digit.{Bit, Digit, SoFar}
-use Rattle.math.proofs.Whole.{whole-root, square-next, square-double}
+use Rattle.math.proofs.Whole.{whole-root}
 
 -- what a digit takes off the remainder
 pub taken-off : (rest trial b : ℕ) → Bit rest trial b → trial * b ≤ rest
@@ -18,19 +20,13 @@ pub bit-small : (rest trial b : ℕ) → Bit rest trial b → b ≤ 1
 bit-small rest trial b (inl w) = omega (arith, w .1)
 bit-small rest trial b (inr w) = omega (arith, w .1)
 
-twice : (n : ℕ) → 2 * n ≡ n * 2
-twice n = omega arith
-
 pub digit : (q r two b : ℕ) → r ≤ 2 * q → two < 4 → Bit (r * 4 + two) (q * 4 + 1) b → Digit q r two (q * 2 + b) (r * 4 + two - (q * 4 + 1) * b)
 digit q r two b h k (inl w) =
     subst (λ (x : ℕ). Digit q r two (q * 2 + x) (r * 4 + two - (q * 4 + 1) * x)) (sym (w .1))
-    (record { longer = omega arith; whole = omega (arith, w .0, square-double q, ap (λ (x : ℕ). x * x) (twice q)); small = omega (arith, w .0) })
+    (record { longer = omega arith; whole = omega (arith, w .0, square-double q, ap (λ (x : ℕ). x * x) (mul-comm 2 q)); small = omega (arith, w .0) })
 digit q r two b h k (inr w) =
     subst (λ (x : ℕ). Digit q r two (q * 2 + x) (r * 4 + two - (q * 4 + 1) * x)) (sym (w .1))
-    (record { longer = omega arith; whole = omega (arith, w .0, square-next (q * 2), square-double q, ap (λ (x : ℕ). x * x) (twice q)); small = omega (arith, w .0) })
-
-add-one : (n : ℕ) → n + 1 ≡ suc n
-add-one n = omega arith
+    (record { longer = omega arith; whole = omega (arith, w .0, square-next (q * 2), square-double q, ap (λ (x : ℕ). x * x) (mul-comm 2 q)); small = omega (arith, w .0) })
 
 pub so-far-start : (s : ℕ) → s < 2 ^ 32 → SoFar s 0 0 0 s
 so-far-start s h = record { turns = omega arith; small = omega arith; whole = omega arith; word = h; within = omega arith }

@@ -7,16 +7,17 @@ use native.Mathlib.Omega.{arith}
 use mathlib.Core.Bool.{Bool}
 use lib.Dec.{ltb}
 use lib.Arith.{le→nltb}
-use lib.Pow.{pow-add, pow-pos, pow-mono, pow-lt}
+use lib.Pow.{pow-pos, pow-mono, pow-lt}
 use lib.Ieee.{Float, inf, Format, prec, low, size, nearest, odd, units, round}
-use lib.Ieee.Digits.{size-reaches, back}
+use lib.Ieee.Digits.{size-reaches}
 use lib.Ieee.Fits.{round-is, two, two-le-pos}
 use lib.Ieee.Exact.{HasValue, units-val}
 use lib.Ieee.Nearest.{closest, closest-mono, nearest-ge}
 use lib.Ieee.Order.{drop, kept}
 use lib.Ieee.Scale.{overflow}
 use lib.Ieee.Bits.{cond-no}
-use Rattle.math.proofs.Whole.{le-or-lt}
+use Rattle.lists.proofs.Numbers.{le-or-lt}
+use Rattle.lists.proofs.Squares.{pow-split}
 
 closest-whole : (a : ℕ) → closest a 1 ≡ a
 closest-whole a = ap (λ (x : ℕ). nearest (a / 1) (compare (x * 2) 1)) (mod-one a) ∙ div-one a
@@ -29,9 +30,6 @@ reaches z p k P e h = omega arith
 
 pos-of : (j k : ℕ) → j < k → 0 < k
 pos-of j k h = omega arith
-
-pub pow-split : (j k : ℕ) → k ≤ j → 2 ^ (j - k) * 2 ^ k ≡ 2 ^ j
-pow-split j k h = sym (pow-add 2 (j - k) k) ∙ ap (λ (x : ℕ). 2 ^ x) (back j k h)
 
 pub grid-upper : (p n den j : ℕ) → 0 < p → 0 < den → n ≤ 2 ^ j * den → kept p n den * 2 ^ drop p n den ≤ 2 ^ j
 grid-upper p n den j P D h = go (le-or-lt (drop p n den) j)

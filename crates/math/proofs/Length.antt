@@ -10,11 +10,12 @@ use lib.Pow.{pow-add, pow-pos, pow-mono, pow-lt}
 use lib.Ieee.{Float, nan, inf, fin, binary32, up, down, add, mul, lt, ofBits}
 use lib.Ieee.Fits.{down-pos, and-i, add-fits}
 use lib.Ieee.Scale.{finite}
+use Rattle.lists.proofs.Squares.{times-up, times-lo, plus-up, more-left, more-right}
 use Rattle.math.specs.declared.vector.V3.{V3}
 use Rattle.math.specs.SquareRoot.{rootOf}
 use Rattle.math.specs.Vector.{vdot, tiny, usable}
 use Rattle.math.proofs.Units.{Is, is-finite, square-units, add-units}
-use Rattle.math.proofs.Chain.{up-at, lo-at, sum-up, sum-lo, root-lo, times-up, times-lo, plus-up, more-left, more-right}
+use Rattle.math.proofs.Chain.{up-at, lo-at, sum-up, sum-lo, root-lo}
 use Rattle.math.proofs.RootUnits.{root-value}
 
 -- ---- 1e-20 in units: 1547425 * 2 ^ 62, which is from 2 ^ 82 up and below 2 ^ 147

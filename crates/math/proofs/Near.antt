@@ -3,18 +3,19 @@ use mathlib.Core.Path.{_≡_, sym, ap, ap₂, _∙_, subst, subst₂}
 use mathlib.Core.Logic.{_⊎_, inl, inr}
 use mathlib.Core.Bool.{Bool, not}
 use Prim.Native.Nat.{ℕ, zero, suc, _+_, _-_, _*_, _/_, _%_, _^_, _≤_, _<_}
-use native.Mathlib.Nat.{lt-irrefl, lt-trans, le-refl, le-of-eq, le-add-right, add-zero, add-sub-of-le, le-trans, lt-of-lt-of-le, lt-of-le-of-lt, eq-or-lt-of-le, mul-assoc, mul-mul-mul-comm, mul-le-mul-left, mul-le-mul-right, mul-lt-mul-of-pos-right, mul-pos, add-mul, pow-succ', mod-eq-of-lt, div-eq-of-lt}
+use native.Mathlib.Nat.{lt-irrefl, lt-trans, le-refl, le-of-eq, le-add-right, add-zero, add-sub-of-le, le-trans, lt-of-lt-of-le, eq-or-lt-of-le, mul-assoc, mul-mul-mul-comm, mul-le-mul-right, mul-lt-mul-of-pos-right, mul-pos, add-mul, pow-succ', mod-eq-of-lt, div-eq-of-lt}
 use native.Mathlib.Omega.{arith}
 use lib.Dec.{T}
 use lib.Pow.{pow-pos}
 use lib.Ieee.{Float, binary32, ofBits, toBits, fits}
 use lib.Ieee.Positive.{positive}
 use lib.Ieee.Bits.{ofBits-toBits, toBits-ofBits, nanBits-is}
+use Rattle.lists.proofs.Numbers.{le-or-lt}
+use Rattle.lists.proofs.Squares.{square-next, square-double, square-mono, parity, square-strict}
 use Rattle.math.specs.SquareRoot.{isqrt, place, significand, rootDigits, joined, rootBits, rootOf}
 use Rattle.math.specs.Nearest.{unitsOf, next, previous, square, Nearest, Rooted}
-use Rattle.math.proofs.Whole.{le-or-lt, square-next, square-double, square-mono}
 use Rattle.math.proofs.Pattern.{byFields, byBits, units-bits, made-units, argument, scaled}
-use Rattle.math.proofs.RootDigits.{parity, shift-even, shift-odd, shifted-root, digits-large, digits-small, root-large}
+use Rattle.math.proofs.RootDigits.{shift-even, shift-odd, shifted-root, digits-large, digits-small, root-large}
 use Rattle.math.proofs.Place.{placed, root-bits-lt}
 use Rattle.math.proofs.Sorts.{Positive, positive-is, positive-in, positive-root, plain-pattern}
 
@@ -28,15 +29,6 @@ odd-not-exact a q j h e f l =
 
 shifted-even : (g m : ℕ) → (h : ℕ) × (m * 2 ^ (25 + g % 2) ≡ 2 * h)
 shifted-even g m = elim (parity g) [ inl e ↦ (m * 16777216, omega (arith, shift-even g m e)) | inr e ↦ (m * 33554432, omega (arith, shift-odd g m e)) ]
-
-square-strict : {a b : ℕ} → a < b → a * a < b * b
-square-strict {a} {b} h = lt-of-le-of-lt (mul-le-mul-left a (lt-le h)) (mul-lt-mul-of-pos-right h (pos-of h))
-  where
-    lt-le : a < b → a ≤ b
-    lt-le k = omega arith
-
-    pos-of : a < b → 0 < b
-    pos-of k = omega arith
 
 -- ---- the neighbours of the result
 

@@ -5,11 +5,11 @@ use Prim.Native.Nat.{ℕ}
 use native.Mathlib.Omega.{arith}
 use lib.Dec.{T}
 use lib.Ieee.{Float, binary32, ofBits, add, mul, div, fits, lt}
-use lib.Ieee.Fits.{and-i, add-fits, sub-fits, mul-fits}
+use lib.Ieee.Fits.{and-i, add-fits, mul-fits}
 use Rattle.math.specs.declared.vector.V3.{V3}
 use Rattle.math.specs.declared.vector.Unit.the-variants.{Of, Nothing}
 use Rattle.math.specs.SquareRoot.{rootOf}
-use Rattle.math.specs.Vector.{v3, oneF, yAxis, fits3, vadd, vsub, vscale, vdot, minor, vcross, vlen, usable, unitBy, unitOf}
+use Rattle.math.specs.Vector.{v3, oneF, yAxis, fits3, vadd, vscale, vdot, vlen, usable, unitBy, unitOf}
 use Rattle.math.proofs.Usable.{usable-again}
 
 -- ---- what is made fits
@@ -20,17 +20,8 @@ all-fit x y z p q r = and-i (fits binary32 x && fits binary32 y) (fits binary32 
 pub sum-fits : (a b : V3) → T (fits3 (vadd a b))
 sum-fits a b = all-fit _ _ _ (add-fits binary32 (a .x) (b .x)) (add-fits binary32 (a .y) (b .y)) (add-fits binary32 (a .z) (b .z))
 
-pub difference-fits : (a b : V3) → T (fits3 (vsub a b))
-difference-fits a b = all-fit _ _ _ (sub-fits binary32 (a .x) (b .x)) (sub-fits binary32 (a .y) (b .y)) (sub-fits binary32 (a .z) (b .z))
-
 pub scale-fits : (a : V3) (s : Float) → T (fits3 (vscale a s))
 scale-fits a s = all-fit _ _ _ (mul-fits binary32 (a .x) s) (mul-fits binary32 (a .y) s) (mul-fits binary32 (a .z) s)
-
-minor-fits : (p q r s : Float) → T (fits binary32 (minor p q r s))
-minor-fits p q r s = sub-fits binary32 (mul binary32 p q) (mul binary32 r s)
-
-pub cross-fits : (a b : V3) → T (fits3 (vcross a b))
-cross-fits a b = all-fit _ _ _ (minor-fits (a .y) (b .z) (a .z) (b .y)) (minor-fits (a .z) (b .x) (a .x) (b .z)) (minor-fits (a .x) (b .y) (a .y) (b .x))
 
 -- ---- normalising
 

@@ -12,10 +12,10 @@ use lib.Ieee.{Float, nan, inf, fin, binary32, down, size, odd, ofFields, ofBits}
 use lib.Ieee.Digits.{size-le}
 use lib.Ieee.Exact.{odd-sign}
 use lib.Ieee.Fits.{down-pos}
+use Rattle.lists.proofs.Numbers.{le-or-lt}
 use Rattle.math.specs.SquareRoot.{place, significand}
 use Rattle.math.specs.Nearest.{unitsOf, square}
 use Rattle.math.proofs.Units.{Is}
-use Rattle.math.proofs.Whole.{le-or-lt}
 use Rattle.math.proofs.Place.{place-low, place-high, significand-low, significand-high}
 
 -- ---- the units of a pattern, by its two fields

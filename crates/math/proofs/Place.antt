@@ -9,8 +9,9 @@ use borrow.Author.Tests.{lt-ltb, le-ltb}
 use lib.Pow.{pow-add, pow-pos, pow-mono}
 use lib.Ieee.{size}
 use lib.Ieee.Digits.{size-lt, size-le, size-reaches}
+use Rattle.lists.proofs.Numbers.{le-or-lt}
+use Rattle.lists.proofs.Squares.{size-pos}
 use Rattle.math.specs.SquareRoot.{place, significand, joined, rootBits}
-use Rattle.math.proofs.Whole.{le-or-lt, size-pos}
 use Rattle.math.proofs.RootDigits.{digits-small}
 
 -- n, doubled until it is m, is at the place g; its own digits are no more than g

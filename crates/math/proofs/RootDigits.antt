@@ -1,20 +1,11 @@
 -- The root of a significand of 24 digits, shifted to an even power of two: it has 25 digits, and rounds to 24.
 use mathlib.Core.Path.{_≡_, sym, ap}
-use mathlib.Core.Logic.{_⊎_, inl, inr}
+use mathlib.Core.Logic.{inl, inr}
 use Prim.Native.Nat.{ℕ, _+_, _*_, _%_, _^_, _≤_, _<_}
-use native.Mathlib.Nat.{eq-or-lt-of-le}
 use native.Mathlib.Omega.{arith}
+use Rattle.lists.proofs.Squares.{root-le, parity}
 use Rattle.math.specs.SquareRoot.{isqrt, rootDigits}
-use Rattle.math.proofs.Whole.{IsRoot, isqrt-root, root-le}
-
-pub parity : (g : ℕ) → (g % 2 ≡ 0) ⊎ (g % 2 ≡ 1)
-parity g = elim (eq-or-lt-of-le h) [ inl e ↦ inr e | inr l ↦ inl (omega arith) ]
-  where
-    h : g % 2 ≤ 1
-    h = omega arith
-
-pub even : (g : ℕ) → (g % 2 ≡ 1 → ⊥) → g % 2 ≡ 0
-even g h = elim (parity g) [ inl e ↦ e | inr e ↦ absurd (h e) ]
+use Rattle.math.proofs.Whole.{IsRoot, isqrt-root}
 
 pub shift-even : (g m : ℕ) → g % 2 ≡ 0 → m * 33554432 ≡ m * 2 ^ (25 + g % 2)
 shift-even g m e = ap (λ (k : ℕ). m * 2 ^ (25 + k)) (sym e)

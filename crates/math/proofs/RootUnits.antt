@@ -11,10 +11,11 @@ use lib.Ieee.{Float, nan, inf, fin, binary32, up, down, fits, ofBits, toBits}
 use lib.Ieee.Fits.{down-pos}
 use lib.Ieee.Bits.{ofBits-toBits}
 use lib.Ieee.Scale.{finite}
+use Rattle.lists.proofs.Numbers.{le-or-lt}
+use Rattle.lists.proofs.Squares.{square-double, square-less, square-le, pow-split}
 use Rattle.math.specs.SquareRoot.{isqrt, place, significand, rootDigits, joined, rootBits, rootOf}
 use Rattle.math.specs.Nearest.{unitsOf, square}
-use Rattle.math.proofs.Whole.{IsRoot, le-or-lt, square-le, square-less, square-double}
-use Rattle.math.proofs.Grid.{pow-split}
+use Rattle.math.proofs.Whole.{IsRoot}
 use Rattle.math.proofs.Units.{Is}
 use Rattle.math.proofs.Chain.{RootUp, RootLo}
 use Rattle.math.proofs.RootDigits.{shifted-root, root-large, digits-large, digits-small}

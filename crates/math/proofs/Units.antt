@@ -14,7 +14,7 @@ use lib.Ieee.Fits.{up-pos, down-pos, and-l, and-r}
 use lib.Ieee.Exact.{HasValue}
 use lib.Ieee.Scale.{overflow, finite, round-same}
 use lib.Ieee.Bits.{cond-no}
-use Rattle.math.proofs.Whole.{le-or-lt}
+use Rattle.lists.proofs.Numbers.{le-or-lt}
 use Rattle.math.proofs.Grid.{Rounded, round-rounded}
 
 abbrev pub Is : Format → Float → Bool → ℕ → Type 0

@@ -9,12 +9,13 @@ use lib.Pow.{pow-pos}
 use lib.Ieee.{Float, binary32, add, mul, div, lt, fits, unlike, ofBits}
 use lib.Ieee.Fits.{and-l, and-r, add-fits}
 use lib.Ieee.Scale.{finite}
+use Rattle.lists.proofs.Squares.{more-left, more-right, largest}
 use Rattle.math.specs.declared.vector.V3.{V3}
 use Rattle.math.specs.SquareRoot.{rootOf}
 use Rattle.math.specs.Vector.{vdot, vscale, oneF, tiny, fits3, usable}
 use Rattle.math.proofs.Grid.{Rounded}
 use Rattle.math.proofs.Units.{Is, in-units, square-units, add-units, mul-units, inv-units, rounded-under, add-finite, mul-finite}
-use Rattle.math.proofs.Chain.{sum-lo, inv-up, component-up, component-lo, largest, more-left, more-right}
+use Rattle.math.proofs.Chain.{sum-lo, inv-up, component-up, component-lo}
 use Rattle.math.proofs.RootUnits.{RootAt, root-value, root-finite}
 use Rattle.math.proofs.Length.{AtMostTwo, above-tiny, under, usable-of}
 

@@ -1,6 +1,6 @@
 -- A normal whose length is 1 but for some roundings is kept. There are 97 squares of such a length, and the root of each is taken here.
 use mathlib.Core.Path.{_≡_, refl, sym, ap, _∙_}
-use mathlib.Core.Bool.{Bool, true, false, not, _||_, cond, true≢false}
+use mathlib.Core.Bool.{Bool, true, false, not, _||_, cond}
 use Prim.Native.Nat.{ℕ, _≤_, _<_}
 use native.Mathlib.Omega.{arith}
 use borrow.Author.Tests.{leb-true, ltb-true}
@@ -16,7 +16,7 @@ use Rattle.math.specs.Vector.{vscale, vdot, vlen, usable, unitOf, oneF}
 use Rattle.math.specs.Order.{magnitude}
 use Rattle.lists.specs.Loops.{first}
 use Rattle.lists.proofs.Searches.{first-below}
-use Rattle.lists.proofs.Tests.{and-left, and-right}
+use Rattle.lists.proofs.Tests.{and-left, and-right, neither}
 use Rattle.mesh.specs.Words.{floats, bits}
 use Rattle.mesh.specs.Mend.{visible, mendBy}
 use Rattle.mending.specs.Mend.{nearOne}
@@ -36,10 +36,6 @@ near-off b h =
     let lo : 0x3f7f_ffc0 ≤ b = leb-true 0x3f7f_ffc0 b (and-left (leb 0x3f7f_ffc0 b) (ltb b 0x3f80_0021) h) in
     let hi : b < 0x3f80_0021 = ltb-true b 0x3f80_0021 (and-right (leb 0x3f7f_ffc0 b) (ltb b 0x3f80_0021) h) in
     first-below off 97 0x3f7f_ffc0 b lo (rw none-off hi)
-
-neither : (a b : Bool) → (not a || b) ≡ false → (a ≡ true) × (b ≡ false)
-neither true b e = (refl, e)
-neither false b e = absurd (true≢false e)
 
 -- d is the square of its length, b the bits of that
 pub near-kept : (w : Words3) (n other : V3) (d : Float) (b : ℕ) → n ≡ floats w → d ≡ vdot n n → b ≡ toBits binary32 d → nearOne b ≡ true

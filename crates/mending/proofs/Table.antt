@@ -17,6 +17,7 @@ use Rattle.mesh.specs.Soup.{Frame}
 use Rattle.mesh.specs.Normals.{orElse}
 use Rattle.mesh.specs.Vertices.{Key}
 use Rattle.mesh.specs.Mend.{firstNormal}
+use Rattle.lists.proofs.Tests.{cond-same}
 use Rattle.mending.specs.Mend.{triangleNormal, found, marked, markedAll, notedBy, noted, Clear, Firsts}
 
 -- ---- a mark, read again
@@ -84,10 +85,6 @@ marked-three t a b c v k h =
     ∙ three (eqb a v) (eqb b v) (eqb c v) (getD t v 0) k
 
 -- ---- the pass over the triangles
-
-cond-same : {A : Type 0} (x : Bool) (n : A) → cond x n n ≡ n
-cond-same true n = refl
-cond-same false n = refl
 
 module _ (F : Frame) (vs : List Key) (is : List ℕ) where
   -- whether triangle n uses vertex v

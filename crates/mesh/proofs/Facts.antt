@@ -1,25 +1,24 @@
 -- What the code that makes a mesh needs of the definition: how many indices and vertices there are, that each index names a vertex, that no two vertices
 -- are the same, and that a number once given stays.
 use mathlib.Core.Path.{_≡_, refl, sym, ap, _∙_, subst}
-use mathlib.Core.List.{List, [], _∷_, _++_, map}
-use Prim.Native.Nat.{ℕ, _+_, _*_, _-_, _≤_, _<_}
+use mathlib.Core.List.{List, [], _++_, map}
+use Prim.Native.Nat.{ℕ, _+_, _*_, _≤_, _<_}
 use native.Mathlib.Nat.{not-suc-le-zero, zero-add}
 use native.Mathlib.Omega.{arith}
 use lib.Dec.{T}
 use lib.ListN.{length, getD, length-map}
-use lib.Seq.{append-snoc}
 use Rattle.bits.specs.declared.Words4.{Words4}
 use Rattle.bits.specs.Bits.{entries}
 use Rattle.block.specs.Runs.{runs, corners, triangles, sumOver}
 use Rattle.lists.specs.Loops.{All}
-use Rattle.lists.specs.Lists.{mapN, joinN, total, has, place, meet, firsts}
+use Rattle.lists.specs.Lists.{mapN, joinN, total, has, place, firsts}
 use Rattle.mesh.specs.Words.{words2, words3, words4, pointWords}
 use Rattle.mesh.specs.Soup.{Face, Frame}
 use Rattle.mesh.specs.Vertices.{Key, noKey, sameKey, keysOf, vertices, locals, faceIndices, indicesOf, width}
 use Rattle.mesh.specs.Mend.{mended}
 use Rattle.mesh.specs.Mesh.{meshOf, mesh, Slices, slicesOf}
 use Rattle.mesh.specs.FaceSet.{Rest, restOf, pointCount, coordIn, runsIn, facesOf, frameOf, faceSetMesh}
-use Rattle.lists.proofs.Lists.{length-mapN, length-words, All-map, map-All, getD-map-lt, All-of-map, All-joinN, length-joinN, length-firsts, Distinct, firsts-distinct, firsts-append, firsts-snoc, meet-has, place-firsts}
+use Rattle.lists.proofs.Lists.{length-mapN, length-words, All-map, All-of-map, All-joinN, length-joinN, length-firsts, Distinct, firsts-distinct, firsts-append, place-firsts}
 use Rattle.mesh.proofs.Keys.{sameKey-self}
 use Rattle.mesh.proofs.Corners.{length-keys, length-faceIndices, locals-within, number-lt}
 use Rattle.mesh.proofs.FaceSet.{lengths-are, widths-are}
@@ -76,27 +75,6 @@ pub number-stays : (k : Key) (ks more : List Key) → T (has sameKey k (firsts s
 number-stays k ks more t =
     ap (place sameKey k) (firsts-append sameKey [] ks more)
     ∙ place-firsts sameKey k (firsts sameKey [] ks) more t
-
--- so the number that a corner's key has when it is met is its number in the end
-pub number-met : (k : Key) (ks more : List Key)
-    → place sameKey k (firsts sameKey [] (ks ++ (k ∷ more))) ≡ place sameKey k (meet sameKey (firsts sameKey [] ks) k)
-number-met k ks more =
-    let vs : List Key = firsts sameKey [] ks in
-    let e : firsts sameKey [] (ks ++ (k ∷ [])) ≡ meet sameKey vs k = firsts-snoc sameKey [] ks k in
-    ap (λ (l : List Key). place sameKey k (firsts sameKey [] l)) (sym (append-snoc ks k more))
-    ∙ number-stays k (ks ++ (k ∷ [])) more (subst (λ (l : List Key). T (has sameKey k l)) (sym e) (meet-has sameKey sameKey-self k vs))
-    ∙ ap (place sameKey k) e
-
--- the indices of a face, from the vertex numbers of its corners
-pub indices-by-numbers : (F : Frame) (fs : List Face) (vs : List Key) (num : ℕ) (f : Face) (numbers : List ℕ)
-    → numbers ≡ map (λ (k : Key). place sameKey k vs) (keysOf F fs num f) → faceIndices F fs vs num f ≡ map (λ (i : ℕ). getD numbers i 0) (locals F f)
-unfolding faceIndices
-indices-by-numbers F fs vs num f numbers e =
-    let ks : List Key = keysOf F fs num f in
-    let number : Key → ℕ = λ (k : Key). place sameKey k vs in
-    map-All (λ (i : ℕ). number (getD ks i noKey)) (λ (i : ℕ). getD (map number ks) i 0) (locals F f)
-    (All-map (λ (i : ℕ) h. sym (getD-map-lt number ks i 0 noKey (subst (λ (n : ℕ). i < n) (sym (length-keys F fs num f)) h))) (locals F f) (locals-within F f))
-    ∙ ap (λ (l : List ℕ). map (λ (i : ℕ). getD l i 0) (locals F f)) (sym e)
 
 -- FORMAT 4: of the faces of an index list, from its runs alone, in any frame
 module _ (missing : Words4) (R : Rest) (coord : List ℕ) (F : Frame) where

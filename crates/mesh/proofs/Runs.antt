@@ -7,9 +7,10 @@ use Prim.Native.Nat.{ℕ, zero, suc, _+_, _≤_, _<_}
 use native.Mathlib.Nat.{add-zero, zero-add, suc-ne-zero, suc-inj, not-suc-le-zero, le-of-suc-le-suc}
 use native.Mathlib.Omega.{arith}
 use lib.ListN.{length, getD, take, drop, length-append, List·getD-append}
-use lib.Seq.{take-at, drop-at, drop-append-add, getD-append-add}
+use lib.Seq.{take-at, getD-append-add}
 use Rattle.block.specs.Runs.{endsRun, Run, runOf, before, runsFrom, runs}
 use Rattle.lists.specs.Loops.{All}
+use Rattle.lists.proofs.Lists.{drop-past, no-elements}
 
 abbrev pub noRun : Run
 noRun = runOf 0 []
@@ -48,14 +49,10 @@ unfolding Starts runsFrom
 runs-start s [] = tt
 runs-start s (w ∷ ws) = before-starts (endsRun w) s w (runsFrom (suc s) ws)
 
-no-entries : (ws : List ℕ) (s : ℕ) → s + length ws ≡ s → ws ≡ []
-no-entries [] s e = refl
-no-entries (w ∷ ws) s e = let z : ⊥ = omega arith in absurd z
-
 -- one entry more at the front of a run that begins at once
 joins : {s : ℕ} {ws : List ℕ} (w : ℕ) (r : Run) → endsRun w ≡ false → r .start ≡ suc s → Stands (suc s) ws 0 r → Stands s (w ∷ ws) 0 (runOf s (w ∷ r .items))
 joins {s} {ws} w r q e a =
-    let z : a .pre ≡ [] = no-entries (a .pre) (suc s) (a .there ∙ e) in
+    let z : a .pre ≡ [] = let l : suc s + length (a .pre) ≡ suc s = a .there ∙ e in no-elements (a .pre) (omega arith) in
     record {
       pre = [];
       post = a .post;
@@ -185,9 +182,6 @@ replaced P [] [] Q hu hw e = record { long = refl; same = λ n ne. refl }
 replaced P [] (w ∷ W) Q hu hw e = absurd (suc-ne-zero (length W) (sym e))
 replaced P (u ∷ U) [] Q hu hw e = absurd (suc-ne-zero (length U) e)
 replaced P (u ∷ U) (w ∷ W) Q hu hw e = differ-but (changed-run 0 P u w U W Q hu hw (suc-inj e))
-
-drop-past : (p u q : List ℕ) (n k : ℕ) → length p ≡ n → length u ≡ k → drop (n + k) (p ++ (u ++ q)) ≡ q
-drop-past p u q n k e f = ap (λ (i : ℕ). drop (i + k) (p ++ (u ++ q))) (sym e) ∙ drop-append-add p (u ++ q) k ∙ drop-at u q k f
 
 pub one-run-of : (l m : List ℕ) (r : ℕ) → OneRunOf l m r → AllButRun r (runs l) (runs m)
 one-run-of l m r h =

@@ -1,22 +1,17 @@
 -- FORMAT 8: the quads of a grid and of an extrusion's sides by number.
-use Prim.Native.Nat.{ℕ, _+_, _-_, _*_, _/_, _%_, _≤_}
-use mathlib.Core.Path.{_≡_, refl, ap, _∙_}
-use mathlib.Core.List.{List}
-use native.Mathlib.Nat.{add-comm, div-add-mod'}
+use Prim.Native.Nat.{ℕ, _-_, _*_, _/_, _%_, _≤_}
+use mathlib.Core.Path.{_≡_, ap, _∙_}
 use native.Mathlib.Omega.{arith}
 use lib.ListN.{length}
 use Rattle.bits.specs.declared.Words4.{Words4}
 use Rattle.lists.specs.Loops.{tab}
 use Rattle.lists.proofs.Tabs.{tab-same}
+use Rattle.lists.proofs.Numbers.{div-mod}
 use Rattle.mesh.specs.FaceSet.{Rest}
 use Rattle.mesh.specs.Quads.{quad}
 use Rattle.mesh.specs.Grid.{xDimension, zDimension, gridCorner, gridFace, gridFaces}
 use Rattle.mesh.specs.Extrusion.{Extrusion, sideCorner, sides}
 use Rattle.mesh.proofs.Tabs.{tabs-tab}
-
--- the number of the quad in row q / w and column q % w is q
-quad-number : (q w : ℕ) → q % w + q / w * w ≡ q
-quad-number q w = add-comm (q % w) (q / w * w) ∙ div-add-mod' q w
 
 pub grid-listed : (missing : Words4) (G : Rest) → 2 ≤ xDimension (G .head)
     → gridFaces missing G
@@ -27,7 +22,7 @@ grid-listed missing G h =
     let w = xDimension (G .head) - 1 in
     tabs-tab (gridFace missing G) (zDimension (G .head) - 1) w (omega arith)
     ∙ tab-same _ (λ q. quad (gridCorner missing G q) (q % w) (q / w)) ((zDimension (G .head) - 1) * w)
-    (λ q l. ap (λ (n : ℕ). quad (gridCorner missing G n) (q % w) (q / w)) (quad-number q w))
+    (λ q l. ap (λ (n : ℕ). quad (gridCorner missing G n) (q % w) (q / w)) (div-mod q w))
 
 pub sides-listed : (E : Extrusion) → 2 ≤ length (E .section)
     → sides E ≡ tab (λ q. quad (sideCorner E) (q / (length (E .section) - 1)) (q % (length (E .section) - 1))) ((length (E .spine) - 1) * (length (E .section) - 1)) 0

@@ -1,10 +1,10 @@
 -- FORMAT 4: P, C and N of a line set, a grid and an extrusion are the points, the corners and the indices of what its block makes.
-use mathlib.Core.Path.{_≡_, refl, sym, ap, ap₂, _∙_}
+use mathlib.Core.Path.{_≡_, refl, ap, ap₂, _∙_}
 use mathlib.Core.Bool.{Bool, true, false, cond}
 use mathlib.Core.Option.{Option, none, some}
 use mathlib.Core.List.{List, [], _∷_, _++_, map, reverse}
 use Prim.Native.Nat.{ℕ, suc, _+_, _-_, _*_}
-use native.Mathlib.Nat.{mul-assoc, mul-comm}
+use native.Mathlib.Nat.{mul-comm}
 use native.Mathlib.Omega.{arith}
 use lib.Dec.{ltb}
 use lib.ListN.{length, length-map, length-reverse}
@@ -17,6 +17,7 @@ use Rattle.block.specs.Runs.{Run, runs, sumOver}
 use Rattle.lists.specs.Loops.{tab}
 use Rattle.lists.proofs.Tabs.{length-tab}
 use Rattle.lists.specs.Lists.{mapN, joinN, total, place}
+use Rattle.lists.proofs.Numbers.{rows-of}
 use Rattle.mesh.specs.Words.{words3}
 use Rattle.mesh.specs.Soup.{Face}
 use Rattle.mesh.specs.Vertices.{Key, sameKey, width}
@@ -90,10 +91,6 @@ module _ (missing : Words4) (bs : List ℕ) where
   pub line-set-indices : length (lineSetMesh missing bs .indices) ≡ lineSetSizes bs (headerOf bs) .indices
   unfolding lineSetSizes restOf coordIn lineSetMesh linesOf
   line-set-indices = lines-indices missing (restOf bs) (coordIn bs) (lineVertices missing (restOf bs) (coordIn bs))
-
--- n rows of m, of w each
-rows-of : (n m w : ℕ) → n * (m * w) ≡ w * (n * m)
-rows-of n m w = sym (mul-assoc n m w) ∙ mul-comm (n * m) w
 
 -- ---- grid
 

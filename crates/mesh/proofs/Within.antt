@@ -14,8 +14,7 @@ use Rattle.bits.specs.declared.Words4.{Words4}
 use Rattle.block.specs.Header.{headerOf}
 use Rattle.block.specs.Lists.{listBytes}
 use Rattle.block.specs.Runs.{Run, runs, allBelow, kept}
-use Rattle.block.specs.Value.{words2, words3}
-use Rattle.block.specs.Texture.{pairOf}
+use Rattle.block.specs.Value.{words3}
 use Rattle.lists.specs.Loops.{tab, All}
 use Rattle.lists.proofs.Tabs.{tab-at}
 use Rattle.lists.specs.Lists.{mapN}
@@ -26,8 +25,7 @@ use Rattle.mesh.specs.FaceSet.{Rest, pointCount, colourOf, cornerBy, cor
 use Rattle.mesh.specs.Quads.{tabs, quad}
 use Rattle.mesh.specs.Grid.{xDimension, zDimension, gridCorner, gridFace, gridFaces}
 use Rattle.mesh.specs.Frames.{at}
-use Rattle.mesh.specs.Arcs.{at2}
-use Rattle.mesh.specs.Extrusion.{Extrusion, extrusionOf, sectionOf, spineCount, sectionCount, pointNumber, cornerAt, sideCorner, capCorner, sides, closes, capLength, capFace, faceIf, hasCap, caps, extrusionFaces}
+use Rattle.mesh.specs.Extrusion.{Extrusion, extrusionOf, spineCount, pointNumber, cornerAt, sideCorner, capCorner, sides, closes, capLength, capFace, faceIf, hasCap, caps, extrusionFaces}
 use Rattle.mesh.specs.Lines.{these, somes, itemOf, itemsOf, lineKeys, cornerFor, lineFaces}
 use Rattle.lists.proofs.Lists.{All-append, All-by, All-flat, All-mapN}
 use Rattle.lists.proofs.Numbers.{cell}
@@ -170,7 +168,3 @@ module _ (bs : List ℕ) where
   pub spine-at : (i : ℕ) → i < spineCount (headerOf bs) → at (extrusionOf bs .spine) i ≡ floats (words3 (listBytes bs (headerOf bs) 0) i)
   unfolding at extrusionOf
   spine-at i h = tab-at (λ k. floats (words3 (listBytes bs (headerOf bs) 0) k)) (spineCount (headerOf bs)) i _ h
-
-  pub section-at : (j : ℕ) → j < sectionCount (headerOf bs) → at2 (extrusionOf bs .section) j ≡ pairOf (words2 (listBytes bs (headerOf bs) 1) j)
-  unfolding at2 extrusionOf sectionOf
-  section-at j h = tab-at (λ k. pairOf (words2 (listBytes bs (headerOf bs) 1) k)) (sectionCount (headerOf bs)) j _ h

@@ -18,9 +18,9 @@ use Rattle.mesh.specs.Normals.{isNear, nearBy, orElse}
 use Rattle.tables.specs.declared.layout.Plan.{Plan}
 use Rattle.lists.specs.Parts.{spliced, Out}
 use Rattle.lists.proofs.Splices.{put-size, put-at, put-out}
+use Rattle.lists.proofs.Numbers.{last-or}
 use Rattle.normals.specs.Rows.{normalIn, unitIn, vector, noUnit, Mirrored, Summed}
 use Rattle.normals.specs.Written.{three}
-use Rattle.normals.proofs.Making.{last-or}
 
 -- ---- no unit vector is near to nothing
 

@@ -2,7 +2,7 @@
 use mathlib.Core.Path.{_≡_, refl, sym, ap, ap₂, _∙_}
 use mathlib.Core.Bool.{true, false, cond}
 use mathlib.Core.List.{List, [], _∷_, _++_, map}
-use Prim.Native.Nat.{ℕ, zero, suc, _+_, _*_, _<_}
+use Prim.Native.Nat.{ℕ, suc, _+_, _*_, _<_}
 use native.Mathlib.Nat.{zero-add}
 use native.Mathlib.Omega.{arith}
 use lib.Dec.{eqb}
@@ -19,7 +19,7 @@ use Rattle.lists.specs.Lists.{joinN, total, flat}
 use Rattle.mesh.specs.Words.{words3, no3, bits}
 use Rattle.mesh.specs.Soup.{Corner, noCorner, Face, Frame, pointsOf}
 use Rattle.mesh.specs.Normals.{outline, facing, Hit, hits, hitsOf, incident, creaseSum, orElse, generated, cornerNormal}
-use Rattle.lists.proofs.Lists.{All-of, All-of-map, getD-map-lt, length-joinN, piece, length-flat, in-flat, middle}
+use Rattle.lists.proofs.Lists.{All-of, All-of-map, getD-map-lt, length-joinN, piece, length-flat, in-flat, middle, map-part}
 use Rattle.tables.specs.declared.layout.Plan.{Plan}
 use Rattle.tables.specs.Soups.{startIn, bare, pointsIn, soupIn, frameIn, Holds}
 use Rattle.tables.proofs.Stays.{start-le}
@@ -96,19 +96,6 @@ written {w} {t} {F} {fs} H e =
     ∙ ap (λ (l : List Words3). flat (map words3 l)) (all-words F e fs 0 fs)
 
 -- ---- corner by corner
-
-map-part : {A B : Type 0} (f : A → B) (n k : ℕ) (l : List A) → map f (take n (drop k l)) ≡ take n (drop k (map f l))
-map-part f n k l = fore n (drop k l) ∙ ap (take n) (aft k l)
-  where
-    fore : (n : ℕ) (l : List _) → map f (take n l) ≡ take n (map f l)
-    fore zero l = refl
-    fore (suc n) [] = refl
-    fore (suc n) (x ∷ l) = ap (λ (r : List _). f x ∷ r) (fore n l)
-
-    aft : (k : ℕ) (l : List _) → map f (drop k l) ≡ drop k (map f l)
-    aft zero l = refl
-    aft (suc k) [] = refl
-    aft (suc k) (x ∷ l) = aft k l
 
 module _ {w : List ℕ} {t : Plan} {F : Frame} {fs : List Face} (H : Holds w t F fs) where
   normals-length : length (joinN (λ (num : ℕ) (f : Face). map (cornerNormal F fs num f) f) 0 fs) ≡ t .count

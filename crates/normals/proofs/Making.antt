@@ -1,14 +1,12 @@
 -- The tables, written one after another: what was written stays.
 use mathlib.Core.Path.{_≡_, refl, sym, ap, ap₂, _∙_}
-use mathlib.Core.Logic.{_⊎_, inl, inr, ⊎-elim}
-use mathlib.Core.Bool.{Bool, true, false, cond}
+use mathlib.Core.Logic.{⊎-elim}
+use mathlib.Core.Bool.{Bool, cond}
 use mathlib.Core.List.{List}
 use Prim.Native.Nat.{ℕ, zero, suc, _+_, _*_, _-_, _≤_, _<_}
-use native.Mathlib.Nat.{eq-or-lt-of-le, le-of-suc-le-suc, not-suc-le-zero}
-use native.Mathlib.Numerals.{add-one}
+use native.Mathlib.Nat.{not-suc-le-zero}
 use native.Mathlib.Omega.{arith}
-use lib.Dec.{T, eqb, leb}
-use borrow.Author.Tests.{leb-true, leb-false}
+use lib.Dec.{T, eqb}
 use lib.ListN.{length, getD, set, length-set}
 use lib.Ieee.{Float, binary32, ofBits, toBits, fits}
 use lib.Ieee.Bits.{ofBits-toBits}
@@ -26,7 +24,8 @@ use Rattle.tables.specs.declared.layout.Plan.{Plan}
 use Rattle.lists.specs.Parts.{seg, Kept}
 use Rattle.tables.specs.Soups.{ownerIn, startIn, pointsIn, faceIn, frameIn, Sound}
 use Rattle.lists.proofs.Keep.{kept-all, kept-set, kept-then, kept-at, kept-seg, length-seg, set-hit, set-miss}
-use Rattle.tables.proofs.Stays.{rise, start-le, owner-kept, start-kept, sound-kept, face-kept, frame-kept, names-in}
+use Rattle.tables.proofs.Stays.{start-le, owner-kept, start-kept, sound-kept, face-kept, frame-kept, names-in}
+use Rattle.lists.proofs.Numbers.{last-or, le-or-lt}
 use Rattle.normals.specs.Group.{gathersIn, Grouped}
 use Rattle.normals.specs.Rows.{at3, unitAt, normalIn, unitIn, facingIn, OwnedTo, Rowed, Owned, Made}
 use Rattle.normals.proofs.Counting.{grouped-by}
@@ -68,16 +67,6 @@ facing-made {w} {t} S ccw g a b h ea eb points names ep en n r e er =
     er ∙ ap (handed ccw) (e ∙ ap₂ (λ (x y : List ℕ). newell (spots x y)) (ep ∙ ap (seg w (t .points)) s) q)
 
 -- ---- one step more
-
-le-or-lt : (a b : ℕ) → (a ≤ b) ⊎ (b < a)
-le-or-lt a b = go (leb a b) refl
-  where
-    go : (r : Bool) → leb a b ≡ r → (a ≤ b) ⊎ (b < a)
-    go true e = inl (leb-true a b e)
-    go false e = inr (leb-false a b e)
-
-pub last-or : (g n : ℕ) → g < n + 1 → (g ≡ n) ⊎ (g < n)
-last-or g n h = eq-or-lt-of-le (le-of-suc-le-suc (rw add-one at h))
 
 rowed-step : {v w w′ : List ℕ} {t : Plan} {ccw : Bool} (g : ℕ) (n : V3) → Rowed v w t ccw g → Kept (t .rows + 7 * g) w w′
     → at3 w′ (t .rows + 7 * g) ≡ n → unitAt w′ (t .rows + 7 * g + 3) ≡ unitOf n → n ≡ facingIn v t ccw g → Rowed v w′ t ccw (g + 1)

@@ -21,16 +21,13 @@ use Rattle.tables.specs.Soups.{gatherIn, ownerIn, startIn, cornerIn, faceIn, so
 use Rattle.lists.proofs.Keep.{length-seg, seg-at}
 use Rattle.tables.proofs.Stays.{start-le, face-kept, soup-kept}
 use Rattle.tables.proofs.Joins.{join-soup}
+use Rattle.lists.proofs.Lists.{cond-map}
 use Rattle.normals.specs.Group.{uses, usesFrom, gathersIn}
 use Rattle.normals.specs.Rows.{normalIn, facingIn, hitIn, hitsFrom, hitsAt, Owned, Made}
 use Rattle.normals.specs.Written.{normalAt, cornerNormalIn, faceNormals, normalsOf}
 
 abbrev hit : ℕ → V3 → Hit
 hit g n = record { face = g; normal = n }
-
-cond-map : {A B : Type 0} (f : A → B) (c : Bool) (x : A) (l : List A) → map f (cond c (x ∷ l) l) ≡ cond c (f x ∷ map f l) (map f l)
-cond-map f true x l = refl
-cond-map f false x l = refl
 
 module _ (w : List ℕ) (t : Plan) (room : Room (length w) t) where
   hits-here : (p a : ℕ) → a < t .count → hitsFrom w t p a ≡ cond (eqb (gatherIn w t a) p) (hitIn w t a ∷ hitsFrom w t p (suc a)) (hitsFrom w t p (suc a))

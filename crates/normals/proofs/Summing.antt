@@ -20,11 +20,12 @@ use Rattle.lists.specs.Parts.{Kept}
 use Rattle.tables.specs.Soups.{ownerIn}
 use Rattle.lists.proofs.Keep.{kept-then, kept-seg}
 use Rattle.tables.proofs.Stays.{start-le, gather-kept, owner-kept, start-kept, sound-kept}
+use Rattle.lists.proofs.Numbers.{last-or}
 use Rattle.normals.specs.Group.{uses, usesFrom, gathersIn}
 use Rattle.normals.specs.Rows.{unitAt, normalIn, hitIn, hitsFrom, hitsAt, Ready, everyAt, sumIn, isEvery, isBound, SummedTo, Mirrored, Summed, Made}
 use Rattle.normals.proofs.Counting.{grouped-by, grouped-kept}
 use Rattle.normals.proofs.Walks.{length-gathers}
-use Rattle.normals.proofs.Making.{unit-kept, normal-kept, unitIn-kept, last-or}
+use Rattle.normals.proofs.Making.{unit-kept, normal-kept, unitIn-kept}
 
 -- of the uses only corners from i on are asked
 map-uses : (f g : ℕ → Hit) (p i : ℕ) (cs : List ℕ) → ((c : ℕ) → i ≤ c → c < i + length cs → f c ≡ g c) → map f (uses p i cs) ≡ map g (uses p i cs)

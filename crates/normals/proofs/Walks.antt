@@ -15,15 +15,11 @@ use Rattle.tables.specs.Soups.{gatherIn, ownerIn}
 use Rattle.lists.specs.Loops.{All}
 use Rattle.lists.specs.Parts.{seg}
 use Rattle.lists.proofs.Keep.{length-seg, seg-at, part-seg}
-use Rattle.lists.proofs.Lists.{drop-next, All-map, All-getD, All-of-map}
+use Rattle.lists.proofs.Lists.{drop-next, All-map, All-of-map, map-map}
 use Rattle.normals.specs.Group.{below, usesFrom, gathersIn}
 use Rattle.normals.specs.Rows.{normalIn, unitIn, hitOf, hitIn, hitsFrom, hitsAt, Ready, noUnit}
 use Rattle.normals.proofs.Floats.{near-mirrored}
 use Rattle.normals.proofs.Counting.{below-le, below-next, below-all, uses-within}
-
-map-map : {A B C : Type 0} (g : B → C) (f : A → B) (l : List A) → map g (map f l) ≡ map (λ (x : A). g (f x)) l
-map-map g f [] = refl
-map-map g f (x ∷ l) = ap (λ (r : List _). g (f x) ∷ r) (map-map g f l)
 
 module _ {w : List ℕ} {t : Plan} (R : Ready w t) where
   pub length-gathers : length (gathersIn w t) ≡ t .count
@@ -69,9 +65,6 @@ module _ {w : List ℕ} {t : Plan} (R : Ready w t) where
     pub faces-hit : map (hitOf w t) (take (b - a) (drop a w)) ≡ hitsAt w t p
     unfolding hitsFrom hitIn
     faces-hit = ap (map (hitOf w t)) faces-are ∙ map-map (hitOf w t) (ownerIn w t) (usesFrom (gathersIn w t) p 0)
-
-pub face-low : (n : ℕ) (us : List ℕ) → All (λ (g : ℕ). g < n) us → (k g : ℕ) → k < length us → g ≡ getD us k 0 → g < n
-face-low n us a k g h e = rw e (All-getD (λ (g : ℕ). g < n) us a 0 k h)
 
 -- a sum f over faces, from s₀ on: s and the faces from k on give the same
 pub record Left (f : V3 → List Hit → V3) (w : List ℕ) (t : Plan) (s₀ : V3) (us : List ℕ) (s : V3) (k : ℕ) : Type 0 where

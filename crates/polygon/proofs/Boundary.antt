@@ -1,21 +1,22 @@
 -- The triangles of a face fill its outline: of the directed edges of all triangles, those that do not cancel are the outline's, whatever the points are.
 use mathlib.Core.Path.{_≡_, refl, sym, ap, _∙_, subst}
-use mathlib.Core.Bool.{Bool, true, false, _&&_}
+use mathlib.Core.Bool.{Bool, true, false}
 use mathlib.Core.List.{List, [], _∷_, _++_, map}
 use Prim.Native.Nat.{ℕ, zero, suc, _+_, _-_, _*_, _%_, _<_}
-use native.Mathlib.Nat.{mod-eq-of-lt, add-zero, eq-or-lt-of-le}
-use mathlib.Core.Logic.{⊎-elim}
+use native.Mathlib.Nat.{mod-eq-of-lt, add-zero}
 use native.Mathlib.Omega.{arith}
 use lib.Dec.{eqb}
-use lib.ListN.{length, getD, List·getD-append}
-use lib.Seq.{getD-at}
+use lib.ListN.{length, getD}
 use lib.Ieee.{nan}
 use Rattle.lists.specs.Loops.{pick, tab}
+use Rattle.lists.proofs.Numbers.{before-suc}
+use Rattle.lists.proofs.Lists.{next-around}
+use Rattle.lists.proofs.Tests.{and-comm}
 use Rattle.polygon.specs.Ears.{Pt, Tri, remove, fanFrom, fan, goes, firstEar, before, here, after, corner, clip, place, order, isReversed, turn, earClipBy, earClip, outline}
 use Rattle.polygon.specs.Edges.{back, edge, named, tris, walk, around}
 use Rattle.polygon.specs.Face.{faceTris}
 use Rattle.polygon.proofs.Count.{goes-long, goes-ear, either}
-use Rattle.lists.proofs.Loops.{back-zero, back-some, on-last, on-more}
+use Rattle.lists.proofs.Loops.{back-zero}
 
 -- ---- a fan fills the list that it is over
 
@@ -57,24 +58,6 @@ module _ (h : ℕ → ℕ → ℕ) where
       let ih : walk h z s b + h (getD (z ∷ s) (length s) 0) c ≡ walk h z s c + h (getD (z ∷ s) (length s) 0) b = walk-end z b c s in
       omega arith
 
--- the places before and after, with no remainder
-before-suc : (n j : ℕ) → suc j < n → (suc j + n - 1) % n ≡ j
-before-suc n j b = sym (back-some n (suc j) b (λ (z : suc j ≡ 0). omega arith)) ∙ omega arith
-
-next-is : (x : ℕ) (r : List ℕ) (j : ℕ) → j < length r → getD (x ∷ r) ((suc j + 1) % suc (length r)) 0 ≡ getD (r ++ (x ∷ [])) (suc j) 0
-next-is x r j b = ⊎-elim at-end inside (eq-or-lt-of-le b)
-  where
-    w : suc j < suc (length r)
-    w = omega arith
-
-    at-end : suc j ≡ length r → getD (x ∷ r) ((suc j + 1) % suc (length r)) 0 ≡ getD (r ++ (x ∷ [])) (suc j) 0
-    at-end e = ap (λ (k : ℕ). getD (x ∷ r) k 0) (sym (on-last (suc (length r)) (suc j) w (omega arith))) ∙ sym (getD-at r x [] 0 (suc j) (sym e))
-
-    inside : suc j < length r → getD (x ∷ r) ((suc j + 1) % suc (length r)) 0 ≡ getD (r ++ (x ∷ [])) (suc j) 0
-    inside q =
-        let n : suc j + 1 ≡ suc (suc j) = omega arith in
-        ap (λ (k : ℕ). getD (x ∷ r) k 0) (sym (on-more (suc (length r)) (suc j) w (λ (z : suc j + 1 ≡ suc (length r)). omega arith)) ∙ n) ∙ sym (List·getD-append r (x ∷ []) 0 (suc j) q)
-
 module _ (h : ℕ → ℕ → ℕ) where
   abbrev Out : List ℕ → ℕ → ℕ → ℕ → ℕ → Type 0
   Out l i a b c = around h (remove i l) + (h a b + h b c) ≡ around h l + h a c
@@ -93,7 +76,7 @@ module _ (h : ℕ → ℕ → ℕ) where
   outline-remove (x ∷ y ∷ s) (suc j) b m =
       let r : List ℕ = y ∷ s in
       let p : (suc j + suc (length r) - 1) % suc (length r) ≡ j = before-suc (suc (length r)) j b in
-      let q : after (x ∷ r) (suc j) ≡ getD (r ++ (x ∷ [])) (suc j) 0 = next-is x r j (omega arith) in
+      let q : after (x ∷ r) (suc j) ≡ getD (r ++ (x ∷ [])) (suc j) 0 = next-around x r j (omega arith) in
       subst (λ (k : ℕ). Out (x ∷ r) (suc j) (getD (x ∷ r) k 0) (here (x ∷ r) (suc j)) (after (x ∷ r) (suc j))) (sym p)
       (subst (λ (c : ℕ). Out (x ∷ r) (suc j) (getD (x ∷ r) j 0) (here (x ∷ r) (suc j)) c) (sym q) (walk-remove h x x r j (omega arith)))
 
@@ -208,12 +191,6 @@ earClipBy-fills P h n =
 
 edge-back : (u v : ℕ) → back (edge u v) ≡ edge v u
 edge-back u v = λ i a b. pick (and-comm (eqb b u) (eqb a v) i) 1 0
-  where
-    and-comm : (a b : Bool) → (a && b) ≡ (b && a)
-    and-comm true true = refl
-    and-comm true false = refl
-    and-comm false true = refl
-    and-comm false false = refl
 
 ears-fill : (pts : List Pt) (h : ℕ → ℕ → ℕ) → Fills h (earClip pts) (outline (length pts))
 unfolding earClip

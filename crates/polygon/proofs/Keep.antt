@@ -12,9 +12,10 @@ use lib.ListN.{length, getD, set, length-set, List·getD-eq-default}
 use lib.Seq.{sets, getD-set-same, getD-set-other}
 use lib.Ieee.{le}
 use Rattle.lists.specs.Loops.{pick, any, tab, first}
+use Rattle.lists.proofs.Stores.{flag-gone}
 use Rattle.polygon.specs.Ears.{Pt, +0, cross2, blocks, isEar, before, here, after, remove, place, order}
-use Rattle.polygon.specs.Memo.{hits, hit, Tells, Once, earOf, Known, Sound, entry, Full}
-use Rattle.lists.proofs.Tests.{both, never, and-yes, and-right, and-no, and-over, and-drop, none-head, none-tail}
+use Rattle.polygon.specs.Memo.{hits, hit, Tells, Once, earOf, Known, Sound, entry}
+use Rattle.lists.proofs.Tests.{both, never, and-yes, and-right, and-no, and-over, and-drop, none-head, none-tail, eqb-other}
 use Rattle.lists.proofs.Searches.{first-has, first-find, first-below, any-at, Found, any-tab-find, any-tab-has}
 
 -- ---- a search in a list
@@ -35,9 +36,6 @@ once-remove i [] o = tt
 once-remove zero (x ∷ l) o = o .1
 once-remove (suc i) (x ∷ l) o = (any-remove-none (eqb x) i l (o .0), once-remove i l (o .1))
 
-other : (x y : ℕ) → eqb x y ≡ false → eqb y x ≡ false
-other x y e = ne-eqb y x (λ (q : y ≡ x). eqb-false x y e (sym q))
-
 -- the test g, of corners but x
 abbrev but : ℕ → (ℕ → Bool) → ℕ → Bool
 but x g k = not (eqb k x) && g k
@@ -47,7 +45,7 @@ unfolding any
 any-skip g x [] e = refl
 any-skip g x (y ∷ l) e =
     let r : any g l ≡ any (but x g) l = any-skip g x l (none-tail (eqb x y) (any (eqb x) l) e) in
-    let q : eqb y x ≡ false = other x y (none-head (eqb x y) (any (eqb x) l) e) in
+    let q : eqb y x ≡ false = eqb-other x y (none-head (eqb x y) (any (eqb x) l) e) in
     rw (q, r)
 
 any-remove : (g : ℕ → Bool) (l : List ℕ) (i : ℕ) → Once l → i < length l → any g (remove i l) ≡ any (but (getD l i 0) g) l
@@ -62,18 +60,6 @@ any-remove g (y ∷ l) (suc i) o h =
     ap (λ (b : Bool). pick (g y) true b) r ∙ sym (ap (λ (b : Bool). pick (not b && g y) true (any (but (getD l i 0) g) l)) q)
 
 -- ---- a corner goes
-
-zero-there : (left : List ℕ) (x : ℕ) → getD (set left x 0) x 0 ≡ 0
-zero-there [] x = refl
-zero-there (y ∷ l) zero = refl
-zero-there (y ∷ l) (suc x) = zero-there l x
-
-flag-gone : (left : List ℕ) (x j : ℕ) → eqb (getD (set left x 0) j 0) 1 ≡ (not (eqb j x) && eqb (getD left j 0) 1)
-flag-gone left x j = go (eqb j x) refl
-  where
-    go : (b : Bool) → eqb j x ≡ b → eqb (getD (set left x 0) j 0) 1 ≡ (not b && eqb (getD left j 0) 1)
-    go true e = let w : getD (set left x 0) j 0 ≡ 0 = ap (λ (k : ℕ). getD (set left x 0) k 0) (eqb-true j x e) ∙ zero-there left x in ap (λ (v : ℕ). eqb v 1) w
-    go false e = ap (λ (v : ℕ). eqb v 1) (getD-set-other left x j 0 0 (eqb-false j x e))
 
 hits-gone : (left : List ℕ) (x : ℕ) (g : ℕ → Bool) (j : ℕ) → hits left (but x g) j ≡ hits (set left x 0) g j
 unfolding hits
@@ -106,11 +92,6 @@ module _ (P : ℕ → Pt) (a b c : ℕ) where
   pub hits-others : (left : List ℕ) → hits (set (set (set left a 0) b 0) c 0) (blocks P a b c) ≡ hits left (blocks P a b c)
   hits-others left =
       hits-without (blocks P a b c) c own-c (set (set left a 0) b 0) ∙ hits-without (blocks P a b c) b own-b (set left a 0) ∙ hits-without (blocks P a b c) a own-a left
-
-pub put-back : (l : List ℕ) (k : ℕ) → set (set l k 0) k (getD l k 0) ≡ l
-put-back [] k = refl
-put-back (x ∷ l) zero = refl
-put-back (x ∷ l) (suc k) = ap (λ (r : List ℕ). x ∷ r) (put-back l k)
 
 hits-less : (left : List ℕ) (x : ℕ) (g : ℕ → Bool) (j : ℕ) → hits left g j ≡ false → hits (set left x 0) g j ≡ false
 unfolding hits
@@ -378,15 +359,3 @@ module _ (P : ℕ → Pt) (left : List ℕ) where
       ap (λ (b : Bool). not (le (cross2 (P (before l i)) (P (here l i)) (P (after l i))) +0) && not b) (sym (t (blocks P (before l i) (here l i) (after l i))))
 
 -- ---- the code's own arithmetic
-
-pub full-go : (v i : ℕ) (s s′ : List ℕ) → Full v i s → i < length s → s′ ≡ set s i v → Full v (i + 1) s′
-full-go v i s s′ f h e j q = rw e (⊎-elim last less (eq-or-lt-of-le u))
-  where
-    u : j ≤ i
-    u = omega arith
-
-    last : j ≡ i → getD (set s i v) j 0 ≡ v
-    last w = ap (λ (k : ℕ). getD (set s i v) k 0) w ∙ getD-set-same s i v 0 h
-
-    less : j < i → getD (set s i v) j 0 ≡ v
-    less w = getD-set-other s i j v 0 (λ (z : j ≡ i). omega arith) ∙ f j w

@@ -2,14 +2,13 @@
 use mathlib.Core.Path.{_≡_, sym, ap, _∙_, subst}
 use mathlib.Core.Bool.{Bool, true, false}
 use mathlib.Core.List.{List, [], _∷_, map}
-use Prim.Native.Nat.{ℕ, zero, suc, _+_, _-_, _*_, _≤_, _<_}
-use native.Mathlib.Nat.{zero-add}
+use Prim.Native.Nat.{ℕ, _+_, _-_, _*_, _≤_, _<_}
 use native.Mathlib.Omega.{arith}
 use lib.ListN.{length, getD, take, drop}
 use lib.Seq.{sets, length-take-le}
 use lib.Ieee.{Float}
 use Rattle.math.specs.declared.vector.V3.{V3}
-use Rattle.lists.specs.Loops.{tab, All}
+use Rattle.lists.specs.Loops.{All}
 use Rattle.polygon.specs.Points.{spots}
 use Rattle.polygon.specs.Ears.{Tri, triple, fanFrom, fan, outline, turn, flat}
 use Rattle.polygon.specs.Plane.{pairs, projection, flat2}
@@ -17,11 +16,11 @@ use Rattle.polygon.specs.Face.{faceTris, triangles}
 use Rattle.polygon.specs.Fans.{isFan}
 use Rattle.polygon.specs.Edges.{Within, edge, named, tris, around}
 use Rattle.polygon.proofs.Count.{length-outline, count-face, face-fan}
-use Rattle.polygon.proofs.Corners.{face-within, below}
+use Rattle.polygon.proofs.Corners.{face-within}
 use Rattle.lists.proofs.Tabs.{tab-at}
 use Rattle.polygon.proofs.Boundary.{face-boundary}
 use Rattle.polygon.proofs.Lists.{fan-start, fan-write, fan-written}
-use Rattle.polygon.proofs.Whole.{length-pairs, length-flat, map-same}
+use Rattle.polygon.proofs.Whole.{length-pairs, map-same}
 use Rattle.polygon.proofs.Projection.{length-projection, length-spots, written}
 
 -- ---- the fan of an outline
@@ -86,13 +85,6 @@ module _ (ccw convex : Bool) (points : List V3) (normal : V3) where
   unfolding triangles
   triangles-within =
       subst (λ (k : ℕ). All (Within k) (faceTris convex (projection ccw normal points))) (length-projection ccw normal points) (face-within convex (projection ccw normal points))
-
-  -- as they are written: three numbers each, all below n
-  pub triangles-length : length (flat (triangles ccw convex points normal)) ≡ (length points - 2) * 3
-  triangles-length = length-flat (triangles ccw convex points normal) ∙ ap (λ (k : ℕ). k * 3) triangles-count
-
-  pub triangles-below : (k : ℕ) → k < length (flat (triangles ccw convex points normal)) → getD (flat (triangles ccw convex points normal)) k 0 < length points
-  triangles-below k h = below (length points) (triangles ccw convex points normal) k triangles-within h
 
   -- the triangles' edges from u to v less those from v to u are as many as the outline's, where corner j is named f j, as by its point
   pub triangles-boundary : (f : ℕ → ℕ) (u v : ℕ)

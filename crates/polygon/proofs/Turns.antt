@@ -10,12 +10,13 @@ use lib.Seq.{sets, length-take-le, take-take, take-append-le, getD-take, getD-dr
 use lib.Ieee.{le}
 use borrow.Rule.Slice.PartMut.{putMid, midOf, mid-len}
 use Rattle.lists.specs.Loops.{first}
-use Rattle.lists.proofs.Stores.{tail-take, tail-drop, front-drop}
+use Rattle.lists.proofs.Stores.{tail-take, tail-drop, front-drop, put-back}
 use Rattle.lists.proofs.Searches.{first-from}
+use Rattle.lists.specs.Parts.{Full}
 use Rattle.polygon.specs.Ears.{Pt, Tri, triple, +0, cross2, blocks, isEar, corner, remove, order}
-use Rattle.polygon.specs.Memo.{hits, Tells, Once, earOf, Known, Sound, Clear, Full, flags, kept, Searched, Gone, Held, Fresh}
+use Rattle.polygon.specs.Memo.{hits, Tells, Once, earOf, Known, Sound, Clear, flags, kept, Searched, Gone, Held, Fresh}
 use Rattle.polygon.proofs.Tables.{length-flags, flag-at, stored, as-was}
-use Rattle.polygon.proofs.Keep.{known-bent, known-hit, sound-store, sound-start, sound-gone, tells-start, tells-gone, once-start, once-remove, hits-others, put-back, ear-bent, ear-blocked, ear-found, ear-free, ear-is, go-on}
+use Rattle.polygon.proofs.Keep.{known-bent, known-hit, sound-store, sound-start, sound-gone, tells-start, tells-gone, once-start, once-remove, hits-others, ear-bent, ear-blocked, ear-found, ear-free, ear-is, go-on}
 
 -- ---- the corners at a place of the order, read from the slice
 

@@ -7,6 +7,7 @@ use lib.ListN.{length, getD, take, drop, set}
 use lib.Dec.{ltb, eqb}
 use lib.Ieee.{Float, nan, le}
 use Rattle.lists.specs.Loops.{pick, any, first}
+use Rattle.lists.specs.Parts.{Full}
 use Rattle.polygon.specs.Ears.{Pt, +0, cross2, pointInTri, blocks, order, remove}
 use Rattle.polygon.specs.declared.memo.Dot.{Dot}
 
@@ -61,10 +62,6 @@ Sound P left memo = (b : ℕ) → Known P left (getD memo (b * 3) 0) b (getD mem
 -- what it has of b between a and c; 0 where it was last looked at between others
 unfoldable pub entry : List ℕ → ℕ → ℕ → ℕ → ℕ
 entry memo a b c = pick (eqb (getD memo (b * 3) 0) a && eqb (getD memo (b * 3 + 1) 0) c) (getD memo (b * 3 + 2) 0) 0
-
--- the first n words are v
-abbrev pub Full : ℕ → ℕ → List ℕ → Type 0
-Full v n l = (j : ℕ) → j < n → getD l j 0 ≡ v
 
 -- no corner before k that is left lies in a b c
 abbrev pub Clear : (ℕ → Pt) → List ℕ → ℕ → ℕ → ℕ → ℕ → Type 0

@@ -10,7 +10,7 @@ use lib.Dec.{eqb, ltb}
 use lib.ListN.{length, length-map}
 use Rattle.lists.specs.Loops.{tab, All}
 use Rattle.lists.specs.Lists.{flat, total}
-use Rattle.lists.proofs.Lists.{All-map, All-of, All-of-map, All-by, All-flat}
+use Rattle.lists.proofs.Lists.{All-map, All-of, All-of-map, All-by, All-flat, cond-long}
 use Rattle.lists.proofs.Pieces.{flat-append, map-flat}
 use Rattle.lists.proofs.Tabs.{map-tab}
 use Rattle.lists.proofs.Totals.{total-each}
@@ -121,15 +121,11 @@ module _ {A B : Type 0} (f : A → B) (points : ℕ) (g : Topology) where
       ∙ ap flat (map-map (map f) (λ (r : Run). keptBy (a r) points g (r .items)) rs ∙ (λ i. map (λ (r : Run). map-kept (a r) (r .items) i) rs))
 
 -- each has as many corners as its set says
-both-long : (b : Bool) (x y : List ℕ) → length x ≡ 3 → length y ≡ 3 → length (cond b x y) ≡ 3
-both-long true x y e f = e
-both-long false x y e f = f
-
 pub places-long : (g : Topology) (k : ℕ) → length (placesOf g k) ≡ widthOf g
 unfolding placesOf widthOf
 places-long Triangles k = refl
 places-long Fans k = refl
-places-long Strips k = both-long (eqb (k % 2) 1) _ _ refl refl
+places-long Strips k = cond-long (eqb (k % 2) 1) _ _ refl refl
 places-long Quads k = refl
 
 pub primitive-long : (g : Topology) (es : List ℕ) (k : ℕ) → length (primitiveOf g es k) ≡ widthOf g

@@ -2,15 +2,14 @@
 use mathlib.Core.Path.{_≡_, sym, ap, _∙_}
 use mathlib.Core.Bool.{true}
 use mathlib.Core.List.{List, [], _∷_, map, map-map}
-use Prim.Native.Nat.{ℕ, suc, _+_, _*_, _≤_, _<_}
+use Prim.Native.Nat.{ℕ, suc, _+_, _≤_, _<_}
 use native.Mathlib.Omega.{arith}
 use lib.ListN.{length, getD, length-map}
 use Rattle.block.specs.declared.topology.Topology.{Topology}
 use Rattle.block.specs.Runs.{Run, allBelow}
 use Rattle.lists.specs.Loops.{All}
-use Rattle.lists.specs.Lists.{mapN, total}
+use Rattle.lists.specs.Lists.{mapN}
 use Rattle.lists.proofs.Lists.{All-of, All-map, All-getD, length-mapN, getD-mapN, getD-map-lt}
-use Rattle.lists.proofs.Totals.{total-each}
 use Rattle.primitives.specs.Primitives.{stretches, placesOf, primitiveOf}
 use Rattle.primitives.specs.Kept.{widthOf, keptOver, keptPrimitives}
 use Rattle.primitives.proofs.Closed.{map-over, all-over, places-long, primitive-long, width-three, all-below}
@@ -101,7 +100,3 @@ module _ (points : ℕ) (g : Topology) (ws : List ℕ) where
       each : (us : List Use) → ((i : ℕ) → i < length us → getD us i noUse .point < points) → All (λ (u : Use). u .point < points) us
       each [] h = tt
       each (u ∷ us) h = (h 0 (omega arith), each us (λ i b. h (suc i) (omega arith)))
-
-  -- and the corners of all
-  pub listings-corners : total (λ (l : Listing). length (l .uses)) (primitiveListings points g ws) ≡ widthOf g * length (keptPrimitives points g ws)
-  listings-corners = total-each (λ (l : Listing). length (l .uses)) (widthOf g) (primitiveListings points g ws) listings-wide ∙ ap (λ (n : ℕ). widthOf g * n) (length-listings points g ws)

@@ -6,8 +6,8 @@ use Prim.Native.Nat.{ℕ, zero, suc, _+_, _-_, _*_, _/_, _≤_, _<_}
 use native.Mathlib.Omega.{arith}
 use borrow.Author.Tests.{ltb-true, ltb-false}
 use lib.Dec.{ltb}
-use lib.ListN.{length, getD, take, drop, length-take, length-drop}
-use lib.Seq.{getD-take, getD-drop, drop-drop, drop-append-add}
+use lib.ListN.{length, getD, take, drop, length-drop}
+use lib.Seq.{drop-drop, drop-append-add}
 use Rattle.bits.specs.Bits.{table, entries}
 use Rattle.bits.specs.declared.Words4.{Words4}
 use Rattle.bits.proofs.Entries.{entries-length}
@@ -22,7 +22,7 @@ use Rattle.block.proofs.RunLaws.{run-part, run-le}
 use Rattle.block.proofs.StreamLaws.{stream-number}
 use Rattle.lists.specs.Loops.{All}
 use Rattle.lists.specs.Lists.{mapN, joinN, flat}
-use Rattle.lists.proofs.Lists.{All-map, All-of-map, All-at-map, All-both, head-left}
+use Rattle.lists.proofs.Lists.{All-map, All-of-map, All-at-map, All-both, head-left, in-drop, in-part}
 use Rattle.primitives.specs.Primitives.{primitiveCount, placesOf, primitiveOf, faceList}
 use Rattle.primitives.specs.Kept.{keptPrimitives}
 use Rattle.primitives.specs.Stretches.{stretchAt, stretchesLeft, StretchPart}
@@ -46,21 +46,12 @@ abbrev Lies : List ℕ → Run → Type 0
 Lies ws r = (i : ℕ) → i < length (r .items) → (r .start + i < length ws) × (getD ws (r .start + i) 0 ≡ getD (r .items) i 0)
 
 module _ (ws : List ℕ) (s : ℕ) where
-  in-drop : (i : ℕ) → i < length (drop s ws) → (s + i < length ws) × (getD ws (s + i) 0 ≡ getD (drop s ws) i 0)
-  in-drop i h = (omega (arith, length-drop s ws), sym (getD-drop s ws i 0))
-
-  in-run : (m i : ℕ) → i < length (take m (drop s ws)) → (s + i < length ws) × (getD ws (s + i) 0 ≡ getD (take m (drop s ws)) i 0)
-  in-run m i h =
-      let l = length-take m (drop s ws) in
-      let q = in-drop i (omega arith) in
-      (q .0, q .1 ∙ sym (getD-take m (drop s ws) i 0 (omega arith)))
-
   at-lies : (g : Topology) → Lies ws (runOf s (stretchAt g ws s))
   unfolding stretchAt
-  at-lies Triangles = in-drop
-  at-lies Fans = in-run (runLength (drop s ws))
-  at-lies Strips = in-run (runLength (drop s ws))
-  at-lies Quads = in-drop
+  at-lies Triangles = in-drop 0 ws s
+  at-lies Fans = in-part 0 ws s (runLength (drop s ws))
+  at-lies Strips = in-part 0 ws s (runLength (drop s ws))
+  at-lies Quads = in-drop 0 ws s
 
 -- the part that holds it
 module _ (bs : List ℕ) (s : ℕ) (h : s < length bs / 4) where

@@ -3,7 +3,7 @@ use mathlib.Core.Path.{_≡_, refl, sym, ap, _∙_, subst}
 use mathlib.Core.Bool.{Bool, true, false, cond}
 use mathlib.Core.Logic.{inl, inr}
 use mathlib.Core.List.{List}
-use Prim.Native.Nat.{ℕ, suc, _+_, _*_, _≤_, _<_}
+use Prim.Native.Nat.{ℕ, suc, _+_, _≤_, _<_}
 use native.Mathlib.Omega.{arith}
 use lib.ListN.{length, replicate}
 use lib.Ieee.{Float, binary32, ofBits}
@@ -29,10 +29,10 @@ use Rattle.soups.proofs.Handed.{handed-holds, handed-keys}
 use Rattle.lent.specs.declared.Counts.{Counts}
 use Rattle.lent.specs.Lent.{Asked, Shaped, Cleared}
 use Rattle.lent.proofs.Accepts.{enough-by}
-use Rattle.lent.proofs.Made.{wide-by, wide-few}
 use Rattle.build.specs.declared.shared.Shared.{Shared}
 use Rattle.build.specs.Built.{Wide, Told, Ready, Meshed, Built}
 use Rattle.build.proofs.Shaping.{shaped-of}
+use Rattle.lists.proofs.Numbers.{wide-by, made-few}
 use Rattle.shaping.specs.Shared.{frameBy}
 use Rattle.shaping.specs.Tabled.{Counted, Tabled, TexturesAt}
 use Rattle.shaping.specs.Shape.{Shape}
@@ -41,9 +41,6 @@ use Rattle.shaping.proofs.Room.{ample}
 -- an attribute of k words where it is made
 wide-made : {v k : ℕ} (b : Bool) → v ≡ cond b k 0 → Wide k v
 wide-made {v} {k} b e = subst (Wide k) (sym e) (wide-by b k)
-
-made-few : {v : ℕ} (k count len : ℕ) (b : Bool) → v ≡ cond b k 0 → k * count ≤ len → v * count ≤ len
-made-few k count len b e h = subst (λ (v : ℕ). v * count ≤ len) (sym e) (wide-few b k count len h)
 
 -- the plan t; the words w lent, then w₁ with the tables and w₂ with the textures; the floats d lent, then e
 module _ {k : Kind} {bs coord : List ℕ} {h : Header} {s : Settings} {o : Slices} {w w₁ w₂ : List ℕ} {d e : List Float} {points : List ℕ} {ls : List Listing} {sh : Shared} {rule : CreaseRule}

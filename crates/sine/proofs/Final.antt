@@ -14,14 +14,15 @@ use lib.Arith.{lt→nleb}
 use lib.Ieee.Bits.{is-true, is-false}
 use Rattle.series.specs.Series.{eval, coefs, halfTurn, over, sinPlus, sinMinus, cosPlus, cosMinus}
 use Rattle.series.specs.Value.{sinGrid, cosGrid, blend, fine}
+use Rattle.lists.proofs.Numbers.{lt-or-le}
 use Rattle.sine.specs.SinCos.{mant, expo}
 use Rattle.sine.proofs.Halves.{Half}
 use Rattle.sine.specs.Angle.{unit, halfUnits, turnUnits, Turned, Reduced, Apart, Within, Near, Accurate}
-use Rattle.series.proofs.Coefs.{sinP, sinM, cosP, cosM, sinZ, cosZ, sinP-is, sinM-is, cosP-is, cosM-is, sinZ-is, cosZ-is}
+use Rattle.series.proofs.Coefs.{sinP, sinM, cosP, cosM, sinZ, cosZ, sinP-is, sinM-is, cosP-is, cosM-is}
 use Rattle.series.proofs.Interval.{Close}
 use Rattle.series.proofs.Core.{Weighed, forward, backward}
 use Rattle.series.proofs.Sweep.{step}
-use Rattle.series.proofs.Arc.{Digits, sine-digits, cosine-near, cosine-far, le-or-lt}
+use Rattle.series.proofs.Arc.{Digits, sine-digits, cosine-near, cosine-far}
 
 -- ---- 24 digits within 10 / 2^24 are within 2^-20
 apart : (a b z t : ℕ) → Close (16777216 * a) (16777216 * b + z * t) (10 * z) → Apart (t * 2 ^ 125) a b z
@@ -61,7 +62,7 @@ near-sine true r u t v k = record { sign = true; t = t * 2 ^ 125; value = v; wit
 near-cosine : (j c w d g : ℕ) (r : Float) → j < 2048 → c + w ≡ 16777216 → Weighed fine c w d g
     → HasValue r (leb 1024 j) (blend (cosGrid j) (cosGrid (suc j)) w * 2 ^ 125) (2 ^ 149)
     → Near r (cosPlus 32 unit (j * step + d)) (cosMinus 32 unit (j * step + d)) (over 32 unit)
-near-cosine j c w d g r h e k v = go (le-or-lt j 1024)
+near-cosine j c w d g r h e k v = go (lt-or-le j 1024)
   where
     t : ℕ
     t = blend (cosGrid j) (cosGrid (suc j)) w

@@ -10,7 +10,7 @@ use lib.Ieee.{Float, nan, inf, fin, binary32, ne, isNan, ofBits, toBits, fits}
 use lib.Ieee.Bits.{is-true, is-false, ofBits-toBits}
 use lib.Ieee.Compare.{differs-from-itself}
 use Rattle.series.specs.Value.{fine}
-use Rattle.series.proofs.Arc.{le-or-lt}
+use Rattle.lists.proofs.Numbers.{lt-or-le}
 use Rattle.sine.specs.declared.whole.SinCos.{SinCos}
 use Rattle.sine.specs.Angle.{inRange, Accurate, Promise}
 use Rattle.sine.specs.SinCos.{mant, expo, halfOf, partsOf, insideOf, sinCosOf}
@@ -20,7 +20,7 @@ use Rattle.sine.proofs.Final.{low-side, high-side}
 use Rattle.sine.proofs.Range.{finite-bits, near-bits, far-bits}
 
 turn : (b : ℕ) → ltb b 2147483648 ≡ not (leb 2147483648 b)
-turn b = go (le-or-lt b 2147483648)
+turn b = go (lt-or-le b 2147483648)
   where
     go : (b < 2147483648) ⊎ (2147483648 ≤ b) → ltb b 2147483648 ≡ not (leb 2147483648 b)
     go (inl h) = is-true (ltb b 2147483648) (lt→ltb b 2147483648 h) ∙ ap not (sym (is-false (leb 2147483648 b) (lt→nleb 2147483648 b h)))
@@ -60,7 +60,7 @@ module _ (b : ℕ) (h : size b ≤ 1149239296) where
 
   inside-accurate : Accurate (ofBits binary32 b) (insideOf b .sin) (insideOf b .cos)
   unfolding insideOf
-  inside-accurate = go (le-or-lt (q / 16777216 % 4096) 2048)
+  inside-accurate = go (lt-or-le (q / 16777216 % 4096) 2048)
     where
       go : (q / 16777216 % 4096 < 2048) ⊎ (2048 ≤ q / 16777216 % 4096) → Accurate (ofBits binary32 b) (insideOf b .sin) (insideOf b .cos)
       go (inl l) = rw (is-true (ltb (q / 16777216 % 4096) 2048) (lt→ltb (q / 16777216 % 4096) 2048 l)) (low l)
@@ -100,7 +100,7 @@ plain (fin s m d) e = refl
 -- FORMAT 16.3: every f32
 pub promise : (x : Float) → T (fits binary32 x) → Promise (inRange x) x (sinCosOf x .sin) (sinCosOf x .cos)
 unfolding sinCosOf
-promise x f = go (le-or-lt 1149239296 (toBits binary32 x % 2147483648))
+promise x f = go (lt-or-le 1149239296 (toBits binary32 x % 2147483648))
   where
     go : (1149239296 < toBits binary32 x % 2147483648) ⊎ (toBits binary32 x % 2147483648 ≤ 1149239296)
         → Promise (inRange x) x (cond (inRange x) (insideOf (toBits binary32 x)) (record { sin = ofBits binary32 0; cos = ofBits binary32 0x3f80_0000 }) .sin)

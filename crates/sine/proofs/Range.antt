@@ -14,10 +14,10 @@ use lib.Ieee.Bits.{is-true, is-false, ofBits-toBits}
 use lib.Ieee.Compare.{differs-from-itself}
 use lib.Ieee.Exact.{HasValue}
 use Rattle.series.specs.Value.{fine}
+use Rattle.lists.proofs.Numbers.{lt-or-le}
 use Rattle.sine.specs.SinCos.{mant, expo}
 use Rattle.sine.proofs.Halves.{Half}
 use Rattle.sine.specs.Angle.{unit, inRange, Accurate, Promise}
-use Rattle.series.proofs.Arc.{le-or-lt}
 use Rattle.sine.proofs.Number.{bits-value}
 use Rattle.sine.proofs.Final.{low-side, high-side}
 
@@ -64,7 +64,7 @@ within a h = go (eq-or-lt-of-le h)
     go (inr l) = mul-le-mul (digits a) (pow-mono {i = expo a} {j = 135} (small a l))
 
 beyond : (a : ℕ) → 1149239296 < a → 2 ^ 159 < mant a * 2 ^ expo a
-beyond a h = go (le-or-lt a 1157627904)
+beyond a h = go (lt-or-le a 1157627904)
   where
     first : (a : ℕ) → 1149239296 < a → a < 1157627904 → 8388609 ≤ a % 8388608 + 8388608 * min (a / 8388608) 1
     first a h k = omega arith
@@ -95,7 +95,7 @@ top-fields s t = pick (eqb t 0)
 
 pub far-bits : (b : ℕ) → 1149239296 < b % 2147483648 → inRange (ofBits binary32 b) ≡ false
 unfolding ofBits
-far-bits b h = go (le-or-lt (b % 2147483648) 2139095040)
+far-bits b h = go (lt-or-le (b % 2147483648) 2139095040)
   where
     top : (b : ℕ) → 2139095040 ≤ b % 2147483648 → b % 2147483648 / 8388608 ≡ 255
     top b k = omega arith

@@ -17,7 +17,7 @@ use Rattle.block.specs.declared.topology.Topology.{Topology}
 use Rattle.block.specs.declared.kind.Kind.{Kind}
 use Rattle.block.specs.declared.kind.Kind.the-variants.{Grid, Extrusion}
 use Rattle.block.specs.Kind.{byKind}
-use Rattle.block.proofs.Table.{or-none, count-low}
+use Rattle.block.proofs.Table.{count-low}
 use Rattle.primitives.specs.Primitives.{faceList}
 use Rattle.mesh.specs.Extrusion.{spineCount, sectionCount, sectionOf, extrusionOf, capLength}
 use Rattle.mesh.specs.Grid.{xDimension, zDimension}
@@ -27,6 +27,7 @@ use Rattle.tables.specs.Layout.{most}
 use Rattle.extrusion.specs.Given.{Given}
 use Rattle.extrusion.proofs.Blocks.{given-of, section-of, section-long}
 use Rattle.extrusion.proofs.Joined.{cap-fits}
+use Rattle.lists.proofs.Tests.{or-none}
 use Rattle.sizes.specs.declared.kinds.Sizes.{Sizes}
 use Rattle.sizes.specs.Known.{Known, Sides, setFaces, primitiveFaces, facesIn, Are, Counted}
 

@@ -1,10 +1,10 @@
 -- FORMAT 4, 6.1: runs have no more entries than their list, so what is counted of them is no more; and products that fit a word.
 use mathlib.Core.Bool.{Bool, true, false, cond}
 use mathlib.Core.List.{List, [], _∷_, _++_}
-use Prim.Native.Nat.{ℕ, zero, suc, _-_, _*_, _^_, _≤_, _<_}
-use native.Mathlib.Nat.{lt-of-le-of-lt, mul-le-mul, mul-le-mul-left, le-of-lt, le-trans, mul-lt-mul-of-pos-right}
+use Prim.Native.Nat.{ℕ, zero, suc, _-_, _*_, _≤_}
+use native.Mathlib.Nat.{mul-le-mul, le-trans}
 use native.Mathlib.Omega.{arith}
-use lib.Dec.{ltb, lit<}
+use lib.Dec.{ltb}
 use lib.ListN.{length, length-append}
 use Rattle.block.specs.declared.topology.Topology.{Topology}
 use Rattle.block.specs.declared.topology.Topology.the-variants.{Triangles, Fans, Strips, Quads}
@@ -106,9 +106,6 @@ primitives-within {points} low Strips ws = omega (arith, listing-triangles low S
 primitives-within {points} low Quads ws = omega (arith, listing-triangles low Quads ws, kept-few points Quads ws)
 
 -- ---- products that fit
-
-pub product-fits : (a b : ℕ) → a < 2 ^ 32 → b < 2 ^ 32 → a * b < 2 ^ 64
-product-fits a b ha hb = lt-of-le-of-lt (mul-le-mul-left a (le-of-lt hb)) (mul-lt-mul-of-pos-right ha (lit< tt))
 
 pub quads-few : (n m : ℕ) → n ≤ most → m ≤ most → (n - 1) * (m - 1) ≤ most * most
 quads-few n m hn hm = mul-le-mul (let l : n - 1 ≤ most = omega arith in l) (let l : m - 1 ≤ most = omega arith in l)

@@ -35,6 +35,7 @@ use Rattle.vertices.specs.Search.{two, three, four, cornerKey}
 use Rattle.corners.specs.declared.attributes.Attributes.{Attributes}
 use Rattle.corners.specs.Laid.{tablesAt, tablesOf}
 use Rattle.corners.specs.Corner.{Lent, pointAt, placeAt, numberAt, textureAt, generatedAt, normalAt, colourAt, wordsAt, keyIn}
+use Rattle.lists.proofs.Numbers.{by-width}
 use Rattle.soups.specs.Keyed.{Reads, Textures}
 
 -- a soup that the tables hold, and a key for each corner
@@ -71,10 +72,6 @@ nine n c x = words3 n ++ words4 c ++ words2 x
 normal-part : (n : Words3) (c : Words4) (x : Words2) (u : ℕ) → u ≡ 3 → three (seg (nine n c x) 0 u) ≡ n
 unfolding seg
 normal-part n c x u e = rw e refl
-
--- an attribute read by its width, which is n or 0
-by-width : {A : Type 0} (read : ℕ → A) (n : ℕ) (q : A) (u : ℕ) → ((u ≡ n) × (q ≡ read n)) ⊎ ((u ≡ 0) × (q ≡ read 0)) → read u ≡ q
-by-width read n q u h = ⊎-elim (λ e. ap read (e .0) ∙ sym (e .1)) (λ e. ap read (e .0) ∙ sym (e .1)) h
 
 colour-part : (n : Words3) (c q : Words4) (x : Words2) (u : ℕ) → ((u ≡ 4) × (q ≡ c)) ⊎ ((u ≡ 0) × (q ≡ no4)) → four (seg (nine n c x) 3 u) ≡ q
 unfolding seg

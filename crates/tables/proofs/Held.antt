@@ -1,8 +1,8 @@
 -- Tables that hold a soup: face by face and corner by corner, both ways; and that they still hold it when words above them change.
 use mathlib.Core.Path.{_≡_, sym, ap, ap₂, _∙_}
-use mathlib.Core.List.{List, [], _∷_, map}
+use mathlib.Core.List.{List, [], map}
 use Prim.Native.Nat.{ℕ, zero, suc, _+_, _-_, _≤_, _<_}
-use native.Mathlib.Nat.{zero-add, not-suc-le-zero, le-of-suc-le-suc}
+use native.Mathlib.Nat.{zero-add}
 use native.Mathlib.Omega.{arith}
 use lib.ListN.{length, getD, take, length-map}
 use lib.Seq.{ext-getD}
@@ -71,17 +71,6 @@ module _ {w : List ℕ} {t : Plan} {F : Frame} {fs : List Face} (H : Holds w t F
       let l : length f ≡ startIn w t (suc j) - startIn w t j
       = sym (length-map f bare) ∙ ap length (face-held j h) ∙ length-tab (cornerIn w t) (startIn w t (suc j) - startIn w t j) (startIn w t j) in
       omega arith
-
-  pub corner-held : (j i : ℕ) → j < t .faces → i < length (getD fs j []) → Is w t (startIn w t j + i) (getD (getD fs j []) i noCorner)
-  unfolding faceIn cornerIn
-  corner-held j i h b =
-      let f = getD fs j [] in
-      let a = startIn w t j in
-      let n = startIn w t (suc j) - a in
-      let s = start-held j h in
-      let e : cornerIn w t (a + i) ≡ bare (getD f i noCorner)
-      = sym (getD-tab (cornerIn w t) n a i noCorner (omega arith)) ∙ sym (ap (λ (k : Face). getD k i noCorner) (face-held j h)) ∙ getD-map-lt bare f i noCorner noCorner b in
-      record { point = ap (λ (c : Corner). c .point) e; gather = ap (λ (c : Corner). c .gather) e }
 
   -- the corners of the faces before face j
   pub starts-held : (j : ℕ) → j ≤ t .faces → total length (take j fs) ≡ startIn w t j

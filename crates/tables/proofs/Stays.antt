@@ -3,7 +3,7 @@ use mathlib.Core.Path.{_≡_, sym, ap, ap₂, _∙_}
 use mathlib.Core.Bool.{Bool, true, false}
 use mathlib.Core.List.{List}
 use Prim.Native.Nat.{ℕ, zero, suc, _+_, _*_, _-_, _≤_, _<_}
-use native.Mathlib.Nat.{add-zero, add-suc, zero-add}
+use native.Mathlib.Nat.{add-zero, add-suc}
 use native.Mathlib.Numerals.{add-one}
 use native.Mathlib.Omega.{arith}
 use Rattle.block.specs.declared.crease.CreaseRule.{CreaseRule}
@@ -13,7 +13,7 @@ use Rattle.mesh.specs.Soup.{Corner, pointsOf}
 use Rattle.tables.specs.declared.layout.Plan.{Plan}
 use Rattle.tables.specs.declared.reading.Stretch.{Stretch}
 use Rattle.lists.specs.Parts.{seg, Kept}
-use Rattle.tables.specs.Soups.{pointIn, gatherIn, ownerIn, startIn, numberIn, placeIn, namedIn, pointsIn, plain, cornerIn, faceIn, soupIn, frameIn, Sound, Ends}
+use Rattle.tables.specs.Soups.{pointIn, gatherIn, ownerIn, startIn, numberIn, placeIn, pointsIn, plain, cornerIn, faceIn, soupIn, frameIn, Sound, Ends}
 use Rattle.lists.proofs.Keep.{kept-at, kept-seg}
 
 -- ---- first corners
@@ -60,10 +60,6 @@ module _ {b : ℕ} {v w : List ℕ} (K : Kept b v w) (t : Plan) where
   pub place-kept : (c : ℕ) → t .places + c < b → placeIn w t c ≡ placeIn v t c
   unfolding placeIn
   place-kept c h = kept-at K (t .places + c) h
-
-  pub named-kept : (c : ℕ) → t .named + c < b → namedIn w t c ≡ namedIn v t c
-  unfolding namedIn
-  named-kept c h = kept-at K (t .named + c) h
 
   pub sound-kept : t .named ≤ b → Sound v t → Sound w t
   sound-kept h S =

@@ -3,12 +3,15 @@ use Prim.Native.Nat.{ℕ, zero, suc, _+_, _-_, _*_, _/_, _%_, _^_, _≤_, _<_}
 use mathlib.Core.Path.{_≡_, refl, sym, ap, _∙_, subst}
 use mathlib.Core.Bool.{Bool, true, false, _&&_}
 use mathlib.Core.List.{List, [], _∷_, _++_}
-use native.Mathlib.Nat.{pow-zero, pow-suc, div-lt-iff-lt-mul, div-add-mod', mod-lt, mod-eq-of-lt, lt-of-lt-of-le}
+use native.Mathlib.Nat.{pow-zero, pow-suc, div-add-mod', mod-lt, mod-eq-of-lt, lt-of-lt-of-le}
 use native.Mathlib.Omega.{arith}
 use lib.Dec.{ltb}
-use lib.ListN.{length, length-append}
+use lib.ListN.{length}
 use borrow.Author.Tests.{lt-ltb, le-ltb, ltb-true, ltb-false}
 use Rattle.lists.specs.Loops.{pick}
+use Rattle.lists.proofs.Numbers.{before-lt}
+use Rattle.lists.proofs.Lists.{one-more}
+use Rattle.lists.proofs.Tests.{and-right}
 use Rattle.text.specs.Digits.{digitByte, digits, hexadecimal, decimal, digitOf, readOn}
 
 digit-read : (d : ℕ) → d < 16 → digitOf (digitByte d) ≡ d
@@ -27,13 +30,6 @@ unfolding readOn
 read-last b n [] c = refl
 read-last b n (x ∷ l) c = read-last b (n * b + digitOf x) l c
 
-alone : (short : Bool) (b n : ℕ) → (short && ltb n b) ≡ true → n < b
-alone true b n e = ltb-true n b e
-alone false b n e = let z : ⊥ = subst (λ (t : Bool). pick t ⊥ (Unit {0})) e tt in absurd z
-
-before-lt : (b k n : ℕ) → 0 < b → n < b ^ suc k → n / b < b ^ k
-before-lt b k n p h = div-lt-iff-lt-mul {k = b} {x = n} {y = b ^ k} p .1 (subst (λ (m : ℕ). n < m) (pow-suc b k) h)
-
 -- k digits are enough for a number below b ^ k
 pub read-digits : (short : Bool) (b k n : ℕ) → 0 < b → b ≤ 16 → n < b ^ k → readOn b 0 (digits short b k n) ≡ n
 unfolding digits readOn
@@ -45,7 +41,7 @@ read-digits short b (suc k) n p w h = go (short && ltb n b) refl (read-digits sh
   go : (t : Bool) → (short && ltb n b) ≡ t → readOn b 0 (digits short b k (n / b)) ≡ n / b
       → readOn b 0 (pick t [] (digits short b k (n / b)) ++ (digitByte (n % b) ∷ [])) ≡ n
   go true e ih =
-      read-last b 0 [] (digitByte (n % b)) ∙ ap (λ (d : ℕ). 0 * b + d) (digit-read (n % b) l ∙ mod-eq-of-lt (alone short b n e)) ∙ omega arith
+      read-last b 0 [] (digitByte (n % b)) ∙ ap (λ (d : ℕ). 0 * b + d) (digit-read (n % b) l ∙ mod-eq-of-lt (ltb-true n b (and-right short (ltb n b) e))) ∙ omega arith
   go false e ih =
       read-last b 0 (digits short b k (n / b)) (digitByte (n % b))
       ∙ ap (λ (q : ℕ). q * b + digitOf (digitByte (n % b))) ih
@@ -61,9 +57,6 @@ unfolding hexadecimal
 read-hexadecimal n h = read-digits false 16 8 n (omega arith) (omega arith) (omega arith)
 
 -- ---- how many there are
-
-one-more : (x : List ℕ) (c k : ℕ) → length x ≤ k → length (x ++ (c ∷ [])) ≤ suc k
-one-more x c k h = omega (arith, length-append x (c ∷ []))
 
 pub digits-most : (short : Bool) (b k n : ℕ) → length (digits short b k n) ≤ k
 unfolding digits

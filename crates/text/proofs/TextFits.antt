@@ -4,11 +4,12 @@ use mathlib.Core.Bool.{Bool, true, false}
 use mathlib.Core.List.{List, [], _∷_, _++_}
 use native.Mathlib.Nat.{zero-add, le-trans, mul-le-mul-left}
 use native.Mathlib.Omega.{arith}
-use lib.ListN.{length, getD, length-append}
+use lib.ListN.{length, getD}
 use Rattle.lists.specs.Loops.{tab}
 use Rattle.lists.specs.Lists.{flat}
 use Rattle.lists.proofs.Pieces.{flat-most}
 use Rattle.mesh.specs.Mesh.{Slices}
+use Rattle.lists.proofs.Lists.{join-most}
 use Rattle.text.specs.declared.answer.Head.{Head}
 use Rattle.text.specs.declared.lines.Parts.{Parts}
 use Rattle.text.specs.Digits.{hexadecimal, decimal}
@@ -18,9 +19,6 @@ use Rattle.text.specs.Answer.{oneIf, countsText, flagsText, headLine, me
 use Rattle.text.proofs.ReadBack.{digits-most, digits-short}
 
 -- ---- pieces
-
-join-most : (x y : List ℕ) {j k : ℕ} → length x ≤ j → length y ≤ k → length (x ++ y) ≤ j + k
-join-most x y {j} {k} p q = omega (arith, length-append x y, p, q)
 
 word-most : (n : ℕ) → length (wordField n) ≤ 9
 unfolding wordField hexadecimal

@@ -13,6 +13,8 @@ use lib.ListN.{length, getD, set, length-set}
 use lib.Seq.{getD-set-same, getD-set-other}
 use Rattle.block.specs.declared.number.VertexNumber.{VertexNumber}
 use Rattle.mesh.specs.Vertices.{Key, sameKey}
+use Rattle.lists.proofs.Tests.{cases}
+use Rattle.lists.proofs.Numbers.{lt-of-ne}
 use Rattle.vertices.specs.declared.places.Widths.{Widths}
 use Rattle.vertices.specs.declared.places.Chains.{Chains}
 use Rattle.vertices.specs.declared.search.Known.{Known}
@@ -21,7 +23,7 @@ use Rattle.vertices.specs.Places.{Store, Laid}
 use Rattle.vertices.specs.Hash.{bucketOf}
 use Rattle.vertices.specs.Search.{knownBy, seek, keyAt, placeOf, bucketAt, lastAt, Chained}
 use Rattle.vertices.specs.Adding.{linked}
-use Rattle.vertices.proofs.Seek.{cases, upTo, found, passed, seek-none, seek-le, seek-hit, seek-cong, seek-skip}
+use Rattle.vertices.proofs.Seek.{upTo, found, passed, seek-none, seek-le, seek-hit, seek-cong, seek-skip}
 use Rattle.vertices.proofs.Keys.{other-by}
 
 -- ---- the words of a chain
@@ -113,9 +115,6 @@ module _ (w : Widths) (s : Store) (k : Key) (t : Chains) (m : List ℕ) (n : ℕ
 
 -- ---- one vertex more
 
-lt-of : (i n : ℕ) → i < n + 1 → (i ≡ n → ⊥) → i < n
-lt-of i n h d = omega arith
-
 -- vertex n in bucket b; those before it are in the buckets they were in
 module _ (f g : ℕ → ℕ) (n b : ℕ) (old : (i : ℕ) → i < n → g i ≡ f i) (new : g n ≡ b) where
   last-old : (j u : ℕ) → j ≤ n → lastAt g j u ≡ lastAt f j u
@@ -159,7 +158,7 @@ module _ (f g : ℕ → ℕ) (n b : ℕ) (old : (i : ℕ) → i < n → g i ≡ 
           (λ e. let q : i ≡ n = eqb-true i n e in
           rw q (ap knownBy (getD-set-same m (t .nexts + n) was 0 (omega (arith, L))) ∙ c .heads b hb ∙ sym (ap (lastAt g n) new ∙ last-old n b (omega arith))))
           (λ e. let d : i ≡ n → ⊥ = eqb-false i n e in
-          let l : i < n = lt-of i n hi d in
+          let l : i < n = lt-of-ne i n hi d in
           ap knownBy (getD-set-other m (t .nexts + n) (t .nexts + i) was 0 (λ q. d (omega arith)))
           ∙ c .nexts i l
           ∙ sym (ap (lastAt g i) (old i l) ∙ last-old i (f i) (omega arith)))

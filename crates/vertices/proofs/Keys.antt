@@ -13,6 +13,7 @@ use lib.Seq.{take-append-le}
 use Rattle.lists.specs.Lists.{sameWords}
 use Rattle.mesh.specs.Words.{words2, words3, words4, no2, no3, no4}
 use Rattle.mesh.specs.Vertices.{Key, sameKey}
+use Rattle.lists.proofs.Tests.{cases}
 use Rattle.vertices.specs.declared.places.Widths.{Widths}
 use Rattle.lists.specs.Parts.{seg}
 use Rattle.vertices.specs.Places.{Store, Roomy}
@@ -20,7 +21,6 @@ use Rattle.vertices.specs.Search.{two, three, four, keyAt, cornerKey}
 use Rattle.vertices.specs.Hash.{normalOf, colourOf, textureOf}
 use Rattle.vertices.specs.Adding.{trimmed}
 use Rattle.mesh.proofs.Keys.{sameKey-sound}
-use Rattle.vertices.proofs.Seek.{cases}
 use Rattle.lists.proofs.Keep.{length-seg}
 use Rattle.lists.proofs.Words.{row-fits, front, front-take, front-same}
 

@@ -5,23 +5,17 @@ use Prim.Native.Nat.{ℕ, zero, suc, _+_, _*_, _≤_, _<_}
 use native.Mathlib.Nat.{not-suc-le-zero, le-of-suc-le-suc, mul-suc, mul-le-mul-left, le-trans}
 use native.Mathlib.Omega.{arith}
 use lib.ListN.{length, getD, set, take, drop, length-append, length-drop, length-map}
-use lib.Seq.{sets, sets-eq, take-at, drop-at, drop-drop, drop-cons, set-at, append-snoc, take-append-seam, take-length, length-take-le, getD-take, getD-drop}
+use lib.Seq.{sets, sets-eq, take-at, drop-cons, set-at, append-snoc, take-append-seam, take-length, length-take-le, getD-take, getD-drop}
 use Rattle.lists.specs.Lists.{flat}
 use Rattle.mesh.specs.Words.{words2, words3, words4, pointWords}
 use Rattle.mesh.specs.Vertices.{Key}
-use Rattle.lists.proofs.Lists.{All-of, All-of-map, middle, length-flat, in-flat}
+use Rattle.lists.proofs.Lists.{All-of, All-of-map, middle, length-flat, in-flat, drop-filled, length-filled, three-at}
 use Rattle.vertices.specs.declared.places.Widths.{Widths}
 use Rattle.lists.specs.Parts.{seg}
 use Rattle.vertices.specs.Hash.{normalOf, colourOf, textureOf}
 use Rattle.vertices.specs.Adding.{positionOf}
 
 -- ---- rows of n words, one for each key
-
-cut : (z p : List ℕ) (a n : ℕ) → length p ≡ a → drop (a + n) (p ++ drop a z) ≡ drop (a + n) z
-cut z p a n e = sym (drop-drop n a (p ++ drop a z)) ∙ ap (λ (x : List ℕ). drop n x) (drop-at p (drop a z) a e) ∙ drop-drop n a z
-
-pub length-filled : (z p : List ℕ) (a : ℕ) → length p ≡ a → a ≤ length z → length (p ++ drop a z) ≡ length z
-length-filled z p a e h = length-append p (drop a z) ∙ omega (arith, length-drop a z)
 
 module _ (g : Key → List ℕ) (n : ℕ) (wide : (k : Key) → length (g k) ≡ n) where
   rows-length : (ks : List Key) → length (flat (map g ks)) ≡ n * length ks
@@ -59,7 +53,7 @@ module _ (g : Key → List ℕ) (n : ℕ) (wide : (k : Key) → length (g k) ≡
       let f : n * m + n ≤ length l = rw (o, u) at h in
       let x : l ≡ p ++ drop (n * m) z = e ∙ ap (λ (j : ℕ). p ++ drop (n * j) z) q in
       sets-eq (g k) l (n * m) (rw (wide k) (omega arith))
-      ∙ rw (wide k, x, b, u, rows-snoc ks k, take-at p (drop (n * m) z) (n * m) a) (ap (λ (y : List ℕ). p ++ g k ++ y) (cut z p (n * m) n a))
+      ∙ rw (wide k, x, b, u, rows-snoc ks k, take-at p (drop (n * m) z) (n * m) a) (ap (λ (y : List ℕ). p ++ g k ++ y) (drop-filled z p (n * m) n a))
 
 -- ---- the points of the keys, one word each
 
@@ -106,12 +100,6 @@ unfolding textureOf
 texture-wide w h k = length-take-le (w .texture) (words2 (k .texture)) h
 
 -- ---- a point's words in the working slice
-
-three-at : (m : List ℕ) (a : ℕ) → a + 3 ≤ length m → take 3 (drop a m) ≡ getD m a 0 ∷ getD m (a + 1) 0 ∷ getD m (a + 2) 0 ∷ []
-three-at m a h =
-    let e : a + 1 ≡ suc a = omega arith in
-    let f : a + 2 ≡ suc (suc a) = omega arith in
-    rw (e, f, drop-cons m a 0 (omega arith), drop-cons m (suc a) 0 (omega arith), drop-cons m (suc (suc a)) 0 (omega arith))
 
 pub point-words : (m : List ℕ) (p n v : ℕ) → v < n → p + 3 * n ≤ length m → seg m (p + 3 * v) 3 ≡ words3 (pointWords (seg m p (3 * n)) v)
 unfolding seg pointWords

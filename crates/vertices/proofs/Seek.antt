@@ -1,18 +1,15 @@
 -- Laws of the search from the last number downwards.
 use mathlib.Core.Path.{_≡_, refl, sym, ap, _∙_}
-use mathlib.Core.Logic.{_⊎_, inl, inr, ⊎-elim}
+use mathlib.Core.Logic.{⊎-elim}
 use mathlib.Core.Bool.{Bool, true, false, cond}
 use Prim.Native.Nat.{ℕ, zero, suc, _≤_, _<_}
 use native.Mathlib.Nat.{not-suc-le-zero, le-of-suc-le-suc, eq-or-lt-of-le}
 use native.Mathlib.Omega.{arith}
 use Rattle.block.specs.declared.number.VertexNumber.{VertexNumber}
+use Rattle.lists.proofs.Tests.{cases}
 use Rattle.vertices.specs.declared.search.Known.{Known}
 use Rattle.vertices.specs.declared.search.Known.the-variants.{At, Nowhere}
 use Rattle.vertices.specs.Search.{seek}
-
-pub cases : (b : Bool) → (b ≡ true) ⊎ (b ≡ false)
-cases true = inl refl
-cases false = inr refl
 
 -- how many vertices there are up to this one
 unfoldable pub upTo : Known → ℕ

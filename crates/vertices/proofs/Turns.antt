@@ -12,9 +12,10 @@ use Rattle.lists.specs.Loops.{tab}
 use Rattle.lists.proofs.Tabs.{length-tab, tab-add}
 use Rattle.lists.specs.Lists.{has, place, meet, firsts, flat}
 use Rattle.mesh.specs.Vertices.{Key, sameKey}
-use Rattle.lists.proofs.Lists.{meet-old, meet-new, T-true, middle, place-lt, length-firsts, firsts-append, has-firsts-new}
+use Rattle.lists.proofs.Lists.{meet-old, meet-new, T-true, middle, place-lt, length-firsts, firsts-append, has-firsts-new, length-filled}
 use Rattle.mesh.proofs.Keys.{sameKey-sound, sameKey-self}
 use Rattle.mesh.proofs.Facts.{number-stays}
+use Rattle.lists.proofs.Tests.{cases}
 use Rattle.vertices.specs.declared.places.Widths.{Widths}
 use Rattle.vertices.specs.declared.places.Chains.{Chains}
 use Rattle.lists.specs.Parts.{seg}
@@ -22,10 +23,9 @@ use Rattle.vertices.specs.Places.{Store, Roomy, Laid}
 use Rattle.vertices.specs.Search.{bucketAt, Chained}
 use Rattle.vertices.specs.Hash.{normalOf, colourOf, textureOf}
 use Rattle.vertices.specs.Adding.{positionOf, Holds, madeOf, pointsIn, countAfter, Ready, Vertexed}
-use Rattle.vertices.proofs.Seek.{cases}
 use Rattle.vertices.proofs.Keys.{roomy-le}
 use Rattle.vertices.proofs.Chains.{chained-none, chained-set}
-use Rattle.vertices.proofs.Rows.{length-filled, rows-stay, position-wide, normal-wide, colour-wide, texture-wide}
+use Rattle.vertices.proofs.Rows.{rows-stay, position-wide, normal-wide, colour-wide, texture-wide}
 use Rattle.vertices.proofs.Held.{laid-le, place-new, count-same, count-more}
 
 -- ---- the vertices of the first corners
@@ -197,12 +197,6 @@ module _ (w : Widths) (t : Chains) (pts : List ℕ) (f : ℕ → Key) (z : Store
         -- the number that corner c gets is that of its key among the vertices of all corners
         pub vertex-number : (all : ℕ) → c < all → r ≡ place sameKey (f c) (madeOf f all)
         vertex-number all h = number ∙ sym (made-stays f c all h)
-
-        -- so it is small enough for a word
-        pub vertex-below : r ≤ c
-        vertex-below =
-            let a : r < length (madeOf f (c + 1)) = rw number (place-lt sameKey (f c) (madeOf f (c + 1)) (made-has f c)) in
-            omega (arith, made-few f (c + 1))
 
         -- one corner more
         pub vertex-turn : Made w t pts f z x₀ size (c + 1) (countAfter n r) s′ x′ m′

@@ -1,6 +1,6 @@
 use borrow.Author.Needs.{needs}
 use native.Mathlib.Omega.{arith}
-use Rattle.bits.proofs.Parts.{part-within, part-cut, part-past}
+use Rattle.lists.proofs.Cuts.{part-within, part-cut, part-past}
 use Rattle.bits.proofs.part.Statement.{statement}
 use Rattle.bits.proofs.part.Tie as tie
 

@@ -1,4 +1,5 @@
-use Rattle.extrusion.proofs.Fitting.{and-no, and-yes, closes-long, closes-short}
+use Rattle.lists.proofs.Tests.{and-on, and-off}
+use Rattle.extrusion.proofs.Fitting.{closes-long, closes-short}
 use Rattle.extrusion.proofs.Values.{count2}
 use borrow.Author.Needs.{needs}
 use mathlib.Core.Path.{_∙_}
@@ -18,10 +19,10 @@ returns : tie.Need-returns
 returns c =
     let c2 = c .before .before in
     let c5 = c2 .before .before .before in
-    and-yes _ _ (c2 .if2 .taken) ∙ closes-long _ _ _ _ (count2 _ _) (c5 .before .before .if1 .taken) (c5 .before .pair-at .ensures) (c5 .pair-at2 .ensures)
+    and-on _ _ (c2 .if2 .taken) ∙ closes-long _ _ _ _ (count2 _ _) (c5 .before .before .if1 .taken) (c5 .before .pair-at .ensures) (c5 .pair-at2 .ensures)
 
 returns-2 : tie.Need-returns-2
-returns-2 c = and-no _ _ (c .if2 .left) ∙ closes-long _ _ _ _ (count2 _ _) (c .before .before .before .before .before .if1 .taken) (c .before .before .before .before .pair-at .ensures) (c .before .before .before .pair-at2 .ensures)
+returns-2 c = and-off _ _ (c .if2 .left) ∙ closes-long _ _ _ _ (count2 _ _) (c .before .before .before .before .before .if1 .taken) (c .before .before .before .before .pair-at .ensures) (c .before .before .before .pair-at2 .ensures)
 
 returns-3 : tie.Need-returns-3
 returns-3 c = closes-short _ _ (count2 _ _) (c .if1 .left)

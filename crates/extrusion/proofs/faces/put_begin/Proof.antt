@@ -1,6 +1,7 @@
 use Prim.Native.Nat.{_+_, ℕ}
 use Rattle.lists.proofs.Splices.{splice-start}
-use Rattle.extrusion.proofs.Sides.{begin-no, begin-yes, length-by}
+use Rattle.lists.proofs.Tabs.{length-by}
+use Rattle.extrusion.proofs.Sides.{begin-no, begin-yes}
 use Rattle.lists.specs.Parts.{spliced}
 use borrow.Author.Needs.{needs}
 use lib.ListN.{length}

@@ -1,5 +1,6 @@
 use Rattle.lists.proofs.Splices.{splice-start}
-use Rattle.extrusion.proofs.Sides.{end-no, end-yes, length-by}
+use Rattle.lists.proofs.Tabs.{length-by}
+use Rattle.extrusion.proofs.Sides.{end-no, end-yes}
 use Rattle.lists.specs.Parts.{spliced}
 use borrow.Author.Needs.{needs}
 use mathlib.Core.Path.{_∙_, ap, sym}

@@ -1,7 +1,7 @@
-use Rattle.extrusion.proofs.Sides.{quad-put, row-least}
+use Rattle.extrusion.proofs.Sides.{quad-put}
 use native.Mathlib.Omega.{arith}
 use borrow.Author.Needs.{needs}
-use Rattle.lists.proofs.Numbers.{next-row}
+use Rattle.lists.proofs.Numbers.{next-row, row-least}
 use Rattle.extrusion.proofs.faces.put_quad.Statement.{statement}
 use Rattle.extrusion.proofs.faces.put_quad.Tie as tie
 

@@ -1,12 +1,12 @@
 use Prim.Native.Nat.{_*_, _-_}
 use Rattle.lists.proofs.Pieces.{Pieces, pieces-all, pieces-more, pieces-none}
-use Rattle.extrusion.proofs.Sides.{row-width, rows-most, section-least, sides-are}
+use Rattle.extrusion.proofs.Sides.{row-width, rows-most, sides-are}
 use Rattle.extrusion.specs.Listings.{spot}
 use Rattle.lists.specs.Lists.{flat}
 use Rattle.mesh.specs.Quads.{quad}
 use Rattle.lists.specs.Loops.{tab}
 use Rattle.lists.specs.Parts.{spliced}
-use Rattle.lists.proofs.Numbers.{piece-room}
+use Rattle.lists.proofs.Numbers.{piece-room, rows-least}
 use borrow.Author.Needs.{needs}
 use mathlib.Core.Path.{_∙_, ap, refl}
 use native.Mathlib.Omega.{arith}
@@ -23,7 +23,7 @@ sub-w : tie.Need-sub-w Inv-loop μ-loop
 sub-w c = search needs
 
 mul-w : tie.Need-mul-w Inv-loop μ-loop
-mul-w c = omega (arith, section-least (c .before .args .n) (c .before .args .m) (c .before .pre .0), c .before .pre .2)
+mul-w c = omega (arith, rows-least (c .before .args .n) (c .before .args .m) (c .before .pre .0), c .before .pre .2)
 
 loop-holds : tie.Need-loop-holds Inv-loop μ-loop
 loop-holds c = pieces-none

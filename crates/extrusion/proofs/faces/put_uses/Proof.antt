@@ -1,4 +1,5 @@
-use Rattle.extrusion.proofs.Sides.{begin-room, end-room, last-row, section-least, sides-room, uses-put}
+use Rattle.lists.proofs.Numbers.{last-row, rows-least}
+use Rattle.extrusion.proofs.Sides.{begin-room, end-room, sides-room, uses-put}
 use borrow.Author.Needs.{needs}
 use Prim.Native.Nat.{_-_, _*_}
 use mathlib.Core.Path.{_≡_, refl}
@@ -18,7 +19,7 @@ sub-put-begin-2 c = search needs
 mul-put-begin : tie.Need-mul-put-begin
 mul-put-begin c =
     let c6 = c .before .before .before .before .before .before in
-    omega (arith, section-least (c6 .args .n) (c6 .args .m) (c6 .pre .0), c6 .pre .3)
+    omega (arith, rows-least (c6 .args .n) (c6 .args .m) (c6 .pre .0), c6 .pre .3)
 
 mul-put-begin-2 : tie.Need-mul-put-begin-2
 mul-put-begin-2 c = omega (arith, sides-room _ _ _ _ _ _ _ (c .before .before .before .before .before .before .pre .4))
@@ -30,7 +31,7 @@ put-begin-requires : tie.Need-put-begin-requires
 put-begin-requires c κs =
     let c2 = c .before .before in
     let c6 = c2 .before .before .before .before in
-    (omega (arith, section-least (c6 .args .n) (c6 .args .m) (c6 .pre .0), c6 .pre .2, c6 .pre .3), omega (arith, begin-room _ _ _ _ _ _ _ (c6 .pre .4), c2 .work .given))
+    (omega (arith, rows-least (c6 .args .n) (c6 .args .m) (c6 .pre .0), c6 .pre .2, c6 .pre .3), omega (arith, begin-room _ _ _ _ _ _ _ (c6 .pre .4), c2 .work .given))
 
 sub-point-at : tie.Need-sub-point-at
 sub-point-at c = search needs

@@ -1,4 +1,5 @@
-use Rattle.extrusion.proofs.Blocks.{points-put, rows-room, scale-room, section-room, spine-room, turn-room}
+use Rattle.lists.proofs.Numbers.{rows-room}
+use Rattle.extrusion.proofs.Blocks.{points-put, scale-room, section-room, spine-room, turn-room}
 use borrow.Author.Needs.{needs}
 use Rattle.extrusion.proofs.points.put_points.Statement.{statement}
 use Rattle.extrusion.proofs.points.put_points.Tie as tie

@@ -2,7 +2,7 @@ use native.Mathlib.Omega.{arith}
 use mathlib.Core.Path.{refl, sym, _∙_}
 use mathlib.Core.Bool.{true≢false}
 use Rattle.extrusion.proofs.Textures.{arcs-held}
-use Rattle.extrusionshape.proofs.Tabling.{arcs-behind}
+use Rattle.lists.proofs.Splices.{put-behind}
 use borrow.Author.Needs.{needs}
 use Rattle.extrusionshape.proofs.filling.arcs_where.Statement.{statement}
 use Rattle.extrusionshape.proofs.filling.arcs_where.Tie as tie
@@ -20,7 +20,7 @@ returns : tie.Need-returns
 returns c =
     let c2 = c .before .before in
     let c8 = c2 .before .before .before .before .before .before in
-    (record { held = λ u. arcs-held (c8 .pre .0) _ _ _ (c8 .pre .1) (c2 .put-arcs .ensures) }, arcs-behind _ _ _ (c2 .put-arcs .ensures) (omega (arith, c8 .pre .1)))
+    (record { held = λ u. arcs-held (c8 .pre .0) _ _ _ (c8 .pre .1) (c2 .put-arcs .ensures) }, put-behind _ _ _ (c2 .put-arcs .ensures) (omega (arith, c8 .pre .1)))
 
 returns-2 : tie.Need-returns-2
 returns-2 c = (record { held = λ u. absurd (true≢false (sym u ∙ c .if1 .left)) }, refl)

@@ -1,5 +1,6 @@
 use Rattle.mesh.specs.Quads.{quad}
-use Rattle.grid.proofs.Numbers.{four-left, corner-is, quad-fits}
+use Rattle.lists.proofs.Numbers.{four-left}
+use Rattle.grid.proofs.Numbers.{corner-is, quad-fits}
 use Prim.Native.Nat.{_-_}
 use native.Mathlib.Omega.{arith}
 use borrow.Author.Needs.{needs}

@@ -1,7 +1,7 @@
-use Rattle.grid.proofs.Numbers.{multiple-below}
 use Rattle.lists.proofs.Pieces.{Singles, singles-none, singles-more, singles-all}
 use Prim.Native.Nat.{ℕ, _-_, _*_}
 use native.Mathlib.Omega.{arith}
+use Rattle.lists.proofs.Numbers.{multiple-below}
 use borrow.Author.Needs.{needs}
 use Rattle.grid.proofs.quads.put_multiples.Statement.{statement}
 use Rattle.grid.proofs.quads.put_multiples.Tie as tie

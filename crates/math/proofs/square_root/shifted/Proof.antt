@@ -1,5 +1,6 @@
 use native.Mathlib.Omega.{arith}
-use Rattle.math.proofs.RootDigits.{shift-odd, shift-even, even}
+use Rattle.lists.proofs.Squares.{even}
+use Rattle.math.proofs.RootDigits.{shift-odd, shift-even}
 use borrow.Author.Needs.{needs}
 use Rattle.math.proofs.square_root.shifted.Statement.{statement}
 use Rattle.math.proofs.square_root.shifted.Tie as tie

@@ -3,7 +3,8 @@ use Prim.Native.Nat.{_-_, _≤_}
 use lib.ListN.{length}
 use Rattle.mesh.specs.Normals.{sumNear}
 use mathlib.Core.Path.{_∙_}
-use Rattle.normals.proofs.Walks.{Left, left-start, left-step, left-end, face-low, near-one, near-nothing}
+use Rattle.lists.proofs.Lists.{all-low}
+use Rattle.normals.proofs.Walks.{Left, left-start, left-step, left-end, near-one, near-nothing}
 use borrow.Author.Needs.{needs}
 use Rattle.normals.proofs.sums.near_faces.Statement.{statement}
 use Rattle.normals.proofs.sums.near_faces.Tie as tie
@@ -42,13 +43,13 @@ mul-near-step : tie.Need-mul-near-step Inv-loop μ-loop
 mul-near-step c = let R = c .before .before .before .before .before .before .before .before .before .before .pre .0 .room in omega arith
 
 mul-near-step-2 : tie.Need-mul-near-step-2 Inv-loop μ-loop
-mul-near-step-2 c = let R = c .before .before .before .before .before .before .before .before .before .before .pre .0 .room in omega (arith, face-low (c .before .before .before .before .before .before .before .before .before .before .args .t .faces) (c .before .before .before .before .before .before .before .before .before .before .args .faces .now) (c .before .before .before .before .before .before .before .before .before .before .pre .1) _ _ (c .before .before .before .loop-test .taken) (c .before .wide .ensures), c .before .before .before .before .before .before .before .before .before .before .pre .3 .room)
+mul-near-step-2 c = let R = c .before .before .before .before .before .before .before .before .before .before .pre .0 .room in omega (arith, all-low (c .before .before .before .before .before .before .before .before .before .before .args .t .faces) (c .before .before .before .before .before .before .before .before .before .before .args .faces .now) (c .before .before .before .before .before .before .before .before .before .before .pre .1) _ _ (c .before .before .before .loop-test .taken) (c .before .wide .ensures), c .before .before .before .before .before .before .before .before .before .before .pre .3 .room)
 
 add-near-step : tie.Need-add-near-step Inv-loop μ-loop
-add-near-step c = let R = c .before .before .before .before .before .before .before .before .before .before .pre .0 .room in omega (arith, face-low (c .before .before .before .before .before .before .before .before .before .before .args .t .faces) (c .before .before .before .before .before .before .before .before .before .before .args .faces .now) (c .before .before .before .before .before .before .before .before .before .before .pre .1) _ _ (c .before .before .before .loop-test .taken) (c .before .wide .ensures), c .before .before .before .before .before .before .before .before .before .before .pre .3 .room)
+add-near-step c = let R = c .before .before .before .before .before .before .before .before .before .before .pre .0 .room in omega (arith, all-low (c .before .before .before .before .before .before .before .before .before .before .args .t .faces) (c .before .before .before .before .before .before .before .before .before .before .args .faces .now) (c .before .before .before .before .before .before .before .before .before .before .pre .1) _ _ (c .before .before .before .loop-test .taken) (c .before .wide .ensures), c .before .before .before .before .before .before .before .before .before .before .pre .3 .room)
 
 near-step-requires : tie.Need-near-step-requires Inv-loop μ-loop
-near-step-requires c κs = let R = c .before .before .before .before .before .before .before .before .before .before .pre .0 .room in omega (arith, face-low (c .before .before .before .before .before .before .before .before .before .before .args .t .faces) (c .before .before .before .before .before .before .before .before .before .before .args .faces .now) (c .before .before .before .before .before .before .before .before .before .before .pre .1) _ _ (c .before .before .before .loop-test .taken) (c .before .wide .ensures), c .before .before .before .before .before .before .before .before .before .before .pre .3 .room)
+near-step-requires c κs = let R = c .before .before .before .before .before .before .before .before .before .before .pre .0 .room in omega (arith, all-low (c .before .before .before .before .before .before .before .before .before .before .args .t .faces) (c .before .before .before .before .before .before .before .before .before .before .args .faces .now) (c .before .before .before .before .before .before .before .before .before .before .pre .1) _ _ (c .before .before .before .loop-test .taken) (c .before .wide .ensures), c .before .before .before .before .before .before .before .before .before .before .pre .3 .room)
 
 add-k : tie.Need-add-k Inv-loop μ-loop
 add-k c = omega (arith, c .before .before .before .before .loop-test .taken, c .before .before .before .before .before .before .before .before .before .before .before .good)
@@ -57,7 +58,7 @@ loop-less : tie.Need-loop-less Inv-loop μ-loop
 loop-less c = omega arith
 
 loop-again : tie.Need-loop-again Inv-loop μ-loop
-loop-again c = let l = face-low (c .before .before .before .before .before .before .before .before .before .before .before .args .t .faces) (c .before .before .before .before .before .before .before .before .before .before .before .args .faces .now) (c .before .before .before .before .before .before .before .before .before .before .before .pre .1) _ _ (c .before .before .before .before .loop-test .taken) (c .before .before .wide .ensures) in (omega arith, left-step (sumNear _ _ _) _ _ _ (c .before .before .before .before .before .loop .inv .1) (c .before .before .before .before .loop-test .taken) (near-one _ _ _ _ _ _ (c .before .before .wide .ensures) _ _ _ _ _ (c .before .before .before .before .before .before .before .before .before .before .before .pre .0) l (c .before .before .before .before .before .before .before .before .before .before .before .pre .3 .unit _ l) (c .before .before .before .before .before .before .before .before .before .before .before .pre .3 .normal _ l) (c .near-step .ensures)))
+loop-again c = let l = all-low (c .before .before .before .before .before .before .before .before .before .before .before .args .t .faces) (c .before .before .before .before .before .before .before .before .before .before .before .args .faces .now) (c .before .before .before .before .before .before .before .before .before .before .before .pre .1) _ _ (c .before .before .before .before .loop-test .taken) (c .before .before .wide .ensures) in (omega arith, left-step (sumNear _ _ _) _ _ _ (c .before .before .before .before .before .loop .inv .1) (c .before .before .before .before .loop-test .taken) (near-one _ _ _ _ _ _ (c .before .before .wide .ensures) _ _ _ _ _ (c .before .before .before .before .before .before .before .before .before .before .before .pre .0) l (c .before .before .before .before .before .before .before .before .before .before .before .pre .3 .unit _ l) (c .before .before .before .before .before .before .before .before .before .before .before .pre .3 .normal _ l) (c .near-step .ensures)))
 
 returns : tie.Need-returns Inv-loop μ-loop
 returns c = left-end (sumNear _ _ _) _ _ _ (c .before .before .get3 .ensures ∙ c .before .before .before .before .before .before .before .pre .3 .normal _ (c .before .before .before .before .before .before .before .pre .2)) (c .before .loop .inv .1) (omega arith) (near-nothing _ _ _ _)

@@ -2,9 +2,9 @@ use mathlib.Core.Path.{_≡_, refl, _∙_}
 use Prim.Native.Nat.{ℕ, _-_, _≤_, _<_}
 use native.Mathlib.Omega.{arith}
 use lib.ListN.{length}
+use Rattle.lists.specs.Parts.{Full}
+use Rattle.lists.proofs.Loops.{full-go}
 use borrow.Author.Needs.{needs}
-use Rattle.polygon.specs.Memo.{Full}
-use Rattle.polygon.proofs.Keep.{full-go}
 use Rattle.polygon.proofs.ears.fill.Statement.{statement}
 use Rattle.polygon.proofs.ears.fill.Tie as tie
 

@@ -3,14 +3,14 @@ use mathlib.Core.Logic.{_⊎_, inl, inr}
 use Prim.Native.Nat.{ℕ, _+_, _-_, _*_, _/_, _<_, _≤_}
 use native.Mathlib.Omega.{arith}
 use Rattle.series.specs.Series.{halfTurn}
-use Rattle.series.proofs.Arc.{le-or-lt}
 use Rattle.math.specs.Digit.{Bit}
+use Rattle.lists.proofs.Numbers.{lt-or-le}
 use borrow.Author.Needs.{needs}
 use Rattle.sine.proofs.angle.digit.Statement.{statement}
 use Rattle.sine.proofs.angle.digit.Tie as tie
 
 top-bit : (r : ℕ) → r < 2 * halfTurn → Bit r halfTurn ((r + (9223372036854775808 - halfTurn)) / 9223372036854775808)
-top-bit r h = go (le-or-lt r halfTurn)
+top-bit r h = go (lt-or-le r halfTurn)
   where
     none : r < halfTurn → (r + (9223372036854775808 - halfTurn)) / 9223372036854775808 ≡ 0
     none l = omega arith

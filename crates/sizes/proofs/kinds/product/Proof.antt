@@ -1,5 +1,5 @@
 use Prim.Native.Nat.{_*_}
-use Rattle.sizes.proofs.Within.{product-fits}
+use Rattle.lists.proofs.Numbers.{product-fits}
 use borrow.Author.Needs.{needs}
 use Rattle.sizes.proofs.kinds.product.Statement.{statement}
 use Rattle.sizes.proofs.kinds.product.Tie as tie
