@@ -20,14 +20,16 @@ use Rattle.polygon.proofs.Projection.{length-spots}
 use Rattle.polygon.proofs.Triangles.{by-plane, by-fan, triangles-count}
 use Rattle.tables.specs.declared.layout.Plan.{Plan}
 use Rattle.tables.specs.Layout.{planOf}
-use Rattle.lists.specs.Parts.{seg, Kept}
+use Rattle.lists.specs.Parts.{seg, Kept, spliced}
 use Rattle.tables.specs.Soups.{startIn, pointsIn, Sound}
 use Rattle.lists.proofs.Keep.{kept-all, kept-seg, length-seg, part-seg}
 use Rattle.tables.proofs.Stays.{start-le, start-kept, points-kept}
 use Rattle.lists.proofs.Lists.{no-elements}
+use Rattle.lists.proofs.Splices.{sets-spliced, splice-start}
 use Rattle.faces.specs.Naming.{threes, numbered}
 use Rattle.faces.specs.Indices.{outlineIn, facingIn, trianglesIn, cornersMade, oneFace, planeIn, cornersFloats, oneFloats, Ready, Put}
 use Rattle.faces.proofs.Threes.{length-numbered, in-place}
+use Rattle.polygon.proofs.Whole.{length-flat}
 
 module _ (w : List ℕ) (t : Plan) (ccw : Bool) (a n : ℕ) where
   -- what `put_plane` leaves
@@ -44,24 +46,26 @@ module _ (w : List ℕ) (t : Plan) (ccw : Bool) (a n : ℕ) where
       e ∙ ap₂ (λ (m : V3) (ps : List V3). sets fs 0 (flat2 (projection ccw m ps))) u z
 
   module _ (convex : Bool) (h : t .corners + a + n ≤ length w) where
+    pub length-triangles : length (trianglesIn w t ccw convex a n) ≡ n - 2
+    unfolding trianglesIn outlineIn
+    length-triangles =
+        triangles-count ccw convex (outlineIn w t a n) (facingIn w t ccw a n)
+        ∙ ap (λ (k : ℕ). k - 2) (length-spots (pointsIn w t) (seg w (t .corners + a) n) ∙ length-seg w (t .corners + a) n h)
+
     -- what `put_corners` leaves
-    pub corners-put : (fs gs : List Float) (o o′ : List ℕ) (at : ℕ) → n * 2 ≤ length fs
+    pub corners-put : (fs gs : List Float) (o o′ : List ℕ) (at : ℕ) → n * 2 ≤ length fs → at + (n - 2) * 3 ≤ length o
         → gs ≡ cornersFloats w t ccw convex a n fs
-        → o′ ≡ sets o at (flat (faceTris convex (pairs (take (n * 2) gs)))) → o′ ≡ sets o at (flat (trianglesIn w t ccw convex a n))
+        → o′ ≡ sets o at (flat (faceTris convex (pairs (take (n * 2) gs)))) → o′ ≡ spliced o at (flat (trianglesIn w t ccw convex a n))
     unfolding cornersFloats planeIn trianglesIn outlineIn
-    corners-put fs gs o o′ at k g e = e ∙ ap (λ (ts : List Tri). sets o at (flat ts)) (go (isFan convex n) refl g)
+    corners-put fs gs o o′ at k room g e =
+        e ∙ ap (λ (ts : List Tri). sets o at (flat ts)) (go (isFan convex n) refl g)
+        ∙ sets-spliced o at (flat (trianglesIn w t ccw convex a n)) (omega (arith, length-flat (trianglesIn w t ccw convex a n), length-triangles, room))
       where
         go : (b : Bool) → isFan convex n ≡ b → gs ≡ pick b fs (sets fs 0 (planeIn w t ccw a n)) → faceTris convex (pairs (take (n * 2) gs)) ≡ trianglesIn w t ccw convex a n
         go true q x =
             ap (λ (l : List Float). faceTris convex (pairs (take (n * 2) l))) x
             ∙ by-fan ccw convex (pointsIn w t) (seg w (t .corners + a) n) (facingIn w t ccw a n) n fs (length-seg w (t .corners + a) n h) k q
         go false q x = by-plane ccw convex (pointsIn w t) (seg w (t .corners + a) n) (facingIn w t ccw a n) n fs gs (length-seg w (t .corners + a) n h) k x
-
-    pub length-triangles : length (trianglesIn w t ccw convex a n) ≡ n - 2
-    unfolding trianglesIn outlineIn
-    length-triangles =
-        triangles-count ccw convex (outlineIn w t a n) (facingIn w t ccw a n)
-        ∙ ap (λ (k : ℕ). k - 2) (length-spots (pointsIn w t) (seg w (t .corners + a) n) ∙ length-seg w (t .corners + a) n h)
 
     pub length-corners : length (cornersMade w t ccw convex a n) ≡ (n - 2) * 3
     unfolding cornersMade
@@ -112,15 +116,15 @@ module _ {w : List ℕ} {t : Plan} (S : Sound w t) (ccw convex : Bool) where
         let l : length (oneFace w t ccw convex g) ≡ 0 = length-here ∙ omega arith in
         record {
           next = omega arith;
-          made = ap (sets o at) (sym (no-elements (oneFace w t ccw convex g) l));
+          made = splice-start o at ∙ ap (spliced o at) (sym (no-elements (oneFace w t ccw convex g) l));
           kept = kept-all;
           floats = sym (floats-are f ∙ floats-few w t ccw convex a (b - a) f few);
         }
 
     -- three or more
     pub more-put : (w′ o X Y : List ℕ) (f f′ : List Float) (at r : ℕ) → at + (b - a - 2) * 3 ≤ length o → Kept (t .places) w w′
-        → X ≡ sets o at (flat (trianglesIn w t ccw convex a (b - a)))
-        → Y ≡ sets X at (numbered ccw (seg w′ (t .named + a) (b - a)) (threes (b - a - 2) (drop at X))) → f′ ≡ cornersFloats w t ccw convex a (b - a) f
+        → X ≡ spliced o at (flat (trianglesIn w t ccw convex a (b - a)))
+        → Y ≡ spliced X at (numbered ccw (seg w′ (t .named + a) (b - a)) (threes (b - a - 2) (drop at X))) → f′ ≡ cornersFloats w t ccw convex a (b - a) f
         → r ≡ at + (b - a - 2) * 3 → Put t (oneFace w t ccw convex g) (oneFloats w t ccw convex g f) at r o Y w w′ f′
     unfolding cornersMade
     more-put w′ o X Y f f′ at r room K x y z er =
@@ -134,7 +138,7 @@ module _ {w : List ℕ} {t : Plan} (S : Sound w t) (ccw convex : Bool) where
           next = er ∙ ap (λ (m : ℕ). at + m) (sym l);
           made =
               in-place ccw (seg w (t .named + a) (b - a)) o X Y (trianglesIn w t ccw convex a (b - a)) at (b - a - 2) (length-triangles w t ccw a (b - a) convex corners-here)
-              room x (y ∙ ap (λ (s : List ℕ). sets X at (numbered ccw s (threes (b - a - 2) (drop at X)))) v) ∙ ap (sets o at) (sym one-is);
+              room x (y ∙ ap (λ (s : List ℕ). spliced X at (numbered ccw s (threes (b - a - 2) (drop at X)))) v) ∙ ap (spliced o at) (sym one-is);
           kept = K;
           floats = z ∙ sym (floats-are f);
         }

@@ -1,14 +1,16 @@
 -- Triangles in threes: renamed one by one where they stand, and all of a face.
 use mathlib.Core.Path.{_≡_, refl, sym, ap, _∙_}
 use mathlib.Core.Bool.{Bool}
-use mathlib.Core.List.{List, [], _∷_, _++_, append-assoc}
-use Prim.Native.Nat.{ℕ, suc, _+_, _-_, _*_, _≤_, _<_}
+use mathlib.Core.List.{List, [], _∷_, _++_}
+use Prim.Native.Nat.{ℕ, suc, _+_, _-_, _*_, _≤_, _<_, zero}
 use native.Mathlib.Nat.{sub-zero}
 use native.Mathlib.Omega.{arith}
-use lib.ListN.{length, getD, take, drop}
-use lib.Seq.{sets, sets-eq, length-sets, drop-at, length-take-le}
+use lib.ListN.{length, getD, take, drop, take-append-drop}
+use lib.Seq.{sets, length-sets}
 use Rattle.lists.proofs.Lists.{drop-three}
-use Rattle.lists.proofs.Stores.{sets-over, drop-sets}
+use Rattle.lists.proofs.Stores.{drop-sets}
+use Rattle.lists.proofs.Splices.{sets-spliced, put-part, splice-over}
+use Rattle.lists.specs.Parts.{spliced}
 use Rattle.polygon.specs.Ears.{Tri, triple, flat}
 use Rattle.polygon.proofs.Whole.{length-flat}
 use Rattle.mesh.specs.Vertices.{wound}
@@ -18,6 +20,14 @@ pub length-numbered : (ccw : Bool) (named : List ℕ) (ts : List Tri) → length
 unfolding numbered wound
 length-numbered ccw named [] = refl
 length-numbered ccw named (t ∷ ts) = let h : length (numbered ccw named ts) ≡ length ts * 3 = length-numbered ccw named ts in omega arith
+
+pub length-threes : (n : ℕ) (l : List ℕ) → length (threes n l) ≤ n
+unfolding threes
+length-threes zero l = omega arith
+length-threes (suc n) [] = omega arith
+length-threes (suc n) (a ∷ []) = omega arith
+length-threes (suc n) (a ∷ b ∷ []) = omega arith
+length-threes (suc n) (a ∷ b ∷ c ∷ l) = omega (arith, length-threes n l)
 
 -- ---- the loop that renames
 
@@ -38,14 +48,15 @@ module _ (ccw : Bool) (named : List ℕ) where
       }
 
   pub renaming-go : (o₀ o o′ : List ℕ) (at n i k : ℕ) → i < n → k ≡ at + i * 3 → at + n * 3 ≤ length o₀
-      → o′ ≡ sets o k (numbered ccw named (triple (getD o k 0) (getD o (k + 1) 0) (getD o (k + 2) 0) ∷ []))
+      → o′ ≡ spliced o k (numbered ccw named (triple (getD o k 0) (getD o (k + 1) 0) (getD o (k + 2) 0) ∷ []))
       → Renaming o₀ o at n i → Renaming o₀ o′ at n (i + 1)
   unfolding numbered wound threes
-  renaming-go o₀ o o′ at n i k h q b e R =
+  renaming-go o₀ o o′ at n i k h q b e₀ R =
       let T : Tri = triple (getD o k 0) (getD o (k + 1) 0) (getD o (k + 2) 0) in
       let m : ℕ = n - (i + 1) in
       let r : List ℕ = drop (k + 3) o in
       let l : length o ≡ length o₀ = R .long in
+      let e : o′ ≡ sets o k (numbered ccw named (T ∷ [])) = e₀ ∙ sym (sets-spliced o k (numbered ccw named (T ∷ [])) (omega (arith, length-numbered ccw named (T ∷ [])))) in
       let f : n - i ≡ suc (n - (i + 1)) = omega arith in
       let s : at + (i + 1) * 3 ≡ k + 3 = omega arith in
       let u : suc (suc (suc k)) ≡ k + 3 = omega arith in
@@ -65,11 +76,13 @@ module _ (ccw : Bool) (named : List ℕ) where
             ∙ R .rest;
       }
 
-  pub renaming-end : (o₀ o : List ℕ) (at n i : ℕ) → n ≤ i → Renaming o₀ o at n i → o ≡ sets o₀ at (numbered ccw named (threes n (drop at o₀)))
+  pub renaming-end : (o₀ o : List ℕ) (at n i : ℕ) → n ≤ i → at + n * 3 ≤ length o₀ → Renaming o₀ o at n i → o ≡ spliced o₀ at (numbered ccw named (threes n (drop at o₀)))
   unfolding numbered wound threes
-  renaming-end o₀ o at n i h R =
+  renaming-end o₀ o at n i h b R =
       let z : n - i ≡ 0 = omega arith in
       sym (ap (λ (j : ℕ). sets o (at + i * 3) (numbered ccw named (threes j (drop (at + i * 3) o)))) z) ∙ R .rest
+      ∙ sets-spliced o₀ at (numbered ccw named (threes n (drop at o₀)))
+      (omega (arith, length-numbered ccw named (threes n (drop at o₀)), length-threes n (drop at o₀), b))
 
   -- ---- all of a face
 
@@ -79,15 +92,14 @@ module _ (ccw : Bool) (named : List ℕ) where
   threes-flat (t ∷ ts) r = ap (λ (l : List Tri). t ∷ l) (threes-flat ts r)
 
   -- triangles that were written and then renamed
-  pub in-place : (o X Y : List ℕ) (ts : List Tri) (at n : ℕ) → length ts ≡ n → at + n * 3 ≤ length o → X ≡ sets o at (flat ts)
-      → Y ≡ sets X at (numbered ccw named (threes n (drop at X))) → Y ≡ sets o at (numbered ccw named ts)
+  pub in-place : (o X Y : List ℕ) (ts : List Tri) (at n : ℕ) → length ts ≡ n → at + n * 3 ≤ length o → X ≡ spliced o at (flat ts)
+      → Y ≡ spliced X at (numbered ccw named (threes n (drop at X))) → Y ≡ spliced o at (numbered ccw named ts)
   in-place o X Y ts at n e h x y =
       let ys : List ℕ = numbered ccw named ts in
-      let a : length (flat ts) ≡ length ts * 3 = length-flat ts in
-      let b : length ys ≡ length ts * 3 = length-numbered ccw named ts in
-      let R : List ℕ = drop (at + length (flat ts)) o in
-      let s : X ≡ take at o ++ (flat ts ++ R) = x ∙ sets-eq (flat ts) o at (omega arith) ∙ append-assoc (take at o) (flat ts) R in
-      let d : drop at X ≡ flat ts ++ R = ap (drop at) s ∙ drop-at (take at o) (flat ts ++ R) at (length-take-le at o (omega arith)) in
-      let q : threes n (drop at X) ≡ ts = ap (threes n) d ∙ ap (λ (j : ℕ). threes j (flat ts ++ R)) (sym e) ∙ threes-flat ts R in
-      y ∙ ap (λ (l : List Tri). sets X at (numbered ccw named l)) q ∙ ap (λ (l : List ℕ). sets l at ys) x
-      ∙ sets-over (flat ts) ys o at (omega arith) (omega arith)
+      let a : length (flat ts) ≡ n * 3 = length-flat ts ∙ ap (λ (k : ℕ). k * 3) e in
+      let b : length ys ≡ n * 3 = length-numbered ccw named ts ∙ ap (λ (k : ℕ). k * 3) e in
+      let d : take (n * 3) (drop at X) ≡ flat ts = put-part o at (flat ts) x a h in
+      let q : threes n (drop at X) ≡ ts =
+      ap (threes n) (sym (take-append-drop (n * 3) (drop at X)) ∙ ap (λ (l : List ℕ). l ++ drop (n * 3) (drop at X)) d)
+      ∙ ap (λ (j : ℕ). threes j (flat ts ++ drop (n * 3) (drop at X))) (sym e) ∙ threes-flat ts (drop (n * 3) (drop at X)) in
+      y ∙ ap (λ (l : List Tri). spliced X at (numbered ccw named l)) q ∙ ap (λ (l : List ℕ). spliced l at ys) x ∙ splice-over o at (flat ts) ys (a ∙ sym b) (omega arith)

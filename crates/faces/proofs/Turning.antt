@@ -7,17 +7,17 @@ use native.Mathlib.Nat.{zero-add, sub-zero}
 use native.Mathlib.Numerals.{add-one}
 use native.Mathlib.Omega.{arith}
 use lib.Ieee.{Float}
-use lib.ListN.{length, drop}
-use lib.Seq.{sets, sets-eq}
+use lib.ListN.{length}
 use Rattle.lists.specs.Loops.{tab, run}
 use Rattle.lists.proofs.Loops.{run-go, run-end}
 use Rattle.lists.specs.Lists.{flat}
 use Rattle.tables.specs.declared.layout.Plan.{Plan}
-use Rattle.lists.specs.Parts.{Kept}
+use Rattle.lists.specs.Parts.{Kept, spliced}
 use Rattle.tables.specs.Soups.{startIn}
 use Rattle.lists.proofs.Keep.{kept-all, kept-then}
-use Rattle.lists.proofs.Putting.{Split, stores, Left, left-all, left-here, left-next, left-end}
+use Rattle.lists.proofs.Putting.{Split, splices, Left, left-all, left-here, left-spliced, left-end}
 use Rattle.tables.proofs.Stays.{sound-kept}
+use Rattle.lists.proofs.Splices.{splice-front}
 use Rattle.faces.specs.Indices.{oneFace, allFaces, oneFloats, allFloats, Ready, Put, Made}
 use Rattle.faces.proofs.Pieces.{length-one, one-kept, one-floats}
 
@@ -30,7 +30,7 @@ module _ (w₀ : List ℕ) (t : Plan) (ccw convex : Bool) where
   pub record Facing (o₀ o w : List ℕ) (f₀ f : List Float) (g at : ℕ) : Type 0 where
     pub within : g ≤ t .faces
     pub kept : Kept (t .places) w₀ w
-    pub left : Left sets (allFaces w₀ t ccw convex) 0 o₀ (rest g) at o
+    pub left : Left spliced (allFaces w₀ t ccw convex) 0 o₀ (rest g) at o
     pub floats : run (oneFloats w₀ t ccw convex) (t .faces - g) g f ≡ allFloats w₀ t ccw convex f₀
 
   rest-all : rest 0 ≡ allFaces w₀ t ccw convex
@@ -50,7 +50,7 @@ module _ (w₀ : List ℕ) (t : Plan) (ccw convex : Bool) where
   facing-start o f = record {
     within = omega arith;
     kept = kept-all;
-    left = rw rest-all (left-all sets);
+    left = rw rest-all (left-all spliced);
     floats = ap (λ (k : ℕ). run (oneFloats w₀ t ccw convex) k 0 f) (sub-zero (t .faces));
   }
 
@@ -76,26 +76,25 @@ module _ (w₀ : List ℕ) (t : Plan) (ccw convex : Bool) where
           let e = length-one (sound-kept (F .kept) t (omega arith) (Q .sound)) ccw convex g h in
           omega (arith, e, left-here (F .left) split, F .left .len, b)
 
-      pub facing-go : (o′ w′ : List ℕ) (f′ : List Float) (r : ℕ) → Put t (oneFace w t ccw convex g) (oneFloats w t ccw convex g f) at r o o′ w w′ f′
+      pub facing-go : length (allFaces w₀ t ccw convex) ≤ length o₀ → (o′ w′ : List ℕ) (f′ : List Float) (r : ℕ) → Put t (oneFace w t ccw convex g) (oneFloats w t ccw convex g f) at r o o′ w w′ f′
           → Facing o₀ o′ w′ f₀ f′ (g + 1) r
-      facing-go o′ w′ f′ r P =
+      facing-go b o′ w′ f′ r P =
           record {
             within = omega arith;
             kept = kept-then (F .kept) (P .kept) (omega arith);
-            left = left-next (F .left) split stores (record { next = P .next; made = P .made });
+            left = left-spliced (F .left) (omega (arith, b)) split (record { next = P .next; made = P .made });
             floats =
                 ap (run (oneFloats w₀ t ccw convex) (t .faces - (g + 1)) (g + 1)) (P .floats ∙ one-floats (F .kept) (Q .sound) ccw convex g h f)
                 ∙ sym (run-go (oneFloats w₀ t ccw convex) (t .faces) g f h) ∙ F .floats;
           }
 
-  pub facing-end : (o₀ o w : List ℕ) (f₀ f : List Float) (g at : ℕ) → t .faces ≤ g → length (allFaces w₀ t ccw convex) ≤ length o₀ → Facing o₀ o w f₀ f g at
+  pub facing-end : (o₀ o w : List ℕ) (f₀ f : List Float) (g at : ℕ) → t .faces ≤ g → Facing o₀ o w f₀ f g at
       → Made t (allFaces w₀ t ccw convex) (allFloats w₀ t ccw convex f₀) at o₀ o w₀ w f
-  facing-end o₀ o w f₀ f g at h b F =
-      let A = left-end (F .left) stores (rest-none g h) in
+  facing-end o₀ o w f₀ f g at h F =
+      let A = left-end (F .left) splices (rest-none g h) in
       record {
         count = A .next ∙ zero-add (length (allFaces w₀ t ccw convex));
-        made = A .made ∙ sets-eq (allFaces w₀ t ccw convex) o₀ 0 (omega (arith, b))
-            ∙ ap (λ (k : ℕ). allFaces w₀ t ccw convex ++ drop k o₀) (zero-add (length (allFaces w₀ t ccw convex)));
+        made = A .made ∙ splice-front o₀ (allFaces w₀ t ccw convex);
         kept = F .kept;
         floats = sym (run-end (oneFloats w₀ t ccw convex) (t .faces) g f h) ∙ F .floats;
       }

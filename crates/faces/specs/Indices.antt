@@ -18,7 +18,7 @@ use Rattle.lists.specs.Lists.{place, flat}
 use Rattle.mesh.specs.Soup.{noCorner, Face, Frame}
 use Rattle.mesh.specs.Vertices.{Key, sameKey, keyOf}
 use Rattle.tables.specs.declared.layout.Plan.{Plan}
-use Rattle.lists.specs.Parts.{seg, Kept}
+use Rattle.lists.specs.Parts.{seg, spliced, Kept}
 use Rattle.tables.specs.Soups.{startIn, namedIn, pointsIn, Sound}
 use Rattle.faces.specs.Naming.{numbered}
 
@@ -76,7 +76,7 @@ pub record Named (w : List ℕ) (t : Plan) (F : Frame) (fs : List Face) (vs : Li
 -- one face: its indices xs from `at` on, the next place r; the tables below the places are kept; the floats became f
 pub record Put (t : Plan) (xs : List ℕ) (f : List Float) (at r : ℕ) (o o′ w w′ : List ℕ) (f′ : List Float) : Type 0 where
   pub next : r ≡ at + length xs
-  pub made : o′ ≡ sets o at xs
+  pub made : o′ ≡ spliced o at xs
   pub kept : Kept (t .places) w w′
   pub floats : f′ ≡ f
 

@@ -4,7 +4,7 @@ ghost use Prim.Native.Nat.{suc, _+_, _-_, _*_, _≤_, _<_};
 ghost use lib.ListN.{length, drop};
 ghost use lib.Seq.{sets};
 ghost use Rattle.polygon.specs.Ears.{flat};
-ghost use Rattle.lists.specs.Parts.{seg, Kept};
+ghost use Rattle.lists.specs.Parts.{seg, spliced, Kept};
 ghost use Rattle.tables.specs.Soups.{startIn, Sound};
 ghost use Rattle.faces.specs.Naming.{threes, numbered};
 ghost use Rattle.faces.specs.Indices.{trianglesIn, oneFace, allFaces, planeIn, cornersFloats, oneFloats, allFloats, Ready, Put, Made};
@@ -60,7 +60,7 @@ fn put_corners(
 )
     requires { ⌜ Ready (now work) t (length (now floats)) × (a .0 + n ≤ t .count) × (at + (n - 2) * 3 ≤ length (now indices)) ⌝ }
     ensures { λ _. ⌜ Kept (t .places) (now (work .entry)) (now (work .exit))
-        × (now (indices .exit) ≡ sets (now (indices .entry)) at (flat (trianglesIn (now (work .entry)) t ccw convex (a .0) n)))
+        × (now (indices .exit) ≡ spliced (now (indices .entry)) at (flat (trianglesIn (now (work .entry)) t ccw convex (a .0) n)))
         × (now (floats .exit) ≡ cornersFloats (now (work .entry)) t ccw convex (a .0) n (now (floats .entry))) ⌝ }
 {
     put_plane_where(work, t, a, n, ccw, convex, floats);
@@ -80,7 +80,7 @@ fn name_corners(
     at: usize,
 )
     requires { ⌜ (2 ≤ n) × (t .named + a .0 + n ≤ length (now work)) × (at + (n - 2) * 3 ≤ length (now indices)) ⌝ }
-    ensures { λ _. ⌜ now (indices .exit) ≡ sets (now (indices .entry)) at (numbered ccw (seg (now (work .entry)) (t .named + a .0) n) (threes (n - 2) (drop at (now (indices .entry))))) ⌝ }
+    ensures { λ _. ⌜ now (indices .exit) ≡ spliced (now (indices .entry)) at (numbered ccw (seg (now (work .entry)) (t .named + a .0) n) (threes (n - 2) (drop at (now (indices .entry))))) ⌝ }
 {
     let lo = t.named + a.0;
     let hi = lo + n;

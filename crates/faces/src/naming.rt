@@ -3,7 +3,7 @@ ghost use mathlib.Core.Path.{_≡_};
 ghost use mathlib.Core.List.{[], _∷_};
 ghost use Prim.Native.Nat.{_+_, _*_, _^_, _≤_, _<_};
 ghost use lib.ListN.{length, getD, set, drop};
-ghost use lib.Seq.{sets};
+ghost use Rattle.lists.specs.Parts.{spliced};
 ghost use Rattle.polygon.specs.Ears.{triple};
 ghost use Rattle.faces.specs.Naming.{threes, numbered};
 use block::CornerNumber;
@@ -36,7 +36,7 @@ fn put_vertex(s: &mut [u32], k: usize, v: VertexNumber)
 
 fn put_three(s: &mut [u32], k: usize, a: VertexNumber, b: VertexNumber, c: VertexNumber)
     requires { ⌜ (k + 3 ≤ length (now s)) × (a .0 < 2 ^ 32) × (b .0 < 2 ^ 32) × (c .0 < 2 ^ 32) ⌝ }
-    ensures { λ _. ⌜ now (s .exit) ≡ sets (now (s .entry)) k (a .0 ∷ b .0 ∷ c .0 ∷ []) ⌝ }
+    ensures { λ _. ⌜ now (s .exit) ≡ spliced (now (s .entry)) k (a .0 ∷ b .0 ∷ c .0 ∷ []) ⌝ }
 {
     put_vertex(s, k, a);
     put_vertex(s, k + 1, b);
@@ -46,7 +46,7 @@ fn put_three(s: &mut [u32], k: usize, a: VertexNumber, b: VertexNumber, c: Verte
 // One triangle; b and c are exchanged where ccw is off.
 fn name_tri(s: &mut [u32], k: usize, named: &[u32], ccw: bool)
     requires { ⌜ k + 3 ≤ length (now s) ⌝ }
-    ensures { λ _. ⌜ now (s .exit) ≡ sets (now (s .entry)) k (numbered ccw (now (named .entry))
+    ensures { λ _. ⌜ now (s .exit) ≡ spliced (now (s .entry)) k (numbered ccw (now (named .entry))
         (triple (getD (now (s .entry)) k 0) (getD (now (s .entry)) (k + 1) 0) (getD (now (s .entry)) (k + 2) 0) ∷ [])) ⌝ }
 {
     let a = vertex_of(named, corner_at(s, k));
@@ -62,7 +62,7 @@ fn name_tri(s: &mut [u32], k: usize, named: &[u32], ccw: bool)
 // The n triangles from `at` on. `named` has the vertex numbers of the face's corners.
 pub fn rename(indices: &mut [u32], at: usize, n: usize, named: &[u32], ccw: bool)
     requires { ⌜ at + n * 3 ≤ length (now indices) ⌝ }
-    ensures { λ _. ⌜ now (indices .exit) ≡ sets (now (indices .entry)) at (numbered ccw (now (named .entry)) (threes n (drop at (now (indices .entry))))) ⌝ }
+    ensures { λ _. ⌜ now (indices .exit) ≡ spliced (now (indices .entry)) at (numbered ccw (now (named .entry)) (threes n (drop at (now (indices .entry))))) ⌝ }
 {
     let mut i = 0;
     while i < n {

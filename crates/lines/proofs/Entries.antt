@@ -41,7 +41,7 @@ module _ (t : CornerTables) where
 
   listing : Way (listed t)
   unfolding listed
-  listing = record { none = λ o a. refl; joins = listed-append; keeps = length-listed }
+  listing = record { none = λ o a. refl; joins = listed-append }
 
 -- ---- the entries of a run
 
@@ -69,7 +69,7 @@ module _ {p num s : ℕ} {es : List ℕ} {t : CornerTables} {c₀ : ℕ} {w₀ :
     entry-here q b = omega (arith, left-here (L .left) next-entry, ap length (use-here num (s + k) b))
 
     pub entry-next : {c′ : ℕ} {w′ : List ℕ} → Added (listed t) (these (useOf p num (s + k) (getD es k 0))) c w c′ w′ → RunListing p num s es t c₀ w₀ (k + 1) c′ w′
-    entry-next A = record { left = left-next (L .left) next-entry (listing t) A }
+    entry-next A = record { left = left-next (L .left) next-entry (listing t) (length-listed t _ _ _) A }
 
   pub run-end : length es ≤ k → Added (listed t) (runUses p num (runOf s es)) c₀ w₀ c w
   unfolding somes mapN
@@ -95,7 +95,7 @@ module _ {p : ℕ} {bs : List ℕ} {t : CornerTables} {w₀ : List ℕ} {num s c
     listing-here e = omega (arith, left-here (L .left) next-run, length-uses p (entries bs))
 
     pub listing-next : {c′ : ℕ} {w′ : List ℕ} → Added (listed t) (runUses p num (runOf s (entries r))) c w c′ w′ → Listing p bs t w₀ (num + 1) n c′ w′
-    listing-next A = record { left = left-next (L .left) next-run (listing t) A }
+    listing-next A = record { left = left-next (L .left) next-run (listing t) (length-listed t _ _ _) A }
 
 -- ---- the tables
 

@@ -6,11 +6,10 @@ use mathlib.Core.List.{List, [], _∷_, _++_}
 use Prim.Native.Nat.{ℕ, suc, _+_, _^_, _<_}
 use lib.Dec.{ltb}
 use lib.ListN.{length, getD, drop}
-use lib.Seq.{sets}
 use Rattle.block.specs.Runs.{Run}
 use Rattle.mesh.specs.Lines.{line}
 use Rattle.mesh.specs.Sizes.{named}
-use Rattle.lists.specs.Parts.{Added}
+use Rattle.lists.specs.Parts.{spliced, Added}
 use Rattle.lines.specs.declared.pairing.Progress.{Progress}
 
 -- FORMAT 6.3, indexed_line_set (prev): the vertex of the entry before, where that names a point
@@ -37,14 +36,14 @@ runPairs p numbers c (r ∷ rs) = pairs p numbers c none (r .items) ++ runPairs 
 
 -- one entry: from the progress w and the indices o to r and o′
 pub record Stepped (p e : ℕ) (numbers : List ℕ) (w : Progress) (o : List ℕ) (r : Progress) (o′ : List ℕ) : Type 0 where
-  pub added : Added sets (line (lastOf (w .after) (w .last .0)) (vertexAt p numbers (w .corner .0) e)) (w .at) o (r .at) o′
+  pub added : Added spliced (line (lastOf (w .after) (w .last .0)) (vertexAt p numbers (w .corner .0) e)) (w .at) o (r .at) o′
   pub corner : r .corner .0 ≡ cornerAfter p (w .corner .0) e
   pub last : lastOf (r .after) (r .last .0) ≡ vertexAt p numbers (w .corner .0) e
   pub fits : r .last .0 < 2 ^ 32
 
 -- one run, of the entries es
 pub record RunPut (p : ℕ) (es numbers : List ℕ) (w : Progress) (o : List ℕ) (r : Progress) (o′ : List ℕ) : Type 0 where
-  pub added : Added sets (pairs p numbers (w .corner .0) none es) (w .at) o (r .at) o′
+  pub added : Added spliced (pairs p numbers (w .corner .0) none es) (w .at) o (r .at) o′
   pub corner : r .corner .0 ≡ w .corner .0 + named p es
 
 -- the indices xs in front, r of them, and what was there beyond

@@ -4,12 +4,11 @@ ghost use mathlib.Core.Bool.{false};
 ghost use mathlib.Core.Option.{none, some};
 ghost use Prim.Native.Nat.{_+_, _*_, _^_, _<_, _≤_};
 ghost use lib.ListN.{length};
-ghost use lib.Seq.{sets};
 ghost use Rattle.bits.specs.Bits.{entries};
 ghost use Rattle.block.specs.Runs.{runs, sumOver};
 ghost use Rattle.mesh.specs.Lines.{line};
 ghost use Rattle.mesh.specs.Sizes as sizes;
-ghost use Rattle.lists.specs.Parts.{seg, Added};
+ghost use Rattle.lists.specs.Parts.{seg, spliced, Added};
 ghost use Rattle.lines.specs.Steps.{lastOf, vertexAt, pairs, runPairs, Stepped, RunPut, Put};
 use block::CornerNumber;
 use block::PointNumber;
@@ -36,7 +35,7 @@ fn put_line(
     next: VertexNumber,
 ) -> usize
     requires { ⌜ (at + length (line (lastOf after (last .0)) (some (next .0))) ≤ length (now indices)) × (last .0 < 2 ^ 32) × (next .0 < 2 ^ 32) ⌝ }
-    ensures { λ r. ⌜ Added sets (line (lastOf after (last .0)) (some (next .0))) at (now (indices .entry)) r (now (indices .exit)) ⌝ }
+    ensures { λ r. ⌜ Added spliced (line (lastOf after (last .0)) (some (next .0))) at (now (indices .entry)) r (now (indices .exit)) ⌝ }
 {
     if after {
         indices[at] = last.0 as u32;

@@ -1,17 +1,18 @@
 -- A part of a list replaced: by a part that was lent, by stores, and at the end of what is made so far; and what is there then.
-use mathlib.Core.Path.{_≡_, sym, ap, _∙_}
+use mathlib.Core.Path.{_≡_, refl, sym, ap, ap₂, _∙_}
 use mathlib.Core.Logic.{⊎-elim}
 use mathlib.Core.List.{List, [], _∷_, _++_, append-assoc, append-nil}
 use Prim.Native.Nat.{ℕ, suc, _+_, _-_, _≤_, _<_}
-use native.Mathlib.Nat.{add-zero, add-assoc}
+use native.Mathlib.Nat.{add-zero, add-assoc, zero-add}
 use native.Mathlib.Numerals.{add-one}
 use native.Mathlib.Omega.{arith}
 use lib.ListN.{length, getD, set, take, drop, replicate, length-append, length-take, length-drop, drop-of-length-le, length-replicate, getD-replicate, take-append-drop}
-use lib.Seq.{take-at, drop-at, drop-append-add, drop-drop, length-take-le, sets, sets-eq, getD-take, getD-drop}
+use lib.Seq.{take-at, drop-at, drop-append-add, drop-drop, length-take-le, sets, sets-eq, getD-take, getD-drop, take-all}
 use Rattle.lists.specs.Loops.{tab}
 use Rattle.lists.specs.Parts.{seg, spliced, Kept, Out, TableOf}
 use Rattle.lists.proofs.Tabs.{length-tab, tab-at}
 use Rattle.lists.proofs.Keep.{set-miss}
+use Rattle.lists.proofs.Numbers.{le-or-lt}
 
 module _ {A : Type 0} where
   -- a list whose front p is made: the next part
@@ -31,17 +32,38 @@ module _ {A : Type 0} where
   unfolding spliced
   splice-whole l p e = ap (λ (r : List A). p ++ r) (drop-of-length-le l {i = 0 + length p} (omega arith)) ∙ append-nil p
 
-  -- a part, and one behind it
-  pub splice-more : (l : List A) (a b : ℕ) (p q : List A) → b ≡ a + length p → a + length p + length q ≤ length l → spliced (spliced l a p) b q ≡ spliced l a (p ++ q)
+  -- from the start of the list
+  pub splice-front : (l p : List A) → spliced l 0 p ≡ p ++ drop (length p) l
   unfolding spliced
-  splice-more l a b p q eb h =
-      let e : length (take a l ++ p) ≡ a + length p = length-append (take a l) p ∙ ap (λ (k : ℕ). k + length p) (length-take-le a l (omega arith)) in
+  splice-front l p = ap (λ (k : ℕ). p ++ drop k l) (zero-add (length p))
+
+  -- a part, and one behind it
+  join-in : (l : List A) (a : ℕ) (p q : List A) → a ≤ length l → spliced (spliced l a p) (a + length p) q ≡ spliced l a (p ++ q)
+  unfolding spliced
+  join-in l a p q h =
+      let e : length (take a l ++ p) ≡ a + length p = length-append (take a l) p ∙ ap (λ (k : ℕ). k + length p) (length-take-le a l h) in
       let d =
       sym (drop-drop (length q) (a + length p) ((take a l ++ p) ++ drop (a + length p) l))
       ∙ ap (drop (length q)) (drop-at (take a l ++ p) (drop (a + length p) l) (a + length p) e)
       ∙ drop-drop (length q) (a + length p) l in
-      rw (eb, take-at (take a l ++ p) (drop (a + length p) l) (a + length p) e, d, length-append p q, ← add-assoc a (length p) (length q))
+      rw (take-at (take a l ++ p) (drop (a + length p) l) (a + length p) e, d, length-append p q, ← add-assoc a (length p) (length q))
       (simp append-assoc)
+
+  -- past the end there is nothing to replace
+  past : (l : List A) (a : ℕ) (p : List A) → length l ≤ a → spliced l a p ≡ l ++ p
+  unfolding spliced
+  past l a p h = rw (take-all a l h, drop-of-length-le l {i = a + length p} (omega arith)) (append-nil (l ++ p))
+
+  pub splice-join : (l : List A) (a : ℕ) (p q : List A) → spliced l a (p ++ q) ≡ spliced (spliced l a p) (a + length p) q
+  splice-join l a p q =
+      ⊎-elim (λ (h : a ≤ length l). sym (join-in l a p q h))
+      (λ (h : length l < a).
+      past l a (p ++ q) (omega arith) ∙ sym (append-assoc l p q)
+      ∙ sym (ap (λ (r : List A). spliced r (a + length p) q) (past l a p (omega arith)) ∙ past (l ++ p) (a + length p) q (omega (arith, length-append l p))))
+      (le-or-lt a (length l))
+
+  pub splice-more : (l : List A) (a b : ℕ) (p q : List A) → b ≡ a + length p → a + length p + length q ≤ length l → spliced (spliced l a p) b q ≡ spliced l a (p ++ q)
+  splice-more l a b p q eb h = rw eb (sym (splice-join l a p q))
 
   -- ---- stores
 
@@ -136,3 +158,11 @@ table-miss w a n i v h T = record { at = λ j b. set-miss w i v (a + j) (h j b) 
 -- what stands before a splice
 pub put-behind : {A : Type 0} (l : List A) {m : List A} (a : ℕ) (p : List A) → m ≡ spliced l a p → a ≤ length l → take a m ≡ take a l
 put-behind l a p e h = ap (take a) e ∙ spliced-front l a p h
+
+-- the second of two at one place is what counts
+pub splice-over : {A : Type 0} (l : List A) (a : ℕ) (xs ys : List A) → length xs ≡ length ys → a + length ys ≤ length l → spliced (spliced l a xs) a ys ≡ spliced l a ys
+unfolding spliced
+splice-over {A} l a xs ys e h =
+    let p : take a (spliced l a xs) ≡ take a l = put-front l a xs refl e h in
+    let q : drop (a + length ys) (spliced l a xs) ≡ drop (a + length ys) l = put-above l a xs refl e h in
+    ap₂ (λ (x y : List A). x ++ ys ++ y) p q

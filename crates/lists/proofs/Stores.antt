@@ -8,7 +8,7 @@ use mathlib.Core.Bool.{Bool, true, false, not, _&&_}
 use borrow.Author.Tests.{eqb-true, eqb-false}
 use lib.Dec.{eqb}
 use lib.ListN.{length, getD, set, take, drop, length-drop, take-append-drop, drop-of-length-le}
-use lib.Seq.{sets, sets-eq, length-sets, take-set-le, drop-set-lt, drop-set-add, getD-set-other, length-take-le, take-all, take-at, drop-at, drop-append-add, drop-drop}
+use lib.Seq.{sets, sets-eq, take-set-le, drop-set-lt, drop-set-add, getD-set-other, length-take-le, take-all, take-at, drop-at, drop-append-add, drop-drop}
 use borrow.Rule.Slice.PartMut.{putMid, midOf}
 
 module _ {A : Type 0} where
@@ -44,14 +44,6 @@ module _ {A : Type 0} where
 
   pub take-sets : (l vs : List A) (n : ℕ) → length vs ≡ n → n ≤ length l → take n (sets l 0 vs) ≡ vs
   take-sets l vs n e h = ap (take n) (sets-eq vs l 0 (omega arith)) ∙ take-at vs (drop (0 + length vs) l) n e
-
-  -- the second of two runs of stores is what counts
-  pub sets-over : (xs ys l : List A) (at : ℕ) → length xs ≡ length ys → at + length ys ≤ length l → sets (sets l at xs) at ys ≡ sets l at ys
-  sets-over xs ys l at e h =
-      let b : length (sets l at xs) ≡ length l = length-sets l at xs in
-      let p : take at (sets l at xs) ≡ take at l = take-sets-le xs l at at (omega arith) in
-      let q : drop (at + length ys) (sets l at xs) ≡ drop (at + length ys) l = drop-sets xs l at (at + length ys) (omega arith) in
-      sets-eq ys (sets l at xs) at (omega arith) ∙ (λ i. p i ++ ys ++ q i) ∙ sym (sets-eq ys l at h)
 
   -- ---- in a part of a list
 

@@ -10,7 +10,7 @@ use Rattle.lists.specs.Loops.{tab}
 use Rattle.lists.specs.Lists.{flat}
 use Rattle.lists.proofs.Stores.{sets-append}
 use Rattle.lists.proofs.Pieces.{flat-go, flat-end}
-use Rattle.lists.proofs.Putting.{Split, stores, Left, left-all, left-next, left-end}
+use Rattle.lists.proofs.Putting.{Split, stores, Left, left-all, left-stored, left-end}
 use Rattle.text.specs.Wrote.{Wrote, Printed}
 
 -- one text after another
@@ -49,7 +49,7 @@ going-step {f} {k} {n} {i = i} g h w =
     let b : k * (i + 1) ≡ k * i + k = omega arith in
     let S : Split (flat (tab f (n - i) i)) (f i) (flat (tab f (n - (i + 1)) (i + 1))) = record { is = flat-go f n i h } in
     record {
-      left = left-next (g .left) S stores (record { next = w .next; made = w .bytes });
+      left = left-stored (g .left) S (record { next = w .next; made = w .bytes });
       near = omega (arith, w .near, g .near);
       most = omega arith;
     }

@@ -33,7 +33,8 @@ loop-again c =
     let c6 = c .before .before .before .before .before .before in
     let c10 = c6 .before .before .before .before in
     let c12 = c10 .before .before in
-    (c6 .one-face .kept .1 .1 .1 .1 .1 .0 ∙ c12 .loop .inv .0, facing-go _ _ _ _ (c12 .before .before .before .before .pre .0) (c12 .loop .inv .1) (c10 .if1 .taken) _ _ _ _ (c6 .one-face .ensures))
+    let c16 = c12 .before .before .before .before in
+    (c6 .one-face .kept .1 .1 .1 .1 .1 .0 ∙ c12 .loop .inv .0, facing-go _ _ _ _ (c16 .pre .0) (c12 .loop .inv .1) (c10 .if1 .taken) (c16 .pre .1) _ _ _ _ (c6 .one-face .ensures))
 
 same-length : tie.Need-same-length Inv-loop μ-loop
 same-length c = c .before .before .loop .inv .1 .kept .len
@@ -45,7 +46,7 @@ same-length-3 : tie.Need-same-length-3 Inv-loop μ-loop
 same-length-3 c = c .before .before .loop .inv .1 .left .len
 
 returns : tie.Need-returns Inv-loop μ-loop
-returns c = facing-end _ _ _ _ _ _ _ _ _ _ _ (c .if1 .left) (c .before .before .before .before .before .before .pre .1) (c .before .before .loop .inv .1)
+returns c = facing-end _ _ _ _ _ _ _ _ _ _ _ (c .if1 .left) (c .before .before .loop .inv .1)
 
 pub all-faces-spec : {M : Type 1} → statement M
 all-faces-spec =

@@ -2,7 +2,7 @@ use mathlib.Core.Path.{refl, ap, _∙_}
 use mathlib.Core.List.{List}
 use Prim.Native.Nat.{ℕ, _+_, _-_}
 use lib.ListN.{drop}
-use lib.Seq.{sets}
+use Rattle.lists.specs.Parts.{spliced}
 use Rattle.faces.specs.Naming.{threes, numbered}
 use borrow.Author.Needs.{needs}
 use Rattle.lists.proofs.Keep.{part-seg}
@@ -40,7 +40,7 @@ returns : tie.Need-returns
 returns c =
     let c2 = c .before .before in
     let c9 = c2 .before .before .before .before .before .before .before in
-    c2 .rename .ensures ∙ ap (λ (s : List ℕ). sets (c9 .args .indices .now) (c9 .args .at) (numbered (c9 .args .ccw) s (threes (c9 .args .n - 2) (drop (c9 .args .at) (c9 .args .indices .now))))) (part-seg (c9 .args .work .now) (c9 .args .t .named + c9 .args .a .0) (c9 .args .t .named + c9 .args .a .0 + c9 .args .n) (c9 .args .n) refl)
+    c2 .rename .ensures ∙ ap (λ (s : List ℕ). spliced (c9 .args .indices .now) (c9 .args .at) (numbered (c9 .args .ccw) s (threes (c9 .args .n - 2) (drop (c9 .args .at) (c9 .args .indices .now))))) (part-seg (c9 .args .work .now) (c9 .args .t .named + c9 .args .a .0) (c9 .args .t .named + c9 .args .a .0 + c9 .args .n) (c9 .args .n) refl)
 
 pub name-corners-spec : {M : Type 1} → statement M
 name-corners-spec =

@@ -48,7 +48,7 @@ returns c =
     let c4 = c .before .before .before .before in
     let c10 = c4 .before .before .before .before .before .before in
     let c16 = c10 .before .before .before .before .before .before in
-    (kept-mid (c16 .args .work .now) (c4 .triangulate .last .1 .1 .1 .0) (c16 .args .t .places) (c16 .args .t .places + c16 .args .n * 5 - c16 .args .t .places) (omega (arith, c16 .pre .1, c16 .pre .0 .scratch)) (c4 .triangulate .kept .1 .1 .1 .0), corners-put (c16 .args .work .now) (c16 .args .t) (c16 .args .ccw) (c16 .args .a .0) (c16 .args .n) (c16 .args .convex) (corners-in (c16 .pre .0 .sound) (c16 .args .ccw) (c16 .args .convex) (c16 .args .a .0) (c16 .args .n) (c16 .pre .1)) (c16 .args .floats .now) _ _ _ (c16 .args .at) (omega (arith, c16 .pre .0 .plane, c16 .pre .1)) (c10 .put-plane-where .ensures) (c4 .triangulate .ensures), c10 .put-plane-where .ensures)
+    (kept-mid (c16 .args .work .now) (c4 .triangulate .last .1 .1 .1 .0) (c16 .args .t .places) (c16 .args .t .places + c16 .args .n * 5 - c16 .args .t .places) (omega (arith, c16 .pre .1, c16 .pre .0 .scratch)) (c4 .triangulate .kept .1 .1 .1 .0), corners-put (c16 .args .work .now) (c16 .args .t) (c16 .args .ccw) (c16 .args .a .0) (c16 .args .n) (c16 .args .convex) (corners-in (c16 .pre .0 .sound) (c16 .args .ccw) (c16 .args .convex) (c16 .args .a .0) (c16 .args .n) (c16 .pre .1)) (c16 .args .floats .now) _ _ _ (c16 .args .at) (omega (arith, c16 .pre .0 .plane, c16 .pre .1)) (c16 .pre .2) (c10 .put-plane-where .ensures) (c4 .triangulate .ensures), c10 .put-plane-where .ensures)
 
 pub put-corners-spec : {M : Type 1} → statement M
 put-corners-spec =

@@ -1,4 +1,4 @@
-use native.Mathlib.Numerals.{add-one, add-two}
+use Rattle.lists.proofs.Splices.{put-three}
 use borrow.Author.Needs.{needs}
 use Rattle.faces.proofs.naming.put_three.Statement.{statement}
 use Rattle.faces.proofs.naming.put_three.Tie as tie
@@ -24,7 +24,7 @@ same-length c = search needs
 returns : tie.Need-returns
 returns c =
     let c13 = c .before .before .before .before .before .before .before .before .before .before .before .before .before in
-    cc (add-one (c13 .args .k), add-two (c13 .args .k))
+    cc (put-three (c13 .args .s .now) (c13 .args .k) (c13 .args .a .0) (c13 .args .b .0) (c13 .args .c .0) (c13 .pre .0))
 
 pub put-three-spec : {M : Type 1} → statement M
 put-three-spec =

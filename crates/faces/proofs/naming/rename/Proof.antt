@@ -40,7 +40,7 @@ same-length : tie.Need-same-length Inv-loop μ-loop
 same-length c = c .before .loop .inv .long
 
 returns : tie.Need-returns Inv-loop μ-loop
-returns c = renaming-end _ _ _ _ _ _ _ (c .loop-test .left) (c .before .loop .inv)
+returns c = renaming-end _ _ _ _ _ _ _ (c .loop-test .left) (c .before .before .before .before .pre) (c .before .loop .inv)
 
 pub rename-spec : {M : Type 1} → statement M
 rename-spec =

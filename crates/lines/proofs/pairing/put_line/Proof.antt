@@ -38,7 +38,7 @@ returns : tie.Need-returns
 returns c =
     let c2 = c .before .before in
     let c3 = c2 .before in
-    record { next = ap (λ (n : ℕ). c3 .args .at + n) (sym (line-two (c3 .args .last .0) (c3 .args .next .0) (c2 .if1 .taken))); made = line-put _ _ (c2 .if1 .taken) _ _ }
+    record { next = ap (λ (n : ℕ). c3 .args .at + n) (sym (line-two (c3 .args .last .0) (c3 .args .next .0) (c2 .if1 .taken))); made = line-put _ _ (c2 .if1 .taken) _ _ (c3 .pre .0) }
 
 returns-2 : tie.Need-returns-2
 returns-2 c = line-left _ _ (c .if1 .left) _ _

@@ -3,8 +3,7 @@ use Prim.Native.Nat.{_+_, _-_, _/_, _≤_}
 use native.Mathlib.Nat.{zero-add}
 use native.Mathlib.Omega.{arith}
 use lib.ListN.{length}
-use lib.Seq.{sets}
-use Rattle.lists.specs.Parts.{seg}
+use Rattle.lists.specs.Parts.{seg, spliced}
 use Rattle.lists.proofs.Keep.{length-seg, part-seg}
 use Rattle.lists.proofs.Putting.{left-all}
 use Rattle.lines.proofs.Pairs.{Lining, lining-here, lining-room, lining-next, lining-end}
@@ -22,7 +21,7 @@ add-to : tie.Need-add-to Inv-loop μ-loop
 add-to c = search needs
 
 loop-holds : tie.Need-loop-holds Inv-loop μ-loop
-loop-holds c = (refl, refl, omega arith, record { corners = zero-add _; left = left-all sets })
+loop-holds c = (refl, refl, omega arith, record { corners = zero-add _; left = left-all spliced })
 
 run-at-requires : tie.Need-run-at-requires Inv-loop μ-loop
 run-at-requires c κs = search needs
@@ -58,13 +57,13 @@ loop-again c =
     let c6 = c3 .before .before .before in
     let c8 = c6 .before .before in
     let c12 = c8 .before .before .before .before in
-    let s = part-seg (c12 .args .work .now) (c12 .args .named) _ (c12 .args .count) refl in let N = c8 .loop .inv .3 in (c8 .loop .inv .0, c8 .loop .inv .1, omega arith, lining-next N (c6 .run-at .ensures) (c .next-start .ensures) (c6 .before .loop-test .taken) (rw s at (c3 .put-run .ensures)))
+    let s = part-seg (c12 .args .work .now) (c12 .args .named) _ (c12 .args .count) refl in let N = c8 .loop .inv .3 in (c8 .loop .inv .0, c8 .loop .inv .1, omega arith, lining-next N (c6 .run-at .ensures) (c .next-start .ensures) (c6 .before .loop-test .taken) (c12 .pre .2) (rw s at (c3 .put-run .ensures)))
 
 same-length : tie.Need-same-length Inv-loop μ-loop
 same-length c = c .before .loop .inv .3 .left .len
 
 returns : tie.Need-returns Inv-loop μ-loop
-returns c = lining-end (c .before .loop .inv .3) (c .before .before .before .before .before .pre .2) (c .loop-test .left)
+returns c = lining-end (c .before .loop .inv .3) (c .loop-test .left)
 
 pub put-lines-spec : {M : Type 1} → statement M
 put-lines-spec =

@@ -2,7 +2,7 @@ use mathlib.Core.Path.{_≡_, refl}
 use Prim.Native.Nat.{_-_, _/_, _<_}
 use native.Mathlib.Omega.{arith}
 use lib.ListN.{length}
-use lib.Seq.{sets}
+use Rattle.lists.specs.Parts.{spliced}
 use Rattle.bits.specs.Bits.{entries}
 use Rattle.bits.proofs.Entries.{entries-length}
 use Rattle.lines.specs.Steps.{lastOf}
@@ -20,7 +20,7 @@ abbrev μ-loop : tie.MeasureT-loop
 
 loop-holds : tie.Need-loop-holds Inv-loop μ-loop
 unfolding lastOf
-loop-holds c = (refl, record { fits = omega arith; corners = refl; left = left-all sets })
+loop-holds c = (refl, record { fits = omega arith; corners = refl; left = left-all spliced })
 
 point-at-requires : tie.Need-point-at-requires Inv-loop μ-loop
 point-at-requires c κs = search needs
@@ -46,7 +46,8 @@ loop-again c =
     let c2 = c .before .before in
     let c4 = c2 .before .before in
     let c7 = c4 .before .before .before in
-    let bs = c7 .before .before .before .before .before .args .run .now in let l = entries-length bs in let P = c7 .loop .inv .1 in let h : c7 .loop .j < length (entries bs) = omega arith in (c7 .loop .inv .0, pairing-next P h (rw (c4 .before .point-at .ensures, c4 .wide .ensures) at (c2 .put-entry .ensures)))
+    let c12 = c7 .before .before .before .before .before in
+    let bs = c12 .args .run .now in let l = entries-length bs in let P = c7 .loop .inv .1 in let h : c7 .loop .j < length (entries bs) = omega arith in (c7 .loop .inv .0, pairing-next P h (c12 .pre .1) (rw (c4 .before .point-at .ensures, c4 .wide .ensures) at (c2 .put-entry .ensures)))
 
 same-length : tie.Need-same-length Inv-loop μ-loop
 same-length c = c .before .loop .inv .1 .left .len
