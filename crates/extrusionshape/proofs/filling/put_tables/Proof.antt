@@ -20,7 +20,10 @@ prepare-requires : tie.Need-prepare-requires
 prepare-requires c κs = (listed-sound (c .before .before .before .before .before .list-faces .ensures .1), c .before .before .before .before .before .before .before .before .before .before .before .before .before .before .pre .3)
 
 arcs-where-requires : tie.Need-arcs-where-requires
-arcs-where-requires c κs = (c .before .before .before .before .before .before .before .before .before .before .before .before .before .before .before .before .before .before .before .before .pre .0, omega (arith, c .before .before .before .before .before .before .before .before .before .before .before .before .before .before .before .before .before .before .before .before .pre .2, c .before .before .before .before .before .prepare .kept .1 .1 .1 .1 .1 .0))
+arcs-where-requires c κs =
+    let c5 = c .before .before .before .before .before in
+    let c20 = c5 .before .before .before .before .before .before .before .before .before .before .before .before .before .before .before in
+    (c20 .pre .0, omega (arith, c20 .pre .2, c5 .prepare .kept .1 .1 .1 .1 .1 .0))
 
 same-length : tie.Need-same-length
 same-length c = search needs

@@ -15,7 +15,9 @@ mul-put-textures : tie.Need-mul-put-textures
 mul-put-textures c = omega (arith, c .before .before .before .before .before .before .pre .4)
 
 add-put-textures : tie.Need-add-put-textures
-add-put-textures c = omega (arith, c .before .before .before .before .before .before .before .before .pre .5 .room, c .before .before .before .before .before .before .before .before .good)
+add-put-textures c =
+    let c8 = c .before .before .before .before .before .before .before .before in
+    omega (arith, c8 .pre .5 .room, c8 .good)
 
 put-textures-requires : tie.Need-put-textures-requires
 put-textures-requires c κs =

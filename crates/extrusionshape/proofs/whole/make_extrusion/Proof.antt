@@ -33,9 +33,14 @@ put-tables-requires c κs =
 texture-where-requires : tie.Need-texture-where-requires
 unfolding plainShared
 texture-where-requires c κs =
-    let T = c .before .before .before .before .before .before .put-tables .ensures in
-    let G = roomy (c .before .before .before .before .before .before .before .before .before .before .before .before .before .before .before .before .before .before .before .before .before .before .pre) (c .before .before .before .before .before .before .before .before .before .before .before .before .cap-length .ensures) (c .before .before .before .before .before .before .before .before .before .before .before .plan-extrusion .ensures) in
-    (given (c .before .before .before .before .before .before .before .before .before .before .before .before .before .before .before .before .before .before .before .before .before .before .pre), c .before .before .before .before .before .before .before .before .before .before .before .before .before .before .before .before .before .before .before .before .before .before .pre .accepted .settings, ap (λ (x : Shared). x .widths) (c .before .before .before .before .before .before .before .before .before .before .plain-shared .ensures), T .1, omega (arith, G .floats, T .0 .size), textures-asked (planned-at (c .before .before .before .before .before .before .before .before .before .before .before .before .before .before .before .before .before .before .before .before .before .before .pre) (c .before .before .before .before .before .before .before .before .before .before .before .before .cap-length .ensures) (c .before .before .before .before .before .before .before .before .before .before .before .plan-extrusion .ensures)) (omega (arith, G .textures, T .0 .len)) (faces-held (T .0)))
+    let c6 = c .before .before .before .before .before .before in
+    let c10 = c6 .before .before .before .before in
+    let c11 = c10 .before in
+    let c12 = c11 .before in
+    let c22 = c12 .before .before .before .before .before .before .before .before .before .before in
+    let T = c6 .put-tables .ensures in
+    let G = roomy (c22 .pre) (c12 .cap-length .ensures) (c11 .plan-extrusion .ensures) in
+    (given (c22 .pre), c22 .pre .accepted .settings, ap (λ (x : Shared). x .widths) (c10 .plain-shared .ensures), T .1, omega (arith, G .floats, T .0 .size), textures-asked (planned-at (c22 .pre) (c12 .cap-length .ensures) (c11 .plan-extrusion .ensures)) (omega (arith, G .textures, T .0 .len)) (faces-held (T .0)))
 
 build-requires : tie.Need-build-requires
 build-requires c κs =

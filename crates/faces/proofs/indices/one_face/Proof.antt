@@ -56,8 +56,7 @@ returns-2 : tie.Need-returns-2
 returns-2 c =
     let c2 = c .before .before in
     let c11 = c2 .before .before .before .before .before .before .before .before .before in
-    let c15 = c11 .before .before .before .before in
-    let c19 = c15 .before .before .before .before in
+    let c19 = c11 .before .before .before .before .before .before .before .before in
     let c24 = c19 .before .before .before .before .before in
     let e = c19 .stretch-of .ensures in more-put (c24 .pre .0 .sound) (c24 .args .ccw) (c24 .args .convex) _ _ _ (c24 .pre .1) (e .from) (e .to) _ _ _ _ _ _ (c24 .args .at) _ (omega (arith, c24 .pre .2, e .from, e .to)) (c11 .put-corners .ensures .0) (c11 .put-corners .ensures .1) (c2 .name-corners .ensures) (c11 .put-corners .ensures .2) refl
 

@@ -9,10 +9,14 @@ returns : tie.Need-returns
 returns c = textures-none (c .if1 .taken)
 
 fit-in-requires : tie.Need-fit-in-requires
-fit-in-requires c κs = omega (arith, c .before .before .before .before .before .before .before .pre .1 .fitted .pointsBelow, c .before .before .before .before .before .before .before .pre .1 .fitted .room)
+fit-in-requires c κs =
+    let c7 = c .before .before .before .before .before .before .before in
+    omega (arith, c7 .pre .1 .fitted .pointsBelow, c7 .pre .1 .fitted .room)
 
 add-put-textures : tie.Need-add-put-textures
-add-put-textures c = omega (arith, c .before .before .before .before .before .before .before .before .before .before .pre .1 .fitted .room, c .before .before .before .before .before .before .before .before .before .before .good)
+add-put-textures c =
+    let c10 = c .before .before .before .before .before .before .before .before .before .before in
+    omega (arith, c10 .pre .1 .fitted .room, c10 .good)
 
 put-textures-requires : tie.Need-put-textures-requires
 put-textures-requires c κs = fitted-by (c .before .before .before .before .before .before .before .before .before .before .pre .1) (c .before .before .fit-in .ensures)

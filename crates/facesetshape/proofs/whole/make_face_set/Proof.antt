@@ -26,9 +26,10 @@ list-part-requires c κs = search needs
 put-tables-requires : tie.Need-put-tables-requires
 put-tables-requires c κs =
     let c2 = c .before .before in
-    let c14 = c2 .before .before .before .before .before .before .before .before .before .before .before .before in
+    let c4 = c2 .before .before in
+    let c14 = c4 .before .before .before .before .before .before .before .before .before .before in
     let A = c14 .pre .0 in
-    let e = plan-by A (sized A) (c14 .pre .1) (c2 .before .before .plan-of .ensures) in (
+    let e = plan-by A (sized A) (c14 .pre .1) (c4 .plan-of .ensures) in (
       c2 .list-part .ensures,
       planned A e (c2 .list-part .ensures),
       points-in (A .accepted) (widths-of _ (A .kind)),

@@ -28,7 +28,11 @@ put-corners-requires-2 c κs =
     let R = c13 .pre .room in corners-asked _ _ _ _ _ _ (c13 .pre) (c10 .wide .ensures) (omega (arith, c2 .work2 .given, c7 .work .given))
 
 put-multiples-requires-2 : tie.Need-put-multiples-requires-2
-put-multiples-requires-2 c κs = let R = c .before .before .before .before .before .before .before .before .before .before .before .before .before .before .before .before .before .pre .room in (omega arith, omega (arith, c .before .before .work3 .given, c .before .before .before .before .before .before .work2 .given, c .before .before .before .before .before .before .before .before .before .before .before .work .given))
+put-multiples-requires-2 c κs =
+    let c2 = c .before .before in
+    let c6 = c2 .before .before .before .before in
+    let c11 = c6 .before .before .before .before .before in
+    let R = c11 .before .before .before .before .before .before .pre .room in (omega arith, omega (arith, c2 .work3 .given, c6 .work2 .given, c11 .work .given))
 
 same-length : tie.Need-same-length
 same-length c = search needs

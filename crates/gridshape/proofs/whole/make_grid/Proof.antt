@@ -21,13 +21,19 @@ part-requires : tie.Need-part-requires
 part-requires c κs = search needs
 
 put-tables-requires : tie.Need-put-tables-requires
-put-tables-requires c κs = (planned (c .before .before .before .before .before .before .before .before .before .before .before .before .before .before .pre) (c .before .before .before .before .plan-grid .ensures), heights (c .before .before .before .before .before .before .before .before .before .before .before .before .before .before .pre), omega (arith, roomy (c .before .before .before .before .before .before .before .before .before .before .before .before .before .before .pre) (c .before .before .before .before .plan-grid .ensures) .floats))
+put-tables-requires c κs =
+    let c4 = c .before .before .before .before in
+    let c14 = c4 .before .before .before .before .before .before .before .before .before .before in
+    (planned (c14 .pre) (c4 .plan-grid .ensures), heights (c14 .pre), omega (arith, roomy (c14 .pre) (c4 .plan-grid .ensures) .floats))
 
 texture-where-requires : tie.Need-texture-where-requires
 texture-where-requires c κs =
-    let P = planned (c .before .before .before .before .before .before .before .before .before .before .before .before .before .before .before .before .before .before .before .before .pre) (c .before .before .before .before .before .before .before .before .before .before .plan-grid .ensures) in
+    let c5 = c .before .before .before .before .before in
+    let c10 = c5 .before .before .before .before .before in
+    let c20 = c10 .before .before .before .before .before .before .before .before .before .before in
+    let P = planned (c20 .pre) (c10 .plan-grid .ensures) in
     let R = P .room in
-    (sides (c .before .before .before .before .before .before .before .before .before .before .before .before .before .before .before .before .before .before .before .before .pre), placed _ _ _ _ _ (faces-held (c .before .before .before .before .before .put-tables .ensures)) (P .spots) (omega (arith, R)) (omega (arith, roomy (c .before .before .before .before .before .before .before .before .before .before .before .before .before .before .before .before .before .before .before .before .pre) (c .before .before .before .before .before .before .before .before .before .before .plan-grid .ensures) .textures, c .before .before .before .before .before .put-tables .ensures .len)))
+    (sides (c20 .pre), placed _ _ _ _ _ (faces-held (c5 .put-tables .ensures)) (P .spots) (omega (arith, R)) (omega (arith, roomy (c20 .pre) (c10 .plan-grid .ensures) .textures, c5 .put-tables .ensures .len)))
 
 build-requires : tie.Need-build-requires
 build-requires c κs =

@@ -16,9 +16,9 @@ put-points-requires c κs =
 
 list-entries-requires : tie.Need-list-entries-requires
 list-entries-requires c κs =
-    let c3 = c .before .before .before in
-    let c9 = c3 .before .before .before .before .before .before in
-    (rw (c .before .before .work .given) (c9 .pre .1), points-before _ _ (c9 .pre .0), stand _ _ (c9 .pre .0) .3, sym (stand _ _ (c9 .pre .0) .1), c9 .pre .4)
+    let c2 = c .before .before in
+    let c9 = c2 .before .before .before .before .before .before .before in
+    (rw (c2 .work .given) (c9 .pre .1), points-before _ _ (c9 .pre .0), stand _ _ (c9 .pre .0) .3, sym (stand _ _ (c9 .pre .0) .1), c9 .pre .4)
 
 same-length : tie.Need-same-length
 same-length c = search needs

@@ -31,7 +31,13 @@ point-at-requires : tie.Need-point-at-requires Inv-loop μ-loop
 point-at-requires c κs = search needs
 
 returns : tie.Need-returns Inv-loop μ-loop
-returns c = let es = entries (c .before .before .before .before .before .before .before .before .args .part .now) in below-not _ (primitiveOf (c .before .before .before .before .before .before .before .before .args .g) es (c .before .before .before .before .before .before .before .before .args .k)) (c .before .before .before .before .before .loop .i) _ (omega (arith, primitive-long (c .before .before .before .before .before .before .before .before .args .g) es (c .before .before .before .before .before .before .before .before .args .k), c .before .before .before .before .before .before .width-of .ensures, c .before .before .before .before .loop-test .taken)) (entry-at (c .before .before .before .before .before .before .before .before .args .g) es (c .before .before .before .before .before .before .before .before .args .k) (c .before .before .before .before .before .loop .i) (omega (arith, c .before .before .before .before .before .before .width-of .ensures, c .before .before .before .before .loop-test .taken)) (c .before .before .before .place-of .ensures) (c .before .before .point-at .ensures)) (c .before .before .before .before .before .loop .inv .1) (c .if1 .taken)
+returns c =
+    let c2 = c .before .before in
+    let c4 = c2 .before .before in
+    let c5 = c4 .before in
+    let c6 = c5 .before in
+    let c8 = c6 .before .before in
+    let es = entries (c8 .args .part .now) in below-not _ (primitiveOf (c8 .args .g) es (c8 .args .k)) (c5 .loop .i) _ (omega (arith, primitive-long (c8 .args .g) es (c8 .args .k), c6 .width-of .ensures, c4 .loop-test .taken)) (entry-at (c8 .args .g) es (c8 .args .k) (c5 .loop .i) (omega (arith, c6 .width-of .ensures, c4 .loop-test .taken)) (c2 .before .place-of .ensures) (c2 .point-at .ensures)) (c5 .loop .inv .1) (c .if1 .taken)
 
 add-i : tie.Need-add-i Inv-loop μ-loop
 add-i c = search needs
@@ -40,10 +46,19 @@ loop-less : tie.Need-loop-less Inv-loop μ-loop
 loop-less c = search needs
 
 loop-again : tie.Need-loop-again Inv-loop μ-loop
-loop-again c = let es = entries (c .before .before .before .before .before .before .before .before .args .part .now) in (omega arith, below-step _ (primitiveOf (c .before .before .before .before .before .before .before .before .args .g) es (c .before .before .before .before .before .before .before .before .args .k)) (c .before .before .before .before .before .loop .i) _ (omega (arith, primitive-long (c .before .before .before .before .before .before .before .before .args .g) es (c .before .before .before .before .before .before .before .before .args .k), c .before .before .before .before .before .before .width-of .ensures, c .before .before .before .before .loop-test .taken)) (entry-at (c .before .before .before .before .before .before .before .before .args .g) es (c .before .before .before .before .before .before .before .before .args .k) (c .before .before .before .before .before .loop .i) (omega (arith, c .before .before .before .before .before .before .width-of .ensures, c .before .before .before .before .loop-test .taken)) (c .before .before .before .place-of .ensures) (c .before .before .point-at .ensures)) (c .before .before .before .before .before .loop .inv .1) (c .if1 .left))
+loop-again c =
+    let c2 = c .before .before in
+    let c4 = c2 .before .before in
+    let c5 = c4 .before in
+    let c6 = c5 .before in
+    let c8 = c6 .before .before in
+    let es = entries (c8 .args .part .now) in (omega arith, below-step _ (primitiveOf (c8 .args .g) es (c8 .args .k)) (c5 .loop .i) _ (omega (arith, primitive-long (c8 .args .g) es (c8 .args .k), c6 .width-of .ensures, c4 .loop-test .taken)) (entry-at (c8 .args .g) es (c8 .args .k) (c5 .loop .i) (omega (arith, c6 .width-of .ensures, c4 .loop-test .taken)) (c2 .before .place-of .ensures) (c2 .point-at .ensures)) (c5 .loop .inv .1) (c .if1 .left))
 
 returns-2 : tie.Need-returns-2 Inv-loop μ-loop
-returns-2 c = let es = entries (c .before .before .before .before .args .part .now) in below-all _ (primitiveOf (c .before .before .before .before .args .g) es (c .before .before .before .before .args .k)) (c .before .loop .i) (omega (arith, primitive-long (c .before .before .before .before .args .g) es (c .before .before .before .before .args .k), c .before .before .width-of .ensures, c .loop-test .left)) (c .before .loop .inv .1)
+returns-2 c =
+    let c1 = c .before in
+    let c4 = c1 .before .before .before in
+    let es = entries (c4 .args .part .now) in below-all _ (primitiveOf (c4 .args .g) es (c4 .args .k)) (c1 .loop .i) (omega (arith, primitive-long (c4 .args .g) es (c4 .args .k), c1 .before .width-of .ensures, c .loop-test .left)) (c1 .loop .inv .1)
 
 pub is-present-spec : {M : Type 1} → statement M
 is-present-spec =

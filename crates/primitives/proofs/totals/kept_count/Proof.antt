@@ -37,10 +37,19 @@ loop-less : tie.Need-loop-less Inv-loop μ-loop
 loop-less c = omega (arith, c .next-start .ensures, c .before .before .before .loop-test .taken)
 
 loop-again : tie.Need-loop-again Inv-loop μ-loop
-loop-again c = (omega (arith, c .next-start .ensures, c .before .before .stretch-at .ensures .within, c .before .before .before .loop-test .taken), omega (arith, c .next-start .ensures, c .before .kept-in .ensures .1, c .before .before .before .before .loop .inv .1), count-step (λ r. primitiveOf (c .before .before .before .before .before .before .args .g) (r .items)) (c .before .before .before .before .before .before .args .points) (c .before .before .before .before .before .before .args .g) (c .before .before .before .before .before .before .args .list .now) (c .before .before .before .before .loop .start) (c .before .before .before .before .loop .kept) (c .before .before .before .before .loop .inv .2) (c .before .before .stretch-at .result .now) (c .next-start .ensures) (c .before .before .before .loop-test .taken) (c .before .before .stretch-at .ensures) (c .before .kept-in .ensures .0))
+loop-again c =
+    let c1 = c .before in
+    let c2 = c1 .before in
+    let c3 = c2 .before in
+    let c4 = c3 .before in
+    let c6 = c4 .before .before in
+    (omega (arith, c .next-start .ensures, c2 .stretch-at .ensures .within, c3 .loop-test .taken), omega (arith, c .next-start .ensures, c1 .kept-in .ensures .1, c4 .loop .inv .1), count-step (λ r. primitiveOf (c6 .args .g) (r .items)) (c6 .args .points) (c6 .args .g) (c6 .args .list .now) (c4 .loop .start) (c4 .loop .kept) (c4 .loop .inv .2) (c2 .stretch-at .result .now) (c .next-start .ensures) (c3 .loop-test .taken) (c2 .stretch-at .ensures) (c1 .kept-in .ensures .0))
 
 returns : tie.Need-returns Inv-loop μ-loop
-returns c = (count-over (λ r. primitiveOf (c .before .before .before .args .g) (r .items)) (c .before .before .before .args .points) (c .before .before .before .args .g) (c .before .before .before .args .list .now) (c .before .loop .start) (c .before .loop .kept) (c .before .loop .inv .2) (c .loop-test .left), omega (arith, c .before .loop .inv))
+returns c =
+    let c1 = c .before in
+    let c3 = c1 .before .before in
+    (count-over (λ r. primitiveOf (c3 .args .g) (r .items)) (c3 .args .points) (c3 .args .g) (c3 .args .list .now) (c1 .loop .start) (c1 .loop .kept) (c1 .loop .inv .2) (c .loop-test .left), omega (arith, c1 .loop .inv))
 
 pub kept-count-spec : {M : Type 1} → statement M
 kept-count-spec =

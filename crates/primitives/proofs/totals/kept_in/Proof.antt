@@ -22,7 +22,9 @@ count-in-requires : tie.Need-count-in-requires Inv-loop μ-loop
 count-in-requires c κs = search needs
 
 loop-holds : tie.Need-loop-holds Inv-loop μ-loop
-loop-holds c = let es = entries (c .before .before .args .part .now) in let l = entries-length (c .before .before .args .part .now) in (omega arith, omega arith, omega (arith, ap length (left-first (primitiveOf (c .before .before .args .g) es) (c .before .before .args .points) (c .before .before .args .g) es)))
+loop-holds c =
+    let c2 = c .before .before in
+    let es = entries (c2 .args .part .now) in let l = entries-length (c2 .args .part .now) in (omega arith, omega arith, omega (arith, ap length (left-first (primitiveOf (c2 .args .g) es) (c2 .args .points) (c2 .args .g) es)))
 
 is-present-requires : tie.Need-is-present-requires Inv-loop μ-loop
 is-present-requires c κs = omega (arith, c .loop-test .taken, c .before .before .count-in .ensures, count-most (c .before .before .before .before .args .g) (length (c .before .before .before .before .args .part .now) / 4))
@@ -37,10 +39,18 @@ loop-less : tie.Need-loop-less Inv-loop μ-loop
 loop-less c = search needs
 
 loop-again : tie.Need-loop-again Inv-loop μ-loop
-loop-again c = let es = entries (c .before .before .before .before .before .before .args .part .now) in let l = entries-length (c .before .before .before .before .before .before .args .part .now) in let t : c .before .before .before .loop .k < primitiveCount (c .before .before .before .before .before .before .args .g) (length es) = rw l (omega (arith, c .before .before .loop-test .taken, c .before .before .before .before .count-in .ensures)) in ⊎-elim (λ w. (omega arith, omega (arith, c .before .before .before .loop .inv .1, w .1), rw (w .1) (count-kept (primitiveOf (c .before .before .before .before .before .before .args .g) es) (c .before .before .before .before .before .before .args .points) (c .before .before .before .before .before .before .args .g) es (c .before .before .before .loop .k) (c .before .before .before .loop .kept) (c .before .before .before .loop .inv .2) t (sym (c .before .is-present .ensures) ∙ w .0 .taken)))) (λ w. (omega arith, omega (arith, c .before .before .before .loop .inv .1, w .1), rw (w .1) (count-lost (primitiveOf (c .before .before .before .before .before .before .args .g) es) (c .before .before .before .before .before .before .args .points) (c .before .before .before .before .before .before .args .g) es (c .before .before .before .loop .k) (c .before .before .before .loop .kept) (c .before .before .before .loop .inv .2) t (sym (c .before .is-present .ensures) ∙ w .0 .left)))) (c .if1 .came)
+loop-again c =
+    let c1 = c .before in
+    let c3 = c1 .before .before in
+    let c6 = c3 .before .before .before in
+    let es = entries (c6 .args .part .now) in let l = entries-length (c6 .args .part .now) in let t : c3 .loop .k < primitiveCount (c6 .args .g) (length es) = rw l (omega (arith, c1 .before .loop-test .taken, c3 .before .count-in .ensures)) in ⊎-elim (λ w. (omega arith, omega (arith, c3 .loop .inv .1, w .1), rw (w .1) (count-kept (primitiveOf (c6 .args .g) es) (c6 .args .points) (c6 .args .g) es (c3 .loop .k) (c3 .loop .kept) (c3 .loop .inv .2) t (sym (c1 .is-present .ensures) ∙ w .0 .taken)))) (λ w. (omega arith, omega (arith, c3 .loop .inv .1, w .1), rw (w .1) (count-lost (primitiveOf (c6 .args .g) es) (c6 .args .points) (c6 .args .g) es (c3 .loop .k) (c3 .loop .kept) (c3 .loop .inv .2) t (sym (c1 .is-present .ensures) ∙ w .0 .left)))) (c .if1 .came)
 
 returns : tie.Need-returns Inv-loop μ-loop
-returns c = let es = entries (c .before .before .before .before .args .part .now) in let l = entries-length (c .before .before .before .before .args .part .now) in (count-all (primitiveOf (c .before .before .before .before .args .g) es) (c .before .before .before .before .args .points) (c .before .before .before .before .args .g) es (c .before .loop .k) (c .before .loop .kept) (c .before .loop .inv .2) (rw l (omega (arith, c .loop-test .left, c .before .before .count-in .ensures))), omega (arith, c .before .loop .inv, c .before .before .count-in .ensures, count-most (c .before .before .before .before .args .g) (length (c .before .before .before .before .args .part .now) / 4)))
+returns c =
+    let c1 = c .before in
+    let c2 = c1 .before in
+    let c4 = c2 .before .before in
+    let es = entries (c4 .args .part .now) in let l = entries-length (c4 .args .part .now) in (count-all (primitiveOf (c4 .args .g) es) (c4 .args .points) (c4 .args .g) es (c1 .loop .k) (c1 .loop .kept) (c1 .loop .inv .2) (rw l (omega (arith, c .loop-test .left, c2 .count-in .ensures))), omega (arith, c1 .loop .inv, c2 .count-in .ensures, count-most (c4 .args .g) (length (c4 .args .part .now) / 4)))
 
 pub kept-in-spec : {M : Type 1} → statement M
 kept-in-spec =

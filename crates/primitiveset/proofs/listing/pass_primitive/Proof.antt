@@ -24,13 +24,24 @@ put-corners-requires c κs =
     let e = sym (c4 .before .is-present .ensures) ∙ c4 .if1 .taken in let F = c4 .before .before .before .before .pre in (F .room, F .corners e, F .there, rw (F .spots) e)
 
 put-places-requires : tie.Need-put-places-requires
-put-places-requires c κs = let e = sym (c .before .before .before .before .before .before .before .before .before .is-present .ensures) ∙ c .before .before .before .before .before .before .before .before .if1 .taken in let F = c .before .before .before .before .before .before .before .before .before .before .before .before .pre in (rw (c .before .before .work .given) (F .room), F .corners e, rw (← (entries-length (c .before .before .before .before .before .before .before .before .before .before .before .before .args .part .now))) (F .there), omega (arith, F .places, entries-length (c .before .before .before .before .before .before .before .before .before .before .before .before .args .part .now)))
+put-places-requires c κs =
+    let c2 = c .before .before in
+    let c8 = c2 .before .before .before .before .before .before in
+    let c12 = c8 .before .before .before .before in
+    let e = sym (c8 .before .is-present .ensures) ∙ c8 .if1 .taken in let F = c12 .pre in (rw (c2 .work .given) (F .room), F .corners e, rw (← (entries-length (c12 .args .part .now))) (F .there), omega (arith, F .places, entries-length (c12 .args .part .now)))
 
 put-row-requires : tie.Need-put-row-requires
-put-row-requires c κs = let e = sym (c .before .before .before .before .before .before .before .before .before .before .before .before .before .is-present .ensures) ∙ c .before .before .before .before .before .before .before .before .before .before .before .before .if1 .taken in let F = c .before .before .before .before .before .before .before .before .before .before .before .before .before .before .before .before .pre in (rw (c .before .before .work2 .given, c .before .before .before .before .before .before .work .given) (F .room), F .face e, omega (arith, F .face e, F .room .many), omega (arith, F .corners e, F .room .few, c .before .before .before .before .before .before .before .before .before .before .width-of .ensures))
+put-row-requires c κs =
+    let c2 = c .before .before in
+    let c6 = c2 .before .before .before .before in
+    let c10 = c6 .before .before .before .before in
+    let c12 = c10 .before .before in
+    let e = sym (c12 .before .is-present .ensures) ∙ c12 .if1 .taken in let F = c12 .before .before .before .before .pre in (rw (c2 .work2 .given, c6 .work .given) (F .room), F .face e, omega (arith, F .face e, F .room .many), omega (arith, F .corners e, F .room .few, c10 .width-of .ensures))
 
 add-t12 : tie.Need-add-t12
-add-t12 c = let e = sym (c .before .before .before .before .before .before .before .before .before .before .before .before .before .before .before .before .before .is-present .ensures) ∙ c .before .before .before .before .before .before .before .before .before .before .before .before .before .before .before .before .if1 .taken in let F = c .before .before .before .before .before .before .before .before .before .before .before .before .before .before .before .before .before .before .before .before .pre in omega (arith, F .face e, F .room .many)
+add-t12 c =
+    let c16 = c .before .before .before .before .before .before .before .before .before .before .before .before .before .before .before .before in
+    let e = sym (c16 .before .is-present .ensures) ∙ c16 .if1 .taken in let F = c16 .before .before .before .before .pre in omega (arith, F .face e, F .room .many)
 
 same-length : tie.Need-same-length
 same-length c = search needs

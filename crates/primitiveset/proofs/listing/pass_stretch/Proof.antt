@@ -21,10 +21,15 @@ count-in-requires : tie.Need-count-in-requires Inv-loop μ-loop
 count-in-requires c κs = search needs
 
 loop-holds : tie.Need-loop-holds Inv-loop μ-loop
-loop-holds c = (stretch-start (c .before .before .before .before .pre .0) (c .before .before .before .before .pre .1) (c .before .before .before .before .pre .2) (c .before .stretch-at .ensures) refl, omega arith)
+loop-holds c =
+    let c4 = c .before .before .before .before in
+    (stretch-start (c4 .pre .0) (c4 .pre .1) (c4 .pre .2) (c .before .stretch-at .ensures) refl, omega arith)
 
 pass-primitive-requires : tie.Need-pass-primitive-requires Inv-loop μ-loop
-pass-primitive-requires c κs = along-fits (c .before .before .loop .inv .0) (rw (entries-length (c .before .before .before .before .stretch-at .result .now)) (omega (arith, c .before .loop-test .taken, c .before .before .before .count-in .ensures))) (c .before .before .before .before .stretch-at .ensures) (c .before .before .before .before .before .before .before .pre .2)
+pass-primitive-requires c κs =
+    let c2 = c .before .before in
+    let c4 = c2 .before .before in
+    along-fits (c2 .loop .inv .0) (rw (entries-length (c4 .stretch-at .result .now)) (omega (arith, c .before .loop-test .taken, c2 .before .count-in .ensures))) (c4 .stretch-at .ensures) (c4 .before .before .before .pre .2)
 
 add-k : tie.Need-add-k Inv-loop μ-loop
 add-k c = search needs
@@ -33,7 +38,11 @@ loop-less : tie.Need-loop-less Inv-loop μ-loop
 loop-less c = search needs
 
 loop-again : tie.Need-loop-again Inv-loop μ-loop
-loop-again c = (along-more (c .before .before .before .before .before .loop .inv .0) (rw (entries-length (c .before .before .before .before .before .before .before .stretch-at .result .now)) (omega (arith, c .before .before .before .before .loop-test .taken, c .before .before .before .before .before .before .count-in .ensures))) (c .before .before .pass-primitive .ensures .0) (c .before .before .pass-primitive .ensures .1), omega (arith, c .before .before .before .before .loop-test .taken))
+loop-again c =
+    let c2 = c .before .before in
+    let c4 = c2 .before .before in
+    let c5 = c4 .before in
+    (along-more (c5 .loop .inv .0) (rw (entries-length (c5 .before .before .stretch-at .result .now)) (omega (arith, c4 .loop-test .taken, c5 .before .count-in .ensures))) (c2 .pass-primitive .ensures .0) (c2 .pass-primitive .ensures .1), omega (arith, c4 .loop-test .taken))
 
 next-start-requires : tie.Need-next-start-requires Inv-loop μ-loop
 next-start-requires c κs = omega (arith, c .before .before .before .before .stretch-at .ensures .within, c .before .before .before .before .before .before .before .pre .2)

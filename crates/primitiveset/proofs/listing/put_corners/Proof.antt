@@ -26,19 +26,29 @@ width-of-requires : tie.Need-width-of-requires Inv-loop μ-loop
 width-of-requires c κs = search needs
 
 add-at : tie.Need-add-at Inv-loop μ-loop
-add-at c = omega (arith, c .before .before .before .before .before .pre .0, c .before .before .before .before .before .pre .1, c .before .before .before .before .before .good)
+add-at c =
+    let c5 = c .before .before .before .before .before in
+    omega (arith, c5 .pre .0, c5 .pre .1, c5 .good)
 
 loop-holds : tie.Need-loop-holds Inv-loop μ-loop
 loop-holds c = singles-none
 
 place-of-requires : tie.Need-place-of-requires Inv-loop μ-loop
-place-of-requires c κs = (omega (arith, c .loop-test .taken, c .before .before .before .before .width-of .ensures), omega (arith, c .before .before .before .before .before .before .before .pre .2, count-most (c .before .before .before .before .before .before .before .args .g) (length (entries (c .before .before .before .before .before .before .before .args .part .now))), entries-length (c .before .before .before .before .before .before .before .args .part .now)))
+place-of-requires c κs =
+    let c4 = c .before .before .before .before in
+    let c7 = c4 .before .before .before in
+    (omega (arith, c .loop-test .taken, c4 .width-of .ensures), omega (arith, c7 .pre .2, count-most (c7 .args .g) (length (entries (c7 .args .part .now))), entries-length (c7 .args .part .now)))
 
 point-at-requires : tie.Need-point-at-requires Inv-loop μ-loop
 point-at-requires c κs = search needs
 
 narrow-requires : tie.Need-narrow-requires Inv-loop μ-loop
-narrow-requires c κs = let l : c .before .before .before .loop .i < widthOf (c .before .before .before .before .before .before .before .before .before .args .g) = omega (arith, c .before .before .loop-test .taken, c .before .before .before .before .before .before .width-of .ensures) in omega (arith, point-low (c .before .before .before .before .before .before .before .before .before .args .g) (entries (c .before .before .before .before .before .before .before .before .before .args .part .now)) (c .before .before .before .before .before .before .before .before .before .args .k) (c .before .before .before .loop .i) l (c .before .place-of .ensures) (c .point-at .ensures) (c .before .before .before .before .before .before .before .before .before .pre .3), c .before .before .before .before .before .before .before .before .before .pre .0 .some)
+narrow-requires c κs =
+    let c2 = c .before .before in
+    let c3 = c2 .before in
+    let c6 = c3 .before .before .before in
+    let c9 = c6 .before .before .before in
+    let l : c3 .loop .i < widthOf (c9 .args .g) = omega (arith, c2 .loop-test .taken, c6 .width-of .ensures) in omega (arith, point-low (c9 .args .g) (entries (c9 .args .part .now)) (c9 .args .k) (c3 .loop .i) l (c .before .place-of .ensures) (c .point-at .ensures) (c9 .pre .3), c9 .pre .0 .some)
 
 add-work : tie.Need-add-work Inv-loop μ-loop
 add-work c = search needs
@@ -47,7 +57,11 @@ mul-work : tie.Need-mul-work Inv-loop μ-loop
 mul-work c = search needs
 
 slice-write-work : tie.Need-slice-write-work Inv-loop μ-loop
-slice-write-work c = omega (arith, c .before .before .before .before .before .before .before .before .before .before .pre .0, c .before .before .before .before .before .before .before .before .before .before .pre .1, c .before .before .before .before .before .before .before .width-of .ensures, c .before .before .before .loop-test .taken, c .before .before .before .before .loop .inv .size)
+slice-write-work c =
+    let c3 = c .before .before .before in
+    let c7 = c3 .before .before .before .before in
+    let c10 = c7 .before .before .before in
+    omega (arith, c10 .pre .0, c10 .pre .1, c7 .width-of .ensures, c3 .loop-test .taken, c3 .before .loop .inv .size)
 
 add-i : tie.Need-add-i Inv-loop μ-loop
 add-i c = search needs
@@ -56,7 +70,13 @@ loop-less : tie.Need-loop-less Inv-loop μ-loop
 loop-less c = search needs
 
 loop-again : tie.Need-loop-again Inv-loop μ-loop
-loop-again c = let l : c .before .before .before .before .loop .i < widthOf (c .before .before .before .before .before .before .before .before .before .before .args .g) = omega (arith, c .before .before .before .loop-test .taken, c .before .before .before .before .before .before .before .width-of .ensures) in singles-more _ (omega (arith, c .before .before .before .before .before .before .before .before .before .before .pre .0, c .before .before .before .before .before .before .before .before .before .before .pre .1, c .before .before .before .before .before .before .before .width-of .ensures)) (c .before .before .before .before .loop .inv) (c .before .before .before .loop-test .taken) (c .narrow .ensures ∙ entry-at (c .before .before .before .before .before .before .before .before .before .before .args .g) (entries (c .before .before .before .before .before .before .before .before .before .before .args .part .now)) (c .before .before .before .before .before .before .before .before .before .before .args .k) (c .before .before .before .before .loop .i) l (c .before .before .place-of .ensures) (c .before .point-at .ensures))
+loop-again c =
+    let c2 = c .before .before in
+    let c3 = c2 .before in
+    let c4 = c3 .before in
+    let c7 = c4 .before .before .before in
+    let c10 = c7 .before .before .before in
+    let l : c4 .loop .i < widthOf (c10 .args .g) = omega (arith, c3 .loop-test .taken, c7 .width-of .ensures) in singles-more _ (omega (arith, c10 .pre .0, c10 .pre .1, c7 .width-of .ensures)) (c4 .loop .inv) (c3 .loop-test .taken) (c .narrow .ensures ∙ entry-at (c10 .args .g) (entries (c10 .args .part .now)) (c10 .args .k) (c4 .loop .i) l (c2 .place-of .ensures) (c .before .point-at .ensures))
 
 same-length : tie.Need-same-length Inv-loop μ-loop
 same-length c = c .before .loop .inv .size

@@ -22,19 +22,32 @@ width-of-requires : tie.Need-width-of-requires Inv-loop μ-loop
 width-of-requires c κs = search needs
 
 add-at : tie.Need-add-at Inv-loop μ-loop
-add-at c = omega (arith, c .before .before .before .before .pre .0, c .before .before .before .before .pre .1, c .before .before .before .before .good)
+add-at c =
+    let c4 = c .before .before .before .before in
+    omega (arith, c4 .pre .0, c4 .pre .1, c4 .good)
 
 loop-holds : tie.Need-loop-holds Inv-loop μ-loop
 loop-holds c = singles-none
 
 place-of-requires : tie.Need-place-of-requires Inv-loop μ-loop
-place-of-requires c κs = (omega (arith, c .loop-test .taken, c .before .before .before .before .width-of .ensures), omega (arith, c .before .before .before .before .before .before .pre .2, c .before .before .before .before .before .before .pre .3, count-most (c .before .before .before .before .before .before .args .g) (c .before .before .before .before .before .before .args .size)))
+place-of-requires c κs =
+    let c4 = c .before .before .before .before in
+    let c6 = c4 .before .before in
+    (omega (arith, c .loop-test .taken, c4 .width-of .ensures), omega (arith, c6 .pre .2, c6 .pre .3, count-most (c6 .args .g) (c6 .args .size)))
 
 add-narrow : tie.Need-add-narrow Inv-loop μ-loop
-add-narrow c = let l : c .before .before .loop .i < widthOf (c .before .before .before .before .before .before .before .args .g) = omega (arith, c .before .loop-test .taken, c .before .before .before .before .before .width-of .ensures) in omega (arith, place-low (c .before .before .before .before .before .before .before .args .g) (c .before .before .before .before .before .before .before .args .size) (c .before .before .before .before .before .before .before .args .k) (c .before .before .loop .i) (c .before .before .before .before .before .before .before .pre .2) l (c .place-of .ensures), c .before .before .before .before .before .before .before .pre .3)
+add-narrow c =
+    let c2 = c .before .before in
+    let c5 = c2 .before .before .before in
+    let c7 = c5 .before .before in
+    let l : c2 .loop .i < widthOf (c7 .args .g) = omega (arith, c .before .loop-test .taken, c5 .width-of .ensures) in omega (arith, place-low (c7 .args .g) (c7 .args .size) (c7 .args .k) (c2 .loop .i) (c7 .pre .2) l (c .place-of .ensures), c7 .pre .3)
 
 narrow-requires : tie.Need-narrow-requires Inv-loop μ-loop
-narrow-requires c κs = let l : c .before .before .loop .i < widthOf (c .before .before .before .before .before .before .before .args .g) = omega (arith, c .before .loop-test .taken, c .before .before .before .before .before .width-of .ensures) in omega (arith, place-low (c .before .before .before .before .before .before .before .args .g) (c .before .before .before .before .before .before .before .args .size) (c .before .before .before .before .before .before .before .args .k) (c .before .before .loop .i) (c .before .before .before .before .before .before .before .pre .2) l (c .place-of .ensures), c .before .before .before .before .before .before .before .pre .3)
+narrow-requires c κs =
+    let c2 = c .before .before in
+    let c5 = c2 .before .before .before in
+    let c7 = c5 .before .before in
+    let l : c2 .loop .i < widthOf (c7 .args .g) = omega (arith, c .before .loop-test .taken, c5 .width-of .ensures) in omega (arith, place-low (c7 .args .g) (c7 .args .size) (c7 .args .k) (c2 .loop .i) (c7 .pre .2) l (c .place-of .ensures), c7 .pre .3)
 
 add-work : tie.Need-add-work Inv-loop μ-loop
 add-work c = search needs
@@ -43,7 +56,11 @@ mul-work : tie.Need-mul-work Inv-loop μ-loop
 mul-work c = search needs
 
 slice-write-work : tie.Need-slice-write-work Inv-loop μ-loop
-slice-write-work c = omega (arith, c .before .before .before .before .before .before .before .before .pre .0, c .before .before .before .before .before .before .before .before .pre .1, c .before .before .before .before .before .before .width-of .ensures, c .before .before .loop-test .taken, c .before .before .before .loop .inv .size)
+slice-write-work c =
+    let c2 = c .before .before in
+    let c6 = c2 .before .before .before .before in
+    let c8 = c6 .before .before in
+    omega (arith, c8 .pre .0, c8 .pre .1, c6 .width-of .ensures, c2 .loop-test .taken, c2 .before .loop .inv .size)
 
 add-i : tie.Need-add-i Inv-loop μ-loop
 add-i c = search needs
@@ -52,7 +69,11 @@ loop-less : tie.Need-loop-less Inv-loop μ-loop
 loop-less c = search needs
 
 loop-again : tie.Need-loop-again Inv-loop μ-loop
-loop-again c = singles-more _ (omega (arith, c .before .before .before .before .before .before .before .before .pre .0, c .before .before .before .before .before .before .before .before .pre .1, c .before .before .before .before .before .before .width-of .ensures)) (c .before .before .before .loop .inv) (c .before .before .loop-test .taken) (c .narrow .ensures ∙ ap (λ (j : ℕ). c .before .before .before .before .before .before .before .before .args .start + j) (c .before .place-of .ensures))
+loop-again c =
+    let c2 = c .before .before in
+    let c6 = c2 .before .before .before .before in
+    let c8 = c6 .before .before in
+    singles-more _ (omega (arith, c8 .pre .0, c8 .pre .1, c6 .width-of .ensures)) (c2 .before .loop .inv) (c2 .loop-test .taken) (c .narrow .ensures ∙ ap (λ (j : ℕ). c8 .args .start + j) (c .before .place-of .ensures))
 
 same-length : tie.Need-same-length Inv-loop μ-loop
 same-length c = c .before .loop .inv .size

@@ -26,16 +26,22 @@ list-part-requires c κs = search needs
 
 put-tables-requires : tie.Need-put-tables-requires
 put-tables-requires c κs =
-    let A = c .before .before .before .before .before .before .before .before .before .before .before .before .before .before .pre .0 in
-    let e = plan-by A (sized A) (c .before .before .before .before .before .before .before .before .before .before .before .before .before .before .pre .1) (c .before .before .before .before .plan-of .ensures) in
-    (c .before .before .list-part .ensures, planned A e (c .before .before .list-part .ensures), points-in (A .accepted) (widths-of _ (A .kind)), points-all (A .accepted) (widths-of _ (A .kind)), omega (arith, roomy A (sized A) e .floats))
+    let c2 = c .before .before in
+    let c4 = c2 .before .before in
+    let c14 = c4 .before .before .before .before .before .before .before .before .before .before in
+    let A = c14 .pre .0 in
+    let e = plan-by A (sized A) (c14 .pre .1) (c4 .plan-of .ensures) in
+    (c2 .list-part .ensures, planned A e (c2 .list-part .ensures), points-in (A .accepted) (widths-of _ (A .kind)), points-all (A .accepted) (widths-of _ (A .kind)), omega (arith, roomy A (sized A) e .floats))
 
 texture-where-requires : tie.Need-texture-where-requires
 texture-where-requires c κs =
-    let A = c .before .before .before .before .before .before .before .before .before .before .before .before .before .before .before .before .before .before .before .before .pre .0 in
-    let e = plan-by A (sized A) (c .before .before .before .before .before .before .before .before .before .before .before .before .before .before .before .before .before .before .before .before .pre .1) (c .before .before .before .before .before .before .before .before .before .before .plan-of .ensures) in
-    let P = c .before .before .before .before .before .put-tables .ensures in
-    (c .before .before .before .before .before .before .before .before .list-part .ensures, textures-asked (planned A e refl .spots) (points-held P) (faces-held P) (omega (arith, roomy A (sized A) e .textures, P .len)))
+    let c5 = c .before .before .before .before .before in
+    let c8 = c5 .before .before .before in
+    let c20 = c8 .before .before .before .before .before .before .before .before .before .before .before .before in
+    let A = c20 .pre .0 in
+    let e = plan-by A (sized A) (c20 .pre .1) (c8 .before .before .plan-of .ensures) in
+    let P = c5 .put-tables .ensures in
+    (c8 .list-part .ensures, textures-asked (planned A e refl .spots) (points-held P) (faces-held P) (omega (arith, roomy A (sized A) e .textures, P .len)))
 
 build-requires : tie.Need-build-requires
 build-requires c κs =

@@ -38,16 +38,31 @@ four-entries-requires : tie.Need-four-entries-requires
 four-entries-requires c κs = (c .before .before .before .sin-place .ensures .1, c .before .before .sin-place2 .ensures .1, c .before .cos-place .ensures .1, c .cos-place2 .ensures .1)
 
 blended-requires : tie.Need-blended-requires
-blended-requires c κs = (low (c .four-entries .ensures .0) (c .before .before .before .before .sin-place .ensures .0) (sin-le (c .before .before .before .before .before .args .j)), low (c .four-entries .ensures .1) (c .before .before .before .sin-place2 .ensures .0) (sin-le (c .before .before .before .before .before .args .j + 1)), search needs)
+blended-requires c κs =
+    let c3 = c .before .before .before in
+    let c4 = c3 .before in
+    (low (c .four-entries .ensures .0) (c4 .sin-place .ensures .0) (sin-le (c4 .before .args .j)), low (c .four-entries .ensures .1) (c3 .sin-place2 .ensures .0) (sin-le (c4 .before .args .j + 1)), search needs)
 
 fraction-requires : tie.Need-fraction-requires
-fraction-requires c κs = few (c .before .before .before .before .before .before .args .w) (c .blended .ensures) (c .before .four-entries .ensures .0 ∙ ap entryOf (c .before .before .before .before .before .sin-place .ensures .0)) (c .before .four-entries .ensures .1 ∙ ap entryOf (c .before .before .before .before .sin-place2 .ensures .0)) (sin-few (c .before .before .before .before .before .before .args .j) (c .before .before .before .before .before .before .args .w) (search needs))
+fraction-requires c κs =
+    let c1 = c .before in
+    let c4 = c1 .before .before .before in
+    let c6 = c4 .before .before in
+    few (c6 .args .w) (c .blended .ensures) (c1 .four-entries .ensures .0 ∙ ap entryOf (c4 .before .sin-place .ensures .0)) (c1 .four-entries .ensures .1 ∙ ap entryOf (c4 .sin-place2 .ensures .0)) (sin-few (c6 .args .j) (c6 .args .w) (search needs))
 
 blended-requires-2 : tie.Need-blended-requires-2
-blended-requires-2 c κs = (low (c .before .before .four-entries .ensures .2) (c .before .before .before .before .cos-place .ensures .0) (cos-le (c .before .before .before .before .before .before .before .args .j) (omega arith)), low (c .before .before .four-entries .ensures .3) (c .before .before .before .cos-place2 .ensures .0) (cos-le (c .before .before .before .before .before .before .before .args .j + 1) (omega arith)), search needs)
+blended-requires-2 c κs =
+    let c2 = c .before .before in
+    let c3 = c2 .before in
+    let c7 = c3 .before .before .before .before in
+    (low (c2 .four-entries .ensures .2) (c3 .before .cos-place .ensures .0) (cos-le (c7 .args .j) (omega arith)), low (c2 .four-entries .ensures .3) (c3 .cos-place2 .ensures .0) (cos-le (c7 .args .j + 1) (omega arith)), search needs)
 
 fraction-requires-2 : tie.Need-fraction-requires-2
-fraction-requires-2 c κs = few (c .before .before .before .before .before .before .before .before .args .w) (c .blended2 .ensures) (c .before .before .before .four-entries .ensures .2 ∙ ap entryOf (c .before .before .before .before .before .cos-place .ensures .0)) (c .before .before .before .four-entries .ensures .3 ∙ ap entryOf (c .before .before .before .before .cos-place2 .ensures .0)) (cos-few (c .before .before .before .before .before .before .before .before .args .j) (c .before .before .before .before .before .before .before .before .args .w) (search needs) (search needs))
+fraction-requires-2 c κs =
+    let c3 = c .before .before .before in
+    let c4 = c3 .before in
+    let c8 = c4 .before .before .before .before in
+    few (c8 .args .w) (c .blended2 .ensures) (c3 .four-entries .ensures .2 ∙ ap entryOf (c4 .before .cos-place .ensures .0)) (c3 .four-entries .ensures .3 ∙ ap entryOf (c4 .cos-place2 .ensures .0)) (cos-few (c8 .args .j) (c8 .args .w) (search needs) (search needs))
 
 signed-requires : tie.Need-signed-requires
 signed-requires c κs = search needs

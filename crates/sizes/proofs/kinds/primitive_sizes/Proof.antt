@@ -28,8 +28,10 @@ wide-requires c κs = search needs
 
 mul-t13 : tie.Need-mul-t13
 mul-t13 c =
-    let l = now (c .before .before .before .list-part .result) in
-    record { fits = omega (arith, ap (λ (t : Totals). t .triangles) (c .before .before .primitive-totals .ensures), primitives-within {points = listedPoints (c .before .before .before .before .before .before .args .h)} (omega (arith, c .before .before .before .before .before .before .pre)) (c .before .before .before .before .before .before .args .g) (entries l), entries-length l) }
+    let c2 = c .before .before in
+    let c6 = c2 .before .before .before .before in
+    let l = now (c2 .before .list-part .result) in
+    record { fits = omega (arith, ap (λ (t : Totals). t .triangles) (c2 .primitive-totals .ensures), primitives-within {points = listedPoints (c6 .args .h)} (omega (arith, c6 .pre)) (c6 .args .g) (entries l), entries-length l) }
 
 returns : tie.Need-returns
 returns c = primitives-are _ _ _ (c .before .before .before .list-part .ensures) _ _ _ (c .before .before .primitive-totals .ensures) (c .before .wide .ensures)

@@ -21,10 +21,17 @@ wide-requires : tie.Need-wide-requires
 wide-requires c κs = search needs
 
 returns-2 : tie.Need-returns-2
-returns-2 c = refuse _ _ _ _ (row-points _ _ (sym (c .before .before .before .before .before .before .is-no-shape .ensures) ∙ c .before .before .before .before .before .if1 .left) _ (c .before .before .before .before .sizes-of .ensures) _ (c .before .before .wide .ensures ∙ c .before .before .before .limit-of .ensures) (c .if2 .taken)) (λ z. omega arith)
+returns-2 c =
+    let c2 = c .before .before in
+    let c4 = c2 .before .before in
+    refuse _ _ _ _ (row-points _ _ (sym (c4 .before .before .is-no-shape .ensures) ∙ c4 .before .if1 .left) _ (c4 .sizes-of .ensures) _ (c2 .wide .ensures ∙ c2 .before .limit-of .ensures) (c .if2 .taken)) (λ z. omega arith)
 
 returns-3 : tie.Need-returns-3
-returns-3 c = refuse _ _ _ _ (row-corners _ _ (sym (c .before .before .before .before .before .before .before .before .is-no-shape .ensures) ∙ c .before .before .before .before .before .before .before .if1 .left) _ (c .before .before .before .before .before .before .sizes-of .ensures) _ (c .before .before .before .before .wide .ensures ∙ c .before .before .before .before .before .limit-of .ensures) (c .before .before .if2 .left) (c .if3 .taken)) (λ z. omega arith)
+returns-3 c =
+    let c2 = c .before .before in
+    let c4 = c2 .before .before in
+    let c6 = c4 .before .before in
+    refuse _ _ _ _ (row-corners _ _ (sym (c6 .before .before .is-no-shape .ensures) ∙ c6 .before .if1 .left) _ (c6 .sizes-of .ensures) _ (c4 .wide .ensures ∙ c4 .before .limit-of .ensures) (c2 .if2 .left) (c .if3 .taken)) (λ z. omega arith)
 
 returns-4 : tie.Need-returns-4
 returns-4 c =
