@@ -24,11 +24,11 @@ abbrev pub coefs : ℕ → ℕ → ℕ → List ℕ
 coefs n d r = coefsFrom n d r 0 (n + 1)
 
 -- n! * d^n, the denominator
-abbrev pub over : ℕ → ℕ → ℕ
-over n d = fact n * d ^ n
+abbrev pub denominator : ℕ → ℕ → ℕ
+denominator n d = fact n * d ^ n
 
--- FORMAT 16.1, 16.3: the sine series through power n at the angle u / d is (sinPlus n d u - sinMinus n d u) / over n d,
--- the cosine series (cosPlus n d u - cosMinus n d u) / over n d.
+-- FORMAT 16.1, 16.3: the sine series through power n at the angle u / d is (sinPlus n d u - sinMinus n d u) / denominator n d,
+-- the cosine series (cosPlus n d u - cosMinus n d u) / denominator n d.
 abbrev pub sinPlus : ℕ → ℕ → ℕ → ℕ
 sinPlus n d u = eval (coefs n d 1) u
 
@@ -51,4 +51,4 @@ nearest a b = (2 * a + b) / (2 * b)
 
 -- FORMAT 16.1: entry k, nearest 2^30 times the sine series through power 21 at k * p / 2048 = k * halfTurn / 2^71
 unfoldable pub entryOf : ℕ → ℕ
-entryOf k = nearest (2 ^ 30 * (sinPlus 21 (2 ^ 71) (k * halfTurn) - sinMinus 21 (2 ^ 71) (k * halfTurn))) (over 21 (2 ^ 71))
+entryOf k = nearest (2 ^ 30 * (sinPlus 21 (2 ^ 71) (k * halfTurn) - sinMinus 21 (2 ^ 71) (k * halfTurn))) (denominator 21 (2 ^ 71))

@@ -12,7 +12,7 @@ use lib.Ieee.{Float, binary32, ofBits}
 use lib.Ieee.Exact.{HasValue}
 use lib.Arith.{lt→nleb}
 use lib.Ieee.Bits.{is-true, is-false}
-use Rattle.series.specs.Series.{eval, coefs, halfTurn, over, sinPlus, sinMinus, cosPlus, cosMinus}
+use Rattle.series.specs.Series.{eval, coefs, halfTurn, denominator, sinPlus, sinMinus, cosPlus, cosMinus}
 use Rattle.series.specs.Value.{sinGrid, cosGrid, blend, fine}
 use Rattle.lists.proofs.Numbers.{lt-or-le}
 use Rattle.sine.specs.SinCos.{mant, expo}
@@ -35,39 +35,39 @@ apart a b z t k = record { low = low′ (2 ^ 125) (mul-le-mul (le-refl (2 ^ 125)
     high′ E h = omega arith
 
 -- ---- the series of the statement
-sin-digits : (u t : ℕ) → Digits sinP sinM sinZ u t → Apart (t * 2 ^ 125) (sinPlus 31 unit u) (sinMinus 31 unit u) (over 31 unit)
+sin-digits : (u t : ℕ) → Digits sinP sinM sinZ u t → Apart (t * 2 ^ 125) (sinPlus 31 unit u) (sinMinus 31 unit u) (denominator 31 unit)
 sin-digits u t k =
-    apart (sinPlus 31 unit u) (sinMinus 31 unit u) (over 31 unit) t
-    (subst (λ (L : List ℕ). Close (16777216 * eval L u) (16777216 * sinMinus 31 unit u + over 31 unit * t) (10 * over 31 unit)) sinP-is
-    (subst (λ (L : List ℕ). Close (16777216 * eval sinP u) (16777216 * eval L u + over 31 unit * t) (10 * over 31 unit)) sinM-is k))
+    apart (sinPlus 31 unit u) (sinMinus 31 unit u) (denominator 31 unit) t
+    (subst (λ (L : List ℕ). Close (16777216 * eval L u) (16777216 * sinMinus 31 unit u + denominator 31 unit * t) (10 * denominator 31 unit)) sinP-is
+    (subst (λ (L : List ℕ). Close (16777216 * eval sinP u) (16777216 * eval L u + denominator 31 unit * t) (10 * denominator 31 unit)) sinM-is k))
 
-cos-digits : (u t : ℕ) → Digits cosP cosM cosZ u t → Apart (t * 2 ^ 125) (cosPlus 32 unit u) (cosMinus 32 unit u) (over 32 unit)
+cos-digits : (u t : ℕ) → Digits cosP cosM cosZ u t → Apart (t * 2 ^ 125) (cosPlus 32 unit u) (cosMinus 32 unit u) (denominator 32 unit)
 cos-digits u t k =
-    apart (cosPlus 32 unit u) (cosMinus 32 unit u) (over 32 unit) t
-    (subst (λ (L : List ℕ). Close (16777216 * eval L u) (16777216 * cosMinus 32 unit u + over 32 unit * t) (10 * over 32 unit)) cosP-is
-    (subst (λ (L : List ℕ). Close (16777216 * eval cosP u) (16777216 * eval L u + over 32 unit * t) (10 * over 32 unit)) cosM-is k))
+    apart (cosPlus 32 unit u) (cosMinus 32 unit u) (denominator 32 unit) t
+    (subst (λ (L : List ℕ). Close (16777216 * eval L u) (16777216 * cosMinus 32 unit u + denominator 32 unit * t) (10 * denominator 32 unit)) cosP-is
+    (subst (λ (L : List ℕ). Close (16777216 * eval cosP u) (16777216 * eval L u + denominator 32 unit * t) (10 * denominator 32 unit)) cosM-is k))
 
-cos-digits′ : (u t : ℕ) → Digits cosM cosP cosZ u t → Apart (t * 2 ^ 125) (cosMinus 32 unit u) (cosPlus 32 unit u) (over 32 unit)
+cos-digits′ : (u t : ℕ) → Digits cosM cosP cosZ u t → Apart (t * 2 ^ 125) (cosMinus 32 unit u) (cosPlus 32 unit u) (denominator 32 unit)
 cos-digits′ u t k =
-    apart (cosMinus 32 unit u) (cosPlus 32 unit u) (over 32 unit) t
-    (subst (λ (L : List ℕ). Close (16777216 * eval L u) (16777216 * cosPlus 32 unit u + over 32 unit * t) (10 * over 32 unit)) cosM-is
-    (subst (λ (L : List ℕ). Close (16777216 * eval cosM u) (16777216 * eval L u + over 32 unit * t) (10 * over 32 unit)) cosP-is k))
+    apart (cosMinus 32 unit u) (cosPlus 32 unit u) (denominator 32 unit) t
+    (subst (λ (L : List ℕ). Close (16777216 * eval L u) (16777216 * cosPlus 32 unit u + denominator 32 unit * t) (10 * denominator 32 unit)) cosM-is
+    (subst (λ (L : List ℕ). Close (16777216 * eval cosM u) (16777216 * eval L u + denominator 32 unit * t) (10 * denominator 32 unit)) cosP-is k))
 
 -- ---- sine and cosine at u = j * step + d
 near-sine : (s : Bool) (r : Float) (u t : ℕ) → HasValue r s (t * 2 ^ 125) (2 ^ 149) → Digits sinP sinM sinZ u t
-    → Near r (cond s (sinMinus 31 unit u) (sinPlus 31 unit u)) (cond s (sinPlus 31 unit u) (sinMinus 31 unit u)) (over 31 unit)
+    → Near r (cond s (sinMinus 31 unit u) (sinPlus 31 unit u)) (cond s (sinPlus 31 unit u) (sinMinus 31 unit u)) (denominator 31 unit)
 near-sine false r u t v k = record { sign = false; t = t * 2 ^ 125; value = v; within = sin-digits u t k }
 near-sine true r u t v k = record { sign = true; t = t * 2 ^ 125; value = v; within = sin-digits u t k }
 
 near-cosine : (j c w d g : ℕ) (r : Float) → j < 2048 → c + w ≡ 16777216 → Weighed fine c w d g
     → HasValue r (leb 1024 j) (blend (cosGrid j) (cosGrid (suc j)) w * 2 ^ 125) (2 ^ 149)
-    → Near r (cosPlus 32 unit (j * step + d)) (cosMinus 32 unit (j * step + d)) (over 32 unit)
+    → Near r (cosPlus 32 unit (j * step + d)) (cosMinus 32 unit (j * step + d)) (denominator 32 unit)
 near-cosine j c w d g r h e k v = go (lt-or-le j 1024)
   where
     t : ℕ
     t = blend (cosGrid j) (cosGrid (suc j)) w
 
-    go : (j < 1024) ⊎ (1024 ≤ j) → Near r (cosPlus 32 unit (j * step + d)) (cosMinus 32 unit (j * step + d)) (over 32 unit)
+    go : (j < 1024) ⊎ (1024 ≤ j) → Near r (cosPlus 32 unit (j * step + d)) (cosMinus 32 unit (j * step + d)) (denominator 32 unit)
     go (inl l) = record {
       sign = false;
       t = blend (cosGrid j) (cosGrid (suc j)) w * 2 ^ 125;

@@ -5,7 +5,7 @@ use Prim.Native.Nat.{ℕ, _+_, _*_, _^_, _≤_}
 use lib.Dec.{leb}
 use lib.Ieee.{Float, nan, inf, fin, binary32, ofBits, up, down}
 use lib.Ieee.Exact.{HasValue}
-use Rattle.series.specs.Series.{halfTurn, sinPlus, sinMinus, cosPlus, cosMinus, over}
+use Rattle.series.specs.Series.{halfTurn, sinPlus, sinMinus, cosPlus, cosMinus, denominator}
 
 -- FORMAT 16.3: 1, p and 2p, in units
 abbrev pub unit : ℕ
@@ -53,8 +53,8 @@ pub record Accurate (x s c : Float) : Type 0 where
   pub sign : Bool
   pub u : ℕ
   pub reduced : Reduced x sign u
-  pub sine : Near s (cond sign (sinMinus 31 unit u) (sinPlus 31 unit u)) (cond sign (sinPlus 31 unit u) (sinMinus 31 unit u)) (over 31 unit)
-  pub cosine : Near c (cosPlus 32 unit u) (cosMinus 32 unit u) (over 32 unit)
+  pub sine : Near s (cond sign (sinMinus 31 unit u) (sinPlus 31 unit u)) (cond sign (sinPlus 31 unit u) (sinMinus 31 unit u)) (denominator 31 unit)
+  pub cosine : Near c (cosPlus 32 unit u) (cosMinus 32 unit u) (denominator 32 unit)
 
 -- FORMAT 16.3: of size at most 1024
 unfoldable pub inRange : Float → Bool
