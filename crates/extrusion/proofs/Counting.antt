@@ -14,14 +14,14 @@ use Rattle.lists.specs.Loops.{tab, All}
 use Rattle.lists.proofs.Tabs.{length-tab, tab-at}
 use Rattle.lists.specs.Lists.{flat, total}
 use Rattle.mesh.specs.Quads.{quad}
-use Rattle.mesh.specs.Extrusion.{hasCap}
+use Rattle.mesh.specs.Extrusion.{hasCap, pointNumber}
 use Rattle.mesh.specs.Sizes.{one}
 use Rattle.lists.proofs.Lists.{All-append, All-getD}
 use Rattle.lists.proofs.Totals.{flat-total, total-append, total-suc}
 use Rattle.lists.proofs.Tests.{and-right}
 use Rattle.mesh.proofs.Tabs.{tabs-tab, total-tabs}
 use Rattle.tables.specs.Layout.{most}
-use Rattle.extrusion.specs.Listings.{oneIf, spot, sidePoints, beginPoints, endPoints, facePoints, sizeAt, startAt}
+use Rattle.extrusion.specs.Listings.{oneIf, sidePoints, beginPoints, endPoints, facePoints, sizeAt, startAt}
 use Rattle.extrusion.proofs.Sides.{quad-length}
 
 -- ---- how many stand before each
@@ -72,7 +72,7 @@ three-there cap w q = leb-true 3 cap (and-right w (leb 3 cap) q)
 
 module _ (n m cap : ℕ) (b e : Bool) where
   side-count : 2 ≤ m → length (sidePoints n m) ≡ (n - 1) * (m - 1)
-  side-count h = ap length (tabs-tab (quad (spot m)) (n - 1) (m - 1) (omega arith)) ∙ length-tab _ ((n - 1) * (m - 1)) 0
+  side-count h = ap length (tabs-tab (quad (pointNumber m)) (n - 1) (m - 1) (omega arith)) ∙ length-tab _ ((n - 1) * (m - 1)) 0
 
   one-length : {A : Type 0} (t : Bool) (x : A) → length (oneIf t x) ≡ one t
   one-length true x = refl
@@ -108,8 +108,8 @@ module _ (n m cap : ℕ) (b e : Bool) where
 
   side-size : (j : ℕ) → 2 ≤ m → j < (n - 1) * (m - 1) → length (getD (sidePoints n m) j []) ≡ 4
   side-size j h l =
-      ap (λ (x : List (List ℕ)). length (getD x j [])) (tabs-tab (quad (spot m)) (n - 1) (m - 1) (omega arith))
-      ∙ ap length (tab-at _ ((n - 1) * (m - 1)) j [] l) ∙ quad-length (spot m) _ _
+      ap (λ (x : List (List ℕ)). length (getD x j [])) (tabs-tab (quad (pointNumber m)) (n - 1) (m - 1) (omega arith))
+      ∙ ap length (tab-at _ ((n - 1) * (m - 1)) j [] l) ∙ quad-length (pointNumber m) _ _
 
   pub face-size : 2 ≤ m → (j : ℕ) → j < length (facePoints n m cap b e) → length (getD (facePoints n m cap b e) j []) ≡ sizeAt ((n - 1) * (m - 1)) cap j
   face-size h j l = go (ltb j ((n - 1) * (m - 1))) refl
@@ -159,7 +159,7 @@ module _ (n m cap : ℕ) (b e : Bool) where
   corners-count =
       total-append length (sidePoints n m) (beginPoints b cap ++ endPoints e ((n - 1) * m) cap)
       ∙ ap₂ (λ (x y : ℕ). x + y)
-      (total-tabs length (quad (spot m)) 4 (quad-length (spot m)) (n - 1) (m - 1) ∙ sym (mul-assoc (n - 1) (m - 1) 4) ∙ mul-comm ((n - 1) * (m - 1)) 4)
+      (total-tabs length (quad (pointNumber m)) 4 (quad-length (pointNumber m)) (n - 1) (m - 1) ∙ sym (mul-assoc (n - 1) (m - 1) 4) ∙ mul-comm ((n - 1) * (m - 1)) 4)
       (total-append length (beginPoints b cap) (endPoints e ((n - 1) * m) cap)
       ∙ ap₂ (λ (x y : ℕ). x + y) (one-total (hasCap b cap) _ begin-size) (one-total (hasCap e cap) _ end-size) ∙ two-caps (hasCap b cap) (hasCap e cap))
 

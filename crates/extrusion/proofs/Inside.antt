@@ -8,22 +8,22 @@ use lib.ListN.{length, getD}
 use Rattle.lists.specs.Loops.{tab, All}
 use Rattle.lists.specs.Lists.{flat}
 use Rattle.mesh.specs.Quads.{quad}
-use Rattle.mesh.specs.Extrusion.{hasCap}
+use Rattle.mesh.specs.Extrusion.{hasCap, pointNumber}
 use Rattle.lists.proofs.Lists.{All-append, All-getD, All-by, All-flat}
 use Rattle.lists.proofs.Totals.{tab-reverse}
 use Rattle.mesh.proofs.Within.{All-tabs}
 use Rattle.lists.proofs.Numbers.{cell}
-use Rattle.extrusion.specs.Listings.{oneIf, spot, sidePoints, beginPoints, endPoints, facePoints}
+use Rattle.extrusion.specs.Listings.{oneIf, sidePoints, beginPoints, endPoints, facePoints}
 
 -- point j of row i, of n rows of m
-spot-below : (n m i j : ℕ) → i < n → j < m → spot m i j < n * m
+spot-below : (n m i j : ℕ) → i < n → j < m → pointNumber m i j < n * m
 spot-below n m i j h k = let e = cell j i m n k h in omega arith
 
 module _ (n m cap : ℕ) (b e : Bool) (hn : 2 ≤ n) (hc : cap ≤ m) where
   abbrev pub Below : List ℕ → Type 0
   Below l = All (λ (p : ℕ). p < n * m) l
 
-  quad-below : (i j : ℕ) → i < n - 1 → j < m - 1 → Below (quad (spot m) i j)
+  quad-below : (i j : ℕ) → i < n - 1 → j < m - 1 → Below (quad (pointNumber m) i j)
   unfolding quad
   quad-below i j p q = (
     spot-below n m i j (omega arith) (omega arith),
@@ -31,7 +31,7 @@ module _ (n m cap : ℕ) (b e : Bool) (hn : 2 ≤ n) (hc : cap ≤ m) where
   )
 
   sides-below : All Below (sidePoints n m)
-  sides-below = All-tabs Below (quad (spot m)) (n - 1) (m - 1) quad-below
+  sides-below = All-tabs Below (quad (pointNumber m)) (n - 1) (m - 1) quad-below
 
   one-below : (t : Bool) (x : List ℕ) → Below x → All Below (oneIf t x)
   one-below true x h = (h, tt)

@@ -15,7 +15,7 @@ use Rattle.lists.specs.Lists.{mapN}
 use Rattle.mesh.specs.Soup.{Corner, Face}
 use Rattle.mesh.specs.Quads.{quad}
 use Rattle.mesh.specs.Sizes.{sideCount, capCount, extrusionSizes}
-use Rattle.mesh.specs.Extrusion.{Extrusion, spineCount, sectionCount, sectionOf, extrusionOf, hasCap, closes, capLength, sideCorner, capCorner, sides, capFace, faceIf, caps, extrusionFaces}
+use Rattle.mesh.specs.Extrusion.{Extrusion, spineCount, sectionCount, sectionOf, extrusionOf, hasCap, closes, capLength, sideCorner, capCorner, sides, capFace, faceIf, caps, extrusionFaces, pointNumber}
 use Rattle.lists.proofs.Totals.{tab-reverse, mapN-tab}
 use Rattle.lists.proofs.Lists.{mapN-append}
 use Rattle.lists.proofs.Numbers.{row-of, column-of}
@@ -24,7 +24,7 @@ use Rattle.mesh.proofs.Shapes.{sides-listed}
 use Rattle.tables.specs.declared.layout.Plan.{Plan}
 use Rattle.tables.specs.Layout.{Room}
 use Rattle.tables.specs.Listed.{Use, facesWith}
-use Rattle.extrusion.specs.Listings.{oneIf, spot, sidePoints, beginPoints, endPoints, facePoints, useOf, extrusionListings, Planned}
+use Rattle.extrusion.specs.Listings.{oneIf, sidePoints, beginPoints, endPoints, facePoints, useOf, extrusionListings, Planned}
 use Rattle.extrusion.specs.Given.{Given}
 use Rattle.extrusion.specs.Corners.{textureOf, extrusionCorner}
 use Rattle.extrusion.proofs.Blocks.{section-long, spine-long, head-is}
@@ -61,7 +61,7 @@ module _ (E : Extrusion) (hm : 2 ≤ length (E .section)) where
   made : ℕ → List ℕ → Face
   made k ps = map (λ (p : ℕ). extrusionCorner E k (useOf p)) ps
 
-  quad-made : (k i j : ℕ) → k < (length (E .spine) - 1) * (length (E .section) - 1) → j + 1 < length (E .section) → made k (quad (spot (length (E .section))) i j) ≡ quad (sideCorner E) i j
+  quad-made : (k i j : ℕ) → k < (length (E .spine) - 1) * (length (E .section) - 1) → j + 1 < length (E .section) → made k (quad (pointNumber (length (E .section))) i j) ≡ quad (sideCorner E) i j
   unfolding made quad
   quad-made k i j h l =
       let a = corner-side E k i j (omega arith) h in
@@ -75,9 +75,9 @@ module _ (E : Extrusion) (hm : 2 ≤ length (E .section)) where
       let m : ℕ = length (E .section) in
       let w : ℕ = m - 1 in
       let s : ℕ = (length (E .spine) - 1) * w in
-      ap (mapN made 0) (tabs-tab (quad (spot m)) (length (E .spine) - 1) w (omega arith))
-      ∙ mapN-tab made (λ k. quad (spot m) (k / w) (k % w)) s 0
-      ∙ tab-same (λ k. made k (quad (spot m) (k / w) (k % w))) (λ k. quad (sideCorner E) (k / w) (k % w)) s
+      ap (mapN made 0) (tabs-tab (quad (pointNumber m)) (length (E .spine) - 1) w (omega arith))
+      ∙ mapN-tab made (λ k. quad (pointNumber m) (k / w) (k % w)) s 0
+      ∙ tab-same (λ k. made k (quad (pointNumber m) (k / w) (k % w))) (λ k. quad (sideCorner E) (k / w) (k % w)) s
       (λ k l. quad-made k (k / w) (k % w) l (let q : k % w < w = mod-lt k (omega arith) in omega arith))
       ∙ sym (sides-listed E hm)
 
@@ -134,7 +134,7 @@ module _ (E : Extrusion) (hm : 2 ≤ length (E .section)) where
       let m : ℕ = length (E .section) in
       let c : ℕ = capLength (E .section) in
       let C : List (List ℕ) = beginPoints (E .head .«begin_cap») c ++ endPoints (E .head .«end_cap») ((n - 1) * m) c in
-      let l : 0 + length (sidePoints n m) ≡ (n - 1) * (m - 1) = zero-add (length (sidePoints n m)) ∙ ap length (tabs-tab (quad (spot m)) (n - 1) (m - 1) (omega arith)) ∙ length-tab _ ((n - 1) * (m - 1)) 0 in
+      let l : 0 + length (sidePoints n m) ≡ (n - 1) * (m - 1) = zero-add (length (sidePoints n m)) ∙ ap length (tabs-tab (quad (pointNumber m)) (n - 1) (m - 1) (omega arith)) ∙ length-tab _ ((n - 1) * (m - 1)) 0 in
       sym (faces-of (extrusionCorner E) 0 (sidePoints n m ++ C) ∙ mapN-append made 0 (sidePoints n m) C
       ∙ ap₂ (λ (x y : List Face). x ++ y) sides-made (ap (λ (k : ℕ). mapN made k C) l ∙ caps-made))
 

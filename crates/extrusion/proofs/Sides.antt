@@ -10,17 +10,17 @@ use lib.ListN.{length, set, length-append}
 use Rattle.lists.specs.Loops.{tab}
 use Rattle.lists.specs.Lists.{flat}
 use Rattle.mesh.specs.Quads.{tabs, quad}
-use Rattle.mesh.specs.Extrusion.{hasCap}
+use Rattle.mesh.specs.Extrusion.{hasCap, pointNumber}
 use Rattle.lists.proofs.Totals.{tab-reverse}
 use Rattle.tables.specs.Layout.{most}
 use Rattle.lists.specs.Parts.{spliced}
-use Rattle.extrusion.specs.Listings.{spot, sidePoints, beginPoints, endPoints, facePoints}
+use Rattle.extrusion.specs.Listings.{sidePoints, beginPoints, endPoints, facePoints}
 use Rattle.lists.proofs.Splices.{splice-more, put-four}
 use Rattle.lists.proofs.Pieces.{flat-append, length-pieces, flat-rows}
 
 -- four points, stored
-pub quad-put : (m i j k : ℕ) (l w x y z : List ℕ) (a b c d : ℕ) → k + 4 ≤ length l → a ≡ spot m i j → b ≡ spot m i (j + 1) → c ≡ spot m (i + 1) (j + 1) → d ≡ spot m (i + 1) j
-    → w ≡ set l k a → x ≡ set w (k + 1) b → y ≡ set x (k + 2) c → z ≡ set y (k + 3) d → z ≡ spliced l k (quad (spot m) i j)
+pub quad-put : (m i j k : ℕ) (l w x y z : List ℕ) (a b c d : ℕ) → k + 4 ≤ length l → a ≡ pointNumber m i j → b ≡ pointNumber m i (j + 1) → c ≡ pointNumber m (i + 1) (j + 1) → d ≡ pointNumber m (i + 1) j
+    → w ≡ set l k a → x ≡ set w (k + 1) b → y ≡ set x (k + 2) c → z ≡ set y (k + 3) d → z ≡ spliced l k (quad (pointNumber m) i j)
 unfolding quad
 quad-put m i j k l w x y z a b c d h ea eb ec ed ew ex ey ez = rw (ez, ey, ex, ew, ea, eb, ec, ed) (put-four l k _ _ _ _ h)
 
@@ -29,12 +29,12 @@ unfolding quad
 quad-length f i j = refl
 
 -- the sides of a row
-pub row-width : (m i : ℕ) → length (flat (tab (quad (spot m) i) (m - 1) 0)) ≡ (m - 1) * 4
-row-width m i = length-pieces (quad (spot m) i) 4 (quad-length (spot m) i) (m - 1)
+pub row-width : (m i : ℕ) → length (flat (tab (quad (pointNumber m) i) (m - 1) 0)) ≡ (m - 1) * 4
+row-width m i = length-pieces (quad (pointNumber m) i) 4 (quad-length (pointNumber m) i) (m - 1)
 
-pub sides-are : (n m : ℕ) → flat (tab (λ i. flat (tab (quad (spot m) i) (m - 1) 0)) (n - 1) 0) ≡ flat (sidePoints n m)
+pub sides-are : (n m : ℕ) → flat (tab (λ i. flat (tab (quad (pointNumber m) i) (m - 1) 0)) (n - 1) 0) ≡ flat (sidePoints n m)
 unfolding tabs
-sides-are n m = flat-rows (quad (spot m)) (m - 1) (n - 1) 0
+sides-are n m = flat-rows (quad (pointNumber m)) (m - 1) (n - 1) 0
 
 -- points of row i and of the next
 pub rows-most : (n m i : ℕ) → n * m ≤ most → i < n - 1 → i * m + m + m ≤ most
@@ -77,7 +77,7 @@ flat-faces n m cap b e =
     ∙ ap (λ (r : List ℕ). flat (sidePoints n m) ++ r) (flat-append (beginPoints b cap) (endPoints e ((n - 1) * m) cap))
 
 pub sides-width : (n m : ℕ) → length (flat (sidePoints n m)) ≡ (n - 1) * ((m - 1) * 4)
-sides-width n m = sym (ap length (sides-are n m)) ∙ length-pieces (λ i. flat (tab (quad (spot m) i) (m - 1) 0)) ((m - 1) * 4) (row-width m) (n - 1)
+sides-width n m = sym (ap length (sides-are n m)) ∙ length-pieces (λ i. flat (tab (quad (pointNumber m) i) (m - 1) 0)) ((m - 1) * 4) (row-width m) (n - 1)
 
 -- the room of each part
 module _ (n m cap : ℕ) (b e : Bool) (k len : ℕ) (h : k + length (flat (facePoints n m cap b e)) ≤ len) where

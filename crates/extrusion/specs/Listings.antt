@@ -8,7 +8,7 @@ use Rattle.block.specs.declared.header.Header.{Header}
 use Rattle.lists.specs.Loops.{tab}
 use Rattle.lists.specs.Lists.{mapN}
 use Rattle.mesh.specs.Quads.{tabs, quad}
-use Rattle.mesh.specs.Extrusion.{spineCount, sectionCount, hasCap}
+use Rattle.mesh.specs.Extrusion.{spineCount, sectionCount, pointNumber, hasCap}
 use Rattle.mesh.specs.Sizes.{sideCount, capCount}
 use Rattle.tables.specs.declared.layout.Plan.{Plan}
 use Rattle.tables.specs.Layout.{Room}
@@ -19,13 +19,9 @@ abbrev pub oneIf : {A : Type 0} → Bool → A → List A
 oneIf true x = x ∷ []
 oneIf false x = []
 
--- FORMAT 8.4: the number of point j in row i, of rows of m
-abbrev pub spot : ℕ → ℕ → ℕ → ℕ
-spot m i j = i * m + j
-
 -- FORMAT 8.4, extrusion (faces): the points of the sides, row by row
 abbrev pub sidePoints : ℕ → ℕ → List (List ℕ)
-sidePoints n m = tabs (quad (spot m)) (n - 1) (m - 1)
+sidePoints n m = tabs (quad (pointNumber m)) (n - 1) (m - 1)
 
 -- FORMAT 8.4, extrusion (beginCap, endCap): of the begin cap the other way round, and of the end cap
 unfoldable pub beginPoints : Bool → ℕ → List (List ℕ)

@@ -5,19 +5,19 @@ ghost use lib.ListN.{length, set};
 ghost use Rattle.lists.specs.Loops.{tab};
 ghost use Rattle.lists.specs.Lists.{flat};
 ghost use Rattle.mesh.specs.Quads.{quad};
-ghost use Rattle.mesh.specs.Extrusion.{hasCap};
+ghost use Rattle.mesh.specs.Extrusion.{pointNumber, hasCap};
 ghost use Rattle.mesh.specs.Sizes.{one, capCount};
 ghost use Rattle.tables.specs.Layout.{most};
 ghost use Rattle.lists.specs.Parts.{spliced};
-ghost use Rattle.extrusion.specs.Listings.{spot, sidePoints, beginPoints, endPoints, facePoints};
+ghost use Rattle.extrusion.specs.Listings.{sidePoints, beginPoints, endPoints, facePoints};
 use block::Header;
 use block::PointNumber;
 use tables::narrow;
 
 // The point in row i, column j, of rows of m.
 fn point_at(m: usize, i: usize, j: usize) -> PointNumber
-    requires { ⌜ spot m i j ≤ most ⌝ }
-    ensures { λ r. ⌜ r .0 ≡ spot m i j ⌝ }
+    requires { ⌜ pointNumber m i j ≤ most ⌝ }
+    ensures { λ r. ⌜ r .0 ≡ pointNumber m i j ⌝ }
 {
     PointNumber(i * m + j)
 }
@@ -32,7 +32,7 @@ fn put_point_number(work: &mut [u32], k: usize, p: PointNumber)
 // The points of the face in row i, column j, of rows of m.
 fn put_quad(work: &mut [u32], k: usize, m: usize, i: usize, j: usize)
     requires { ⌜ (1 ≤ m) × (k + 4 ≤ length (now work)) × (i * m + m + j + 1 ≤ most) ⌝ }
-    ensures { λ _. ⌜ now (work .exit) ≡ spliced (now (work .entry)) k (quad (spot m) i j) ⌝ }
+    ensures { λ _. ⌜ now (work .exit) ≡ spliced (now (work .entry)) k (quad (pointNumber m) i j) ⌝ }
 {
     put_point_number(work, k, point_at(m, i, j));
     put_point_number(work, k + 1, point_at(m, i, j + 1));
@@ -43,7 +43,7 @@ fn put_quad(work: &mut [u32], k: usize, m: usize, i: usize, j: usize)
 // The sides of row i.
 fn put_quad_row(work: &mut [u32], k: usize, m: usize, i: usize)
     requires { ⌜ (2 ≤ m) × (k + (m - 1) * 4 ≤ length (now work)) × (i * m + m + m ≤ most) ⌝ }
-    ensures { λ _. ⌜ now (work .exit) ≡ spliced (now (work .entry)) k (flat (tab (quad (spot m) i) (m - 1) 0)) ⌝ }
+    ensures { λ _. ⌜ now (work .exit) ≡ spliced (now (work .entry)) k (flat (tab (quad (pointNumber m) i) (m - 1) 0)) ⌝ }
 {
     let mut j = 0;
     while j < m - 1 {

@@ -121,18 +121,18 @@ module _ (E : Extrusion) where
       go true = omega arith
       go false = omega arith
 
-  spot : (i j : ℕ) → i < length (E .spine) → j < length (E .section) → pointNumber E i j < length (E .spine) * length (E .section)
-  spot i j p q = omega (arith, cell j i (length (E .section)) (length (E .spine)) q p)
+  point-below : (i j : ℕ) → i < length (E .spine) → j < length (E .section) → pointNumber (length (E .section)) i j < length (E .spine) * length (E .section)
+  point-below i j p q = omega (arith, cell j i (length (E .section)) (length (E .spine)) q p)
 
   side-corner : (i j : ℕ) → i < length (E .spine) → j < length (E .section)
       → (sideCorner E i j .point < length (E .spine) * length (E .section)) × (sideCorner E i j .gather < length (E .spine) * length (E .section))
   unfolding sideCorner cornerAt
-  side-corner i j p q = (spot i j p q, spot i j p q)
+  side-corner i j p q = (point-below i j p q, point-below i j p q)
 
   cap-corner : (i j : ℕ) → i < length (E .spine) → j < capLength (E .section)
       → (capCorner E i j .point < length (E .spine) * length (E .section)) × (capCorner E i j .gather < length (E .spine) * length (E .section))
   unfolding capCorner cornerAt
-  cap-corner i j p q = let h : j < length (E .section) = omega (arith, cap-fits) in (spot i j p h, spot i j p h)
+  cap-corner i j p q = let h : j < length (E .section) = omega (arith, cap-fits) in (point-below i j p h, point-below i j p h)
 
   cap-within : (i : ℕ) → i < length (E .spine) → Within (length (E .spine) * length (E .section)) (capFace E i)
   unfolding capFace

@@ -142,16 +142,16 @@ cornerAt E p st =
     let uv = uvWords (E .head .transformed) (E .settings .transform) st in
     record { point = p; gather = p; given = no3; colour = no4; texture = cond (E .head .«need_uvs») uv no2 }
 
--- FORMAT 8.4: the number of point j in row i
-abbrev pub pointNumber : Extrusion → ℕ → ℕ → ℕ
-pointNumber E i j = i * length (E .section) + j
+-- FORMAT 8.4: the number of point j in row i, of rows of m
+abbrev pub pointNumber : ℕ → ℕ → ℕ → ℕ
+pointNumber m i j = i * m + j
 
 -- FORMAT 8.4: a corner of a side, and of a cap
 unfoldable pub sideCorner : Extrusion → ℕ → ℕ → Corner
-sideCorner E i j = cornerAt E (pointNumber E i j) (sideTexture E i j)
+sideCorner E i j = cornerAt E (pointNumber (length (E .section)) i j) (sideTexture E i j)
 
 unfoldable pub capCorner : Extrusion → ℕ → ℕ → Corner
-capCorner E i j = cornerAt E (pointNumber E i j) (capTexture (capFit (E .section)) (at2 (E .section) j))
+capCorner E i j = cornerAt E (pointNumber (length (E .section)) i j) (capTexture (capFit (E .section)) (at2 (E .section) j))
 
 -- FORMAT 8.4, extrusion (faces): the sides, row by row
 unfoldable pub sides : Extrusion → List Face

@@ -1,16 +1,16 @@
 use Prim.Native.Nat.{_-_}
 use Rattle.lists.proofs.Pieces.{Pieces, pieces-all, pieces-more, pieces-none}
 use Rattle.extrusion.proofs.Sides.{quad-length}
-use Rattle.extrusion.specs.Listings.{spot}
 use Rattle.mesh.specs.Quads.{quad}
 use borrow.Author.Needs.{needs}
 use mathlib.Core.Path.{refl}
 use native.Mathlib.Omega.{arith}
 use Rattle.extrusion.proofs.faces.put_quad_row.Statement.{statement}
 use Rattle.extrusion.proofs.faces.put_quad_row.Tie as tie
+use Rattle.mesh.specs.Extrusion.{pointNumber}
 
 abbrev Inv-loop : tie.InvT-loop
-Inv-loop work₀ k m i j₀ work j = Pieces (quad (spot m) i) (m - 1) work₀ k j work
+Inv-loop work₀ k m i j₀ work j = Pieces (quad (pointNumber m) i) (m - 1) work₀ k j work
 
 abbrev μ-loop : tie.MeasureT-loop
 μ-loop work₀ k m i j₀ work j = m - j

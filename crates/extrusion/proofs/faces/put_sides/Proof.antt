@@ -1,7 +1,6 @@
 use Prim.Native.Nat.{_*_, _-_}
 use Rattle.lists.proofs.Pieces.{Pieces, pieces-all, pieces-more, pieces-none}
 use Rattle.extrusion.proofs.Sides.{row-width, rows-most, sides-are}
-use Rattle.extrusion.specs.Listings.{spot}
 use Rattle.lists.specs.Lists.{flat}
 use Rattle.mesh.specs.Quads.{quad}
 use Rattle.lists.specs.Loops.{tab}
@@ -12,9 +11,10 @@ use mathlib.Core.Path.{_∙_, ap, refl}
 use native.Mathlib.Omega.{arith}
 use Rattle.extrusion.proofs.faces.put_sides.Statement.{statement}
 use Rattle.extrusion.proofs.faces.put_sides.Tie as tie
+use Rattle.mesh.specs.Extrusion.{pointNumber}
 
 abbrev Inv-loop : tie.InvT-loop
-Inv-loop work₀ k n m w i₀ work i = Pieces (λ i. flat (tab (quad (spot m) i) (m - 1) 0)) (n - 1) work₀ k i work
+Inv-loop work₀ k n m w i₀ work i = Pieces (λ i. flat (tab (quad (pointNumber m) i) (m - 1) 0)) (n - 1) work₀ k i work
 
 abbrev μ-loop : tie.MeasureT-loop
 μ-loop work₀ k n m w i₀ work i = n - i
