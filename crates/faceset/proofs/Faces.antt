@@ -99,23 +99,23 @@ module _ (missing : Words4) (R : Rest) (coord : List ℕ) where
   corners-used num s [] = refl
   corners-used num s (e ∷ es) = ap (λ (f : Face). cornerUse missing R coord num (useOf s e) ∷ f) (corners-used num (suc s) es)
 
-  dense-from : (n : ℕ) (rs : List Run) → dense (mapN (faceOf missing R coord) n rs) ≡ facesWith (cornerUse missing R coord) (joinN (listed (pointCount R)) n rs)
+  dense-from : (n : ℕ) (rs : List Run) → dense (mapN (faceOf missing R coord) n rs) ≡ facesWith (cornerUse missing R coord) (joinN (listed (pointCount (R .head))) n rs)
   unfolding dense mapN joinN facesWith faceOf listed
   dense-from n [] = refl
-  dense-from n (r ∷ rs) = one (kept (pointCount R) (r .items)) refl (dense-from (suc n) rs)
+  dense-from n (r ∷ rs) = one (kept (pointCount (R .head)) (r .items)) refl (dense-from (suc n) rs)
     where
-      one : (b : Bool) → kept (pointCount R) (r .items) ≡ b
-          → dense (mapN (faceOf missing R coord) (suc n) rs) ≡ facesWith (cornerUse missing R coord) (joinN (listed (pointCount R)) (suc n) rs)
+      one : (b : Bool) → kept (pointCount (R .head)) (r .items) ≡ b
+          → dense (mapN (faceOf missing R coord) (suc n) rs) ≡ facesWith (cornerUse missing R coord) (joinN (listed (pointCount (R .head))) (suc n) rs)
           → dense (cond b (mapN (cornerOf missing R coord n) (r .start) (r .items)) [] ∷ mapN (faceOf missing R coord) (suc n) rs)
-          ≡ facesWith (cornerUse missing R coord) (cond b (listingOf n r ∷ []) [] ++ joinN (listed (pointCount R)) (suc n) rs)
+          ≡ facesWith (cornerUse missing R coord) (cond b (listingOf n r ∷ []) [] ++ joinN (listed (pointCount (R .head))) (suc n) rs)
       one true e ih =
-          let k = kept-long (pointCount R) (r .items) e in
+          let k = kept-long (pointCount (R .head)) (r .items) e in
           dense-full (mapN (cornerOf missing R coord n) (r .start) (r .items)) (mapN (faceOf missing R coord) (suc n) rs)
           (omega (arith, length-mapN (cornerOf missing R coord n) (r .start) (r .items)))
           ∙ (λ i. corners-used n (r .start) (r .items) i ∷ ih i)
       one false e ih = ih
 
   -- FORMAT 6.2, 8.1: the kept faces of the face set, numbered without gaps, are those listed
-  pub dense-listed : dense (facesOf missing R coord) ≡ facesWith (cornerUse missing R coord) (listingsOf (pointCount R) (entries coord))
+  pub dense-listed : dense (facesOf missing R coord) ≡ facesWith (cornerUse missing R coord) (listingsOf (pointCount (R .head)) (entries coord))
   unfolding facesOf listingsOf
   dense-listed = dense-from 0 (runs (entries coord))

@@ -29,4 +29,4 @@ listingsOf points ws = joinN (listed points) 0 (runs ws)
 -- FORMAT 8.1, indexed_face_set (c_out, n_out, t_out): what makes a corner of its face's number and its use
 unfoldable pub cornerUse : Words4 → Rest → List ℕ → ℕ → Use → Corner
 cornerUse missing R coord num u =
-    cornerBy missing R coord num (u .place) (u .point) (defaultAt (R .points) (fitOf (R .points) (pointCount R)) (u .point))
+    cornerBy missing R coord num (u .place) (u .point) (defaultAt (R .points) (fitOf (R .points) (pointCount (R .head))) (u .point))

@@ -13,7 +13,8 @@ use Rattle.block.specs.Runs.{Run, faces, corners, sumOver}
 use Rattle.block.proofs.Table.{count-low}
 use Rattle.block.proofs.ListLaws.{widths-of, size-by, list-length}
 use Rattle.mesh.specs.Mesh.{Slices}
-use Rattle.mesh.specs.Sizes.{Sizes, coordRuns, listedPoints, runSizes, faceSetSizes, sizesOf}
+use Rattle.mesh.specs.Sizes.{Sizes, coordRuns, runSizes, faceSetSizes, sizesOf}
+use Rattle.mesh.specs.FaceSet.{pointCount}
 use Rattle.tables.specs.declared.layout.Plan.{Plan}
 use Rattle.tables.specs.Layout.{most, planOf}
 use Rattle.lent.specs.Lent.{Asked}
@@ -28,35 +29,35 @@ use Rattle.facesetshape.specs.Shape.{runPlan}
 
 -- the faces are the kept ones among the runs rs
 pub record RunSized (bs : List ℕ) (h : Header) (rs : List Run) : Type 0 where
-  pub sizes : sizesOf bs h ≡ runSizes (listedPoints h) rs
-  pub faces : facesIn bs h ≡ sumOver (faces (listedPoints h)) rs
+  pub sizes : sizesOf bs h ≡ runSizes (pointCount h) rs
+  pub faces : facesIn bs h ≡ sumOver (faces (pointCount h)) rs
 
 module _ {k : Kind} {bs : List ℕ} {h : Header} {s : Settings} {o : Slices} {w f : ℕ} (A : Asked k bs h s o w f) {rs : List Run} (S : RunSized bs h rs) where
   -- the sizes as they were counted
   module _ {z : Sized} (C : Known bs h z) where
-    known : (z .points ≡ listedPoints h) × (z .corners ≡ sumOver (corners (listedPoints h)) rs) × (z .faces ≡ sumOver (faces (listedPoints h)) rs)
+    known : (z .points ≡ pointCount h) × (z .corners ≡ sumOver (corners (pointCount h)) rs) × (z .faces ≡ sumOver (faces (pointCount h)) rs)
     known = (C .points ∙ ap (λ (z : Sizes). z .points) (S .sizes), C .corners ∙ ap (λ (z : Sizes). z .corners) (S .sizes), C .faces ∙ S .faces)
 
     -- what `plan_of` asks, and what it gives
     pub plan-asked : (z .points ≤ most) × (z .corners ≤ most) × (z .faces ≤ most)
     plan-asked =
         let l = low-by A (S .sizes) in
-        (omega (arith, known .0, l .0), omega (arith, known .1, l .1), omega (arith, known .2, faces-third (listedPoints h) rs, l .1))
+        (omega (arith, known .0, l .0), omega (arith, known .1, l .1), omega (arith, known .2, faces-third (pointCount h) rs, l .1))
 
-    pub plan-by : {t : Plan} → t ≡ planOf (z .points) (z .corners) (z .faces) → t ≡ runPlan (listedPoints h) rs
+    pub plan-by : {t : Plan} → t ≡ planOf (z .points) (z .corners) (z .faces) → t ≡ runPlan (pointCount h) rs
     unfolding runPlan
     plan-by e = e ∙ λ i. planOf (known .0 i) (known .1 i) (known .2 i)
 
-  module _ {t : Plan} (e : t ≡ runPlan (listedPoints h) rs) where
-    pub counted : Counted (runSizes (listedPoints h) rs) (sumOver (faces (listedPoints h)) rs) t
+  module _ {t : Plan} (e : t ≡ runPlan (pointCount h) rs) where
+    pub counted : Counted (runSizes (pointCount h) rs) (sumOver (faces (pointCount h)) rs) t
     unfolding runPlan
     counted = record {
       plan = e;
-      third = faces-third (listedPoints h) rs;
-      indices = omega (arith, indices-sum (listedPoints h) rs);
+      third = faces-third (pointCount h) rs;
+      indices = omega (arith, indices-sum (pointCount h) rs);
     }
 
-    pub roomy : Ample (runSizes (listedPoints h) rs) (sumOver (faces (listedPoints h)) rs) t w f
+    pub roomy : Ample (runSizes (pointCount h) rs) (sumOver (faces (pointCount h)) rs) t w f
     roomy = ample A (S .sizes) counted
 
 -- FORMAT 3: no list has more entries than the limit
@@ -70,7 +71,7 @@ module _ {bs : List ℕ} {h : Header} {s : Settings} {o : Slices} {w f : ℕ} (A
   unfolding sizesOf faceSetSizes facesIn setFaces
   sized = record { sizes = rw (A .kind) refl; faces = rw (A .kind) refl }
 
-  pub planned : {t : Plan} → t ≡ runPlan (listedPoints h) (coordRuns bs h) → {coord : List ℕ} → coord ≡ listBytes bs h 1 → Planned (listedPoints h) coord w t
+  pub planned : {t : Plan} → t ≡ runPlan (pointCount h) (coordRuns bs h) → {coord : List ℕ} → coord ≡ listBytes bs h 1 → Planned (pointCount h) coord w t
   planned e c =
       let G = roomy A sized e in
       rw c

@@ -15,9 +15,8 @@ use Rattle.block.specs.Settings.{settingsOf}
 use Rattle.block.specs.Lists.{listBytes}
 use Rattle.lists.proofs.Lists.{All-getD}
 use Rattle.mesh.specs.Mesh.{mesh}
-use Rattle.mesh.specs.FaceSet.{restOf, coordIn, facesOf, frameOf, faceSetMesh}
+use Rattle.mesh.specs.FaceSet.{restOf, coordIn, facesOf, frameOf, faceSetMesh, pointCount}
 use Rattle.mesh.specs.Texture.{fitOf, defaultAt}
-use Rattle.mesh.specs.Sizes.{listedPoints}
 use Rattle.mesh.specs.Result.{makesNormals, makesColours, makesTextures}
 use Rattle.mesh.proofs.Dense.{mesh-dense}
 use Rattle.tables.specs.Listed.{Listing, noListing, facesWith, usesAt}
@@ -41,7 +40,7 @@ module _ (missing : Words4) (bs : List ℕ) where
   unfolding faceSetTexture cornerUse restOf
   listed convex i K ls long =
       let points = entries (listBytes bs (headerOf bs) 0) in
-      listed-shape missing (restOf bs) bs (listBytes bs (headerOf bs) 1) (defaultAt points (fitOf points (listedPoints (headerOf bs)))) convex ls (rest-streamed bs i) K long
+      listed-shape missing (restOf bs) bs (listBytes bs (headerOf bs) 1) (defaultAt points (fitOf points (pointCount (headerOf bs)))) convex ls (rest-streamed bs i) K long
       (λ j i l b. refl)
 
   own : headerOf bs .kind ≡ FaceSet
@@ -50,7 +49,7 @@ module _ (missing : Words4) (bs : List ℕ) where
   own k =
       let ls = faceSetListings bs (headerOf bs) in
       listed (headerOf bs .convex) (ap isIndexed k) (rw k refl, rw k refl, rw k refl) ls
-      (All-getD (λ (l : Listing). 3 ≤ length (l .uses)) ls (listings-long (listedPoints (headerOf bs)) (entries (listBytes bs (headerOf bs) 1))) noListing)
+      (All-getD (λ (l : Listing). 3 ≤ length (l .uses)) ls (listings-long (pointCount (headerOf bs)) (entries (listBytes bs (headerOf bs) 1))) noListing)
 
   mesh-own : faceSetMesh missing bs
       ≡ mesh (frameBy (entries (listBytes bs (headerOf bs) 0)) (listedShared missing (headerOf bs .convex) (headerOf bs)) (settingsOf bs .crease))

@@ -14,7 +14,7 @@ use Rattle.lists.specs.Parts.{spliced}
 use Rattle.lists.proofs.Splices.{put-gives}
 use Rattle.mesh.specs.declared.texture.Fit.{Fit}
 use Rattle.mesh.specs.Texture.{fitOf, defaultAt}
-use Rattle.mesh.specs.Sizes.{listedPoints}
+use Rattle.mesh.specs.FaceSet.{pointCount}
 use Rattle.tables.specs.declared.layout.Plan.{Plan}
 use Rattle.tables.specs.Layout.{Room}
 use Rattle.tables.specs.Soups.{pointIn, placeIn, ownerIn, pointsIn}
@@ -27,13 +27,13 @@ use Rattle.facesetshape.specs.Shape.{faceSetTexture, Placed}
 
 module _ (bs : List ℕ) (h : Header) {t : Plan} {list : List ℕ} (a : list ≡ listBytes bs h 0) where
   -- what the copy of the points asks
-  pub points-asked : {len : ℕ} → Room len t → t .spots ≡ listedPoints h → 3 * listedPoints h ≤ length (listBytes bs h 0) / 4
+  pub points-asked : {len : ℕ} → Room len t → t .spots ≡ pointCount h → 3 * pointCount h ≤ length (listBytes bs h 0) / 4
       → (3 * t .spots ≤ length list / 4) × (t .points + 3 * t .spots ≤ len)
   points-asked R e n = (rw a (omega (arith, e, n)), omega (arith, R))
 
   -- and what it leaves
-  pub points-copied : (w : List ℕ) {w₁ : List ℕ} → Room (length w) t → t .spots ≡ listedPoints h → 3 * listedPoints h ≤ length (listBytes bs h 0) / 4
-      → take (3 * listedPoints h) (entries (listBytes bs h 0)) ≡ entries (listBytes bs h 0)
+  pub points-copied : (w : List ℕ) {w₁ : List ℕ} → Room (length w) t → t .spots ≡ pointCount h → 3 * pointCount h ≤ length (listBytes bs h 0) / 4
+      → take (3 * pointCount h) (entries (listBytes bs h 0)) ≡ entries (listBytes bs h 0)
       → w₁ ≡ spliced w (t .points) (take (3 * t .spots) (entries list)) → (length w₁ ≡ length w) × (pointsIn w₁ t ≡ entries (listBytes bs h 0))
   unfolding pointsIn
   points-copied w R e n p C =
@@ -41,7 +41,7 @@ module _ (bs : List ℕ) (h : Header) {t : Plan} {list : List ℕ} (a : list ≡
       (G .0 .len, G .1 ∙ (λ i. take (3 * e i) (entries (a i))) ∙ p)
 
 -- FORMAT 7.4: tables that list faces over these points, with room above the owners, are what the textures ask
-pub textures-asked : {bs : List ℕ} {h : Header} {t : Plan} {w : List ℕ} {ls : List Listing} → t .spots ≡ listedPoints h → pointsIn w t ≡ entries (listBytes bs h 0) → Listed w t ls
+pub textures-asked : {bs : List ℕ} {h : Header} {t : Plan} {w : List ℕ} {ls : List Listing} → t .spots ≡ pointCount h → pointsIn w t ≡ entries (listBytes bs h 0) → Listed w t ls
     → t .owners + t .count + 2 * t .count ≤ length w → Placed bs h t w
 unfolding pointIn
 textures-asked {bs} {h} {t} {w} {ls} s p L r =
@@ -51,8 +51,8 @@ textures-asked {bs} {h} {t} {w} {ls} s p L r =
       points = p;
       fitted = record {
         few = R .few;
-        first = axes-below (entries (listBytes bs h 0)) (listedPoints h) .0;
-        second = axes-below (entries (listBytes bs h 0)) (listedPoints h) .1;
+        first = axes-below (entries (listBytes bs h 0)) (pointCount h) .0;
+        second = axes-below (entries (listBytes bs h 0)) (pointCount h) .1;
         pointsBelow = omega arith;
         cornersBelow = omega arith;
         placesBelow = omega arith;
@@ -63,7 +63,7 @@ textures-asked {bs} {h} {t} {w} {ls} s p L r =
 
 -- the fit, as the code has it, is that of the points
 module _ {bs : List ℕ} {h : Header} {t : Plan} {w : List ℕ} {fit : Fit} (P : Placed bs h t w) (e : fit ≡ fitOf (pointsIn w t) (t .spots)) where
-  fit-by : fit ≡ fitOf (entries (listBytes bs h 0)) (listedPoints h)
+  fit-by : fit ≡ fitOf (entries (listBytes bs h 0)) (pointCount h)
   fit-by = e ∙ (λ i. fitOf (P .points i) (P .spots i))
 
   pub fitted-by : Fitted w fit (t .points) (t .spots) (t .corners) (t .places) (t .owners + t .count) (t .count)

@@ -4,7 +4,7 @@ ghost use Prim.Native.Nat.{_+_, _*_, _/_, _≤_};
 ghost use lib.ListN.{length, take};
 ghost use Rattle.bits.specs.Bits.{entries};
 ghost use Rattle.block.specs.Lists.{listBytes};
-ghost use Rattle.mesh.specs.Sizes.{listedPoints};
+ghost use Rattle.mesh.specs.FaceSet.{pointCount};
 ghost use Rattle.mesh.specs.Texture.{fitOf};
 ghost use Rattle.tables.specs.Soups.{pointsIn};
 ghost use Rattle.faceset.specs.Passing.{Planned};
@@ -33,8 +33,8 @@ pub fn put_tables<'a>(
     work: &mut [u32],
     floats: &mut [f32],
 )
-    requires { ⌜ (now coord ≡ listBytes (now block) h 1) × Planned (listedPoints h) (now coord) (length (now work)) t
-        × (3 * listedPoints h ≤ length (listBytes (now block) h 0) / 4) × (take (3 * listedPoints h) (entries (listBytes (now block) h 0)) ≡ entries (listBytes (now block) h 0))
+    requires { ⌜ (now coord ≡ listBytes (now block) h 1) × Planned (pointCount h) (now coord) (length (now work)) t
+        × (3 * pointCount h ≤ length (listBytes (now block) h 0) / 4) × (take (3 * pointCount h) (entries (listBytes (now block) h 0)) ≡ entries (listBytes (now block) h 0))
         × (3 * t .count + 6 * t .faces ≤ length (now floats)) ⌝ }
     ensures { λ _. ⌜ Tabled (entries (listBytes (now (block .entry)) h 0)) (faceSetListings (now (block .entry)) h) shared (s .crease) t (now (work .entry)) (now (work .exit)) (now (floats .entry)) (now (floats .exit)) ⌝ }
 {

@@ -55,7 +55,7 @@ module _ (w w′ : Words4) (R : Rest) (absent : R .head .colors ≡ false) where
   faces-unread : (coord : List ℕ) → facesOf w R coord ≡ facesOf w′ R coord
   unfolding facesOf faceOf cornerOf
   faces-unread coord =
-      λ i. mapN (λ (num : ℕ) (r : Run). cond (kept (pointCount R) (r .items)) (mapN (λ (k e : ℕ). corner-unread coord num k e (defaultAt (R .points) (fitOf (R .points) (pointCount R)) e) i) (r .start) (r .items)) []) 0 (runs (entries coord))
+      λ i. mapN (λ (num : ℕ) (r : Run). cond (kept (pointCount (R .head)) (r .items)) (mapN (λ (k e : ℕ). corner-unread coord num k e (defaultAt (R .points) (fitOf (R .points) (pointCount (R .head))) e) i) (r .start) (r .items)) []) 0 (runs (entries coord))
 
   quads-unread : gridFaces w R ≡ gridFaces w′ R
   unfolding gridFaces gridFace gridCorner
@@ -65,7 +65,7 @@ module _ (w w′ : Words4) (R : Rest) (absent : R .head .colors ≡ false) where
   items-unread : (coord : List ℕ) (num : ℕ) (r : Run) → itemsOf w R coord num r ≡ itemsOf w′ R coord num r
   unfolding itemsOf itemOf
   items-unread coord num r =
-      λ i. mapN (λ (k e : ℕ). let key : Key = record { point = e; normal = no3; colour = colour-unread coord num k i; texture = no2 } in cond (ltb e (pointCount R)) (some key) none) (r .start) (r .items)
+      λ i. mapN (λ (k e : ℕ). let key : Key = record { point = e; normal = no3; colour = colour-unread coord num k i; texture = no2 } in cond (ltb e (pointCount (R .head))) (some key) none) (r .start) (r .items)
 
   vertices-unread : (coord : List ℕ) → lineVertices w R coord ≡ lineVertices w′ R coord
   unfolding lineVertices lineKeys

@@ -79,9 +79,9 @@ module _ {missing : Words4} {bs : List ℕ} {L : Lent} {a : Attributes} {widths 
       (value4At (listBytes bs H 2) (H .alpha) (stream.numberAt (take (stream.indexBytes k (placeOf H 3 .len)) (drop (placeOf H 3 .at) bs)) (L .coord) (H .«color_per_vertex») place num) missing) no4)
       (A .kind)
 
-  module _ {t : CornerTables} {w₀ w : List ℕ} (E : Listed (pointCount (restOf bs)) (entries (L .coord)) t w₀ w) (c : ℕ) (h : c < t .count) where
+  module _ {t : CornerTables} {w₀ w : List ℕ} (E : Listed (pointCount (restOf bs .head)) (entries (L .coord)) t w₀ w) (c : ℕ) (h : c < t .count) where
     u : LineUse
-    u = getD (lineUses (pointCount (restOf bs)) (entries (L .coord))) c noUse
+    u = getD (lineUses (pointCount (restOf bs .head)) (entries (L .coord))) c noUse
 
     colour-is : four (seg (wordsAt L a w t c) 3 (widths .colour)) ≡ colourOf missing (restOf bs) (L .coord) (u .number) (u .place)
     unfolding u wordsAt colourAt
@@ -90,7 +90,7 @@ module _ {missing : Words4} {bs : List ℕ} {L : Lent} {a : Attributes} {widths 
         ∙ colour-read (placeAt w t c) (numberAt w t c)
         ∙ (λ i. colourOf missing (restOf bs) (L .coord) (E .numbers c h i) (E .places c h i))
 
-    key-is : keyIn L a widths w t c ≡ keyFor missing (restOf bs) (L .coord) (getD (lineUses (pointCount (restOf bs)) (entries (L .coord))) c noUse)
+    key-is : keyIn L a widths w t c ≡ keyFor missing (restOf bs) (L .coord) (getD (lineUses (pointCount (restOf bs .head)) (entries (L .coord))) c noUse)
     unfolding u keyIn cornerKey
     key-is = λ i.
         record {
@@ -101,12 +101,12 @@ module _ {missing : Words4} {bs : List ℕ} {L : Lent} {a : Attributes} {widths 
         }
 
   -- what `list_entries` leaves, from words that hold the points of the block
-  pub told-listed : {t : CornerTables} {w₀ w : List ℕ} (p : ℕ) → Listed p (entries (L .coord)) t w₀ w → pointCount (restOf bs) ≡ p
+  pub told-listed : {t : CornerTables} {w₀ w : List ℕ} (p : ℕ) → Listed p (entries (L .coord)) t w₀ w → pointCount (restOf bs .head) ≡ p
       → t .count ≡ sumOver (named p) (runs (entries (L .coord))) → Laid t (length w₀) → t .points + 3 * t .spots ≤ t .corners → pointsIn (chainsOf t) w₀ ≡ restOf bs .points
       → Told missing (restOf bs) L a widths w t p
   unfolding pointsIn
   told-listed {t} {w₀} {w} p E q n Q order held =
-      let P = pointCount (restOf bs) in
+      let P = pointCount (restOf bs .head) in
       let es = entries (L .coord) in
       let U = lineUses P es in
       let F = keyFor missing (restOf bs) (L .coord) in

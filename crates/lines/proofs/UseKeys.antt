@@ -23,26 +23,26 @@ module _ (missing : Words4) (R : Rest) (coord : List ℕ) where
   abbrev pub keyFor : LineUse → Key
   keyFor u = record { point = u .point; normal = no3; colour = colourOf missing R coord (u .number) (u .place); texture = no2 }
 
-  keys-run : (num k : ℕ) (es : List ℕ) → somes (mapN (itemOf missing R coord num) k es) ≡ map keyFor (somes (mapN (useOf (pointCount R) num) k es))
+  keys-run : (num k : ℕ) (es : List ℕ) → somes (mapN (itemOf missing R coord num) k es) ≡ map keyFor (somes (mapN (useOf (pointCount (R .head)) num) k es))
   unfolding somes mapN itemOf useOf
   keys-run num k [] = refl
-  keys-run num k (e ∷ es) = go (ltb e (pointCount R)) (record { point = e; place = k; number = num }) _ _ (keys-run num (suc k) es)
+  keys-run num k (e ∷ es) = go (ltb e (pointCount (R .head))) (record { point = e; place = k; number = num }) _ _ (keys-run num (suc k) es)
     where
       go : (b : Bool) (u : LineUse) (l : List Key) (r : List LineUse) → l ≡ map keyFor r
           → these (cond b (some (keyFor u)) none) ++ l ≡ map keyFor (these (cond b (some u) none) ++ r)
       go true u l r h = ap (λ (q : List Key). keyFor u ∷ q) h
       go false u l r h = h
 
-  keys-from : (num : ℕ) (rs : List Run) → joinN (lineKeys missing R coord) num rs ≡ map keyFor (joinN (runUses (pointCount R)) num rs)
+  keys-from : (num : ℕ) (rs : List Run) → joinN (lineKeys missing R coord) num rs ≡ map keyFor (joinN (runUses (pointCount (R .head))) num rs)
   unfolding joinN lineKeys itemsOf runUses
   keys-from num [] = refl
   keys-from num (r ∷ rs) =
       (λ i. keys-run num (r .start) (r .items) i ++ keys-from (suc num) rs i)
-      ∙ sym (map-append keyFor (runUses (pointCount R) num r) (joinN (runUses (pointCount R)) (suc num) rs))
+      ∙ sym (map-append keyFor (runUses (pointCount (R .head)) num r) (joinN (runUses (pointCount (R .head))) (suc num) rs))
 
-  pub keys-uses : joinN (lineKeys missing R coord) 0 (runs (entries coord)) ≡ map keyFor (lineUses (pointCount R) (entries coord))
+  pub keys-uses : joinN (lineKeys missing R coord) 0 (runs (entries coord)) ≡ map keyFor (lineUses (pointCount (R .head)) (entries coord))
   unfolding lineUses
   keys-uses = keys-from 0 (runs (entries coord))
 
-  pub keys-count : length (joinN (lineKeys missing R coord) 0 (runs (entries coord))) ≡ sumOver (named (pointCount R)) (runs (entries coord))
-  keys-count = ap length keys-uses ∙ length-map (lineUses (pointCount R) (entries coord)) keyFor ∙ length-uses (pointCount R) (entries coord)
+  pub keys-count : length (joinN (lineKeys missing R coord) 0 (runs (entries coord))) ≡ sumOver (named (pointCount (R .head))) (runs (entries coord))
+  keys-count = ap length keys-uses ∙ length-map (lineUses (pointCount (R .head)) (entries coord)) keyFor ∙ length-uses (pointCount (R .head)) (entries coord)

@@ -29,7 +29,7 @@ use Rattle.lent.specs.declared.Counts.{Counts}
 pub record Told (missing : Words4) (R : Rest) (L : Lent) (a : Attributes) (widths : Widths) (w : List ℕ) (t : CornerTables) (p : ℕ) : Type 0 where
   pub keys : tab (keyIn L a widths w t) (t .count) 0 ≡ joinN (lineKeys missing R (L .coord)) 0 (runs (entries (L .coord)))
   pub points : pointsIn (chainsOf t) w ≡ R .points
-  pub count : pointCount R ≡ p
+  pub count : pointCount (R .head) ≡ p
 
 -- the words hold a line set; no normals and no texture are made; there is room in the slices s and x for a vertex for each corner, and in o for the lines
 pub record Ready (L : Lent) (a : Attributes) (widths : Widths) (w : List ℕ) (t : CornerTables) (p : ℕ) (s : Store) (x o : List ℕ) : Type 0 where

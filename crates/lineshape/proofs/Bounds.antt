@@ -11,8 +11,8 @@ use Rattle.block.specs.Lists.{listBytes}
 use Rattle.block.specs.Runs.{runs, sumOver}
 use Rattle.block.proofs.ListLaws.{widths-of}
 use Rattle.mesh.specs.Mesh.{Slices}
-use Rattle.mesh.specs.FaceSet.{coordIn}
-use Rattle.mesh.specs.Sizes.{Sizes, listedPoints, named, linesAfter, lineSetSizes, sizesOf}
+use Rattle.mesh.specs.FaceSet.{coordIn, pointCount}
+use Rattle.mesh.specs.Sizes.{Sizes, named, linesAfter, lineSetSizes, sizesOf}
 use Rattle.tables.specs.Layout.{most}
 use Rattle.corners.specs.declared.laid.CornerTables.{CornerTables}
 use Rattle.corners.specs.Laid.{Laid}
@@ -33,26 +33,26 @@ module _ {bs : List ℕ} {h : Header} {o : Slices} {w f : ℕ} (A : Asked LineSe
   unfolding sizesOf
   sizes-are = rw (A .kind) refl
 
-  pub points-low : listedPoints h ≤ most
+  pub points-low : pointCount h ≤ most
   unfolding lineSetSizes
   points-low = low-by A sizes-are .0
 
   module _ {list : List ℕ} (l : list ≡ listBytes bs h 0) where
-    pub points-there : 3 * listedPoints h ≤ length list / 4
+    pub points-there : 3 * pointCount h ≤ length list / 4
     points-there = rw l (points-in (A .accepted) (widths-of h (A .kind)))
 
-    pub points-whole : take (3 * listedPoints h) (entries list) ≡ entries list
+    pub points-whole : take (3 * pointCount h) (entries list) ≡ entries list
     points-whole = rw l (points-all (A .accepted) (widths-of h (A .kind)))
 
   module _ {coord : List ℕ} (c : coord ≡ listBytes bs h 1) where
-    sizes-by : sizesOf bs h ≡ sizesBy (listedPoints h) (entries coord)
+    sizes-by : sizesOf bs h ≡ sizesBy (pointCount h) (entries coord)
     unfolding lineSetSizes
-    sizes-by = sizes-are ∙ ap (λ (l : List ℕ). sizesBy (listedPoints h) (entries l)) (sym c)
+    sizes-by = sizes-are ∙ ap (λ (l : List ℕ). sizesBy (pointCount h) (entries l)) (sym c)
 
-    pub enough : Enough (sizesBy (listedPoints h) (entries coord)) o w f
+    pub enough : Enough (sizesBy (pointCount h) (entries coord)) o w f
     enough = enough-by A sizes-by
 
-    pub corners-low : sumOver (named (listedPoints h)) (runs (entries coord)) ≤ most
+    pub corners-low : sumOver (named (pointCount h)) (runs (entries coord)) ≤ most
     corners-low = low-by A sizes-by .1
 
     -- the corners as they were counted
@@ -60,12 +60,12 @@ module _ {bs : List ℕ} {h : Header} {o : Slices} {w f : ℕ} (A : Asked LineSe
       pub count-low : count ≤ most
       count-low = rw (e ∙ ap (λ (z : Sizes). z .corners) sizes-by) corners-low
 
-      pub tables-are : {t : CornerTables} → t ≡ tablesFor (listedPoints h) count → t ≡ lineTables (listedPoints h) (entries coord)
+      pub tables-are : {t : CornerTables} → t ≡ tablesFor (pointCount h) count → t ≡ lineTables (pointCount h) (entries coord)
       unfolding lineTables
-      tables-are q = q ∙ ap (tablesFor (listedPoints h)) (e ∙ ap (λ (z : Sizes). z .corners) sizes-by)
+      tables-are q = q ∙ ap (tablesFor (pointCount h)) (e ∙ ap (λ (z : Sizes). z .corners) sizes-by)
 
-    pub laid-at : {t : CornerTables} → t ≡ lineTables (listedPoints h) (entries coord) → Laid t w
-    laid-at e = subst (λ (t : CornerTables). Laid t w) (sym e) (tables-laid (listedPoints h) (entries coord) points-low corners-low w (enough .words))
+    pub laid-at : {t : CornerTables} → t ≡ lineTables (pointCount h) (entries coord) → Laid t w
+    laid-at e = subst (λ (t : CornerTables). Laid t w) (sym e) (tables-laid (pointCount h) (entries coord) points-low corners-low w (enough .words))
 
     pub entries-short : length coord / 4 ≤ 2 ^ 32
     unfolding coordIn

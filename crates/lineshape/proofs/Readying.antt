@@ -17,7 +17,6 @@ use Rattle.block.specs.Lists.{listBytes}
 use Rattle.mesh.specs.Mesh.{Slices, slicesOf, over}
 use Rattle.mesh.specs.FaceSet.{restOf, coordIn, pointCount}
 use Rattle.mesh.specs.Lines.{linesOf, lineSetMesh}
-use Rattle.mesh.specs.Sizes.{listedPoints}
 use Rattle.mesh.specs.Result.{makesNormals, makesColours, makesTextures, madeOf}
 use Rattle.vertices.specs.declared.places.Widths.{Widths}
 use Rattle.vertices.specs.Places.{Store, Roomy}
@@ -49,8 +48,8 @@ storeOf o = record { sources = o .sources; normals = o .normals; colours = o .co
 
 -- the words w lent, then w₁ with the tables; the floats d; the lists, tables, attributes and widths as the code has them
 module _ (missing : Words4) (d : List Float) {bs : List ℕ} {h : Header} {o : Slices} {w w₁ : List ℕ} (A : Asked LineSet bs h (settingsOf bs) o (length w) (length d))
-    {list coord : List ℕ} (l : list ≡ listBytes bs h 0) (c : coord ≡ listBytes bs h 1) {t : CornerTables} (e : t ≡ lineTables (listedPoints h) (entries coord))
-    (T : Tabled (listedPoints h) (entries list) (entries coord) t w w₁) {a : Attributes} (q : a ≡ attributesOf missing h) {widths : Widths} (v : widths ≡ lineWidths h) where
+    {list coord : List ℕ} (l : list ≡ listBytes bs h 0) (c : coord ≡ listBytes bs h 1) {t : CornerTables} (e : t ≡ lineTables (pointCount h) (entries coord))
+    (T : Tabled (pointCount h) (entries list) (entries coord) t w w₁) {a : Attributes} (q : a ≡ attributesOf missing h) {widths : Widths} (v : widths ≡ lineWidths h) where
   read : Lent
   read = record { block = bs; coord = coord; floats = d }
 
@@ -77,20 +76,20 @@ module _ (missing : Words4) (d : List Float) {bs : List ℕ} {h : Header} {o : S
         colour = ap (λ (x : Widths). x .colour) (v ∙ ap lineWidths head);
       }
 
-  count-is : pointCount (restOf bs) ≡ listedPoints h
+  count-is : pointCount (restOf bs .head) ≡ pointCount h
   unfolding restOf
   count-is = ap (λ (g : Header). getD (g .counts) 0 0) (sym head)
 
-  points-are : take (3 * listedPoints h) (entries list) ≡ restOf bs .points
+  points-are : take (3 * pointCount h) (entries list) ≡ restOf bs .points
   unfolding restOf
   points-are = points-whole A l ∙ ap entries l ∙ ap (λ (g : Header). entries (listBytes bs g 0)) head
 
-  told : Told missing (restOf bs) read a widths w₁ t (listedPoints h)
+  told : Told missing (restOf bs) read a widths w₁ t (pointCount h)
   unfolding read
   told =
-      let S = stand (listedPoints h) (entries coord) e in
-      told-listed coloured (listedPoints h) (T .listed) count-is (S .3) (subst (Laid t) (sym (T .len)) (laid-at A c e))
-      (points-before (listedPoints h) (entries coord) e) (T .points ∙ points-are)
+      let S = stand (pointCount h) (entries coord) e in
+      told-listed coloured (pointCount h) (T .listed) count-is (S .3) (subst (Laid t) (sym (T .len)) (laid-at A c e))
+      (points-before (pointCount h) (entries coord) e) (T .points ∙ points-are)
 
   len : length w₁ ≡ length w
   len = T .listed .kept .len ∙ T .len
@@ -99,7 +98,7 @@ module _ (missing : Words4) (d : List Float) {bs : List ℕ} {h : Header} {o : S
   unfolding lineWidths
   roomy =
       let N = enough A c in
-      let n = stand (listedPoints h) (entries coord) e .3 in
+      let n = stand (pointCount h) (entries coord) e .3 in
       subst (λ (x : Widths). Roomy x (storeOf o) (t .count)) (sym v)
       (record {
         widths = (omega arith, wide-most (h .colors) 4, omega arith);
@@ -110,11 +109,11 @@ module _ (missing : Words4) (d : List Float) {bs : List ℕ} {h : Header} {o : S
         textures = omega arith;
       })
 
-  pub ready : Ready (record { block = bs; coord = coord; floats = d }) a widths w₁ t (listedPoints h) (storeOf o) (o .positions) (o .indices)
+  pub ready : Ready (record { block = bs; coord = coord; floats = d }) a widths w₁ t (pointCount h) (storeOf o) (o .positions) (o .indices)
   unfolding read lineWidths
   ready =
       let N = enough A c in
-      let n = stand (listedPoints h) (entries coord) e .3 in
+      let n = stand (pointCount h) (entries coord) e .3 in
       record {
         corners = record {
           laid = subst (Laid t) (sym len) (laid-at A c e);
@@ -134,7 +133,7 @@ module _ (missing : Words4) (d : List Float) {bs : List ℕ} {h : Header} {o : S
 
   -- FORMAT 5, 8.2: the slices then hold the line set's mesh
   pub shaped : {m : Slices} {w₂ : List ℕ} {d₂ : List Float} {r : Counts}
-      → Done (record { block = bs; coord = coord; floats = d }) a widths w₁ t (listedPoints h) (storeOf o) (o .positions) (o .indices) (storeOf m) (m .positions) (m .indices) w₂ d₂ r
+      → Done (record { block = bs; coord = coord; floats = d }) a widths w₁ t (pointCount h) (storeOf o) (o .positions) (o .indices) (storeOf m) (m .positions) (m .indices) w₂ d₂ r
       → Shaped h (lineSetMesh missing bs) o m r × Cleared w w₂ d d₂
   unfolding read lineSetMesh madeOf slicesOf lineWidths
   shaped {m} {w₂} {d₂} {r} D =

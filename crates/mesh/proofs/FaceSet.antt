@@ -71,14 +71,14 @@ module _ {x y : List ℕ} {k : ℕ} (alike : Alike x y k) where
         given = cond (H .normals) (value3At (R .normals) (normal t) no3) no3;
         colour = cond (H .colors) (value4At (R .colours) (H .alpha) (colour t) missing) no4;
         texture = cond (H .«texture_points») (uv (value2At (R .textures) (texture t) no2))
-            (cond (H .«need_uvs») (uv (defaultAt (R .points) (fitOf (R .points) (pointCount R)) e)) no2);
+            (cond (H .«need_uvs») (uv (defaultAt (R .points) (fitOf (R .points) (pointCount (R .head))) e)) no2);
       }
 
 face-same : (missing : Words4) (R : Rest) (x y : List ℕ) (num : ℕ) (r : Run) → ((k : ℕ) → k < length (r .items) → Alike x y (r .start + k))
     → faceOf missing R x num r ≡ faceOf missing R y num r
 unfolding faceOf
 face-same missing R x y num r alike =
-    ap (λ (f : Face). cond (kept (pointCount R) (r .items)) f [])
+    ap (λ (f : Face). cond (kept (pointCount (R .head)) (r .items)) f [])
     (mapN-same (cornerOf missing R x num) (cornerOf missing R y num) (r .start) (r .items) (λ k l e. corner-same (alike k l) missing R num e))
 
 -- ---- the faces, by their numbers
@@ -97,29 +97,29 @@ module _ (missing : Words4) (R : Rest) (x : List ℕ) where
   face-past j b = List·getD-eq-default (facesOf missing R x) [] {n = j} (omega (arith, length-faces))
 
   -- a face has the corners of its run, and three indices for each of its triangles
-  length-is : (num : ℕ) (r : Run) → length (faceOf missing R x num r) ≡ corners (pointCount R) (r .items)
+  length-is : (num : ℕ) (r : Run) → length (faceOf missing R x num r) ≡ corners (pointCount (R .head)) (r .items)
   unfolding faceOf corners
-  length-is num r = go (kept (pointCount R) (r .items))
+  length-is num r = go (kept (pointCount (R .head)) (r .items))
     where
       go : (b : Bool) → length (cond b (mapN (cornerOf missing R x num) (r .start) (r .items)) []) ≡ cond b (length (r .items)) 0
       go true = length-mapN (cornerOf missing R x num) (r .start) (r .items)
       go false = refl
 
-  pub width-is : (num : ℕ) (r : Run) → width (faceOf missing R x num r) ≡ 3 * triangles (pointCount R) (r .items)
+  pub width-is : (num : ℕ) (r : Run) → width (faceOf missing R x num r) ≡ 3 * triangles (pointCount (R .head)) (r .items)
   unfolding width corners triangles
-  width-is num r = ap (λ (n : ℕ). 3 * (n - 2)) (length-is num r) ∙ go (kept (pointCount R) (r .items))
+  width-is num r = ap (λ (n : ℕ). 3 * (n - 2)) (length-is num r) ∙ go (kept (pointCount (R .head)) (r .items))
     where
       go : (b : Bool) → 3 * (cond b (length (r .items)) 0 - 2) ≡ 3 * cond b (length (r .items) - 2) 0
       go true = refl
       go false = refl
 
   -- FORMAT 4: so for all runs
-  pub lengths-are : (n : ℕ) (rs : List Run) → total length (mapN (faceOf missing R x) n rs) ≡ sumOver (corners (pointCount R)) rs
+  pub lengths-are : (n : ℕ) (rs : List Run) → total length (mapN (faceOf missing R x) n rs) ≡ sumOver (corners (pointCount (R .head))) rs
   unfolding total sumOver mapN
   lengths-are n [] = refl
   lengths-are n (r ∷ rs) = λ i. length-is n r i + lengths-are (suc n) rs i
 
-  pub widths-are : (n : ℕ) (rs : List Run) → total width (mapN (faceOf missing R x) n rs) ≡ 3 * sumOver (triangles (pointCount R)) rs
+  pub widths-are : (n : ℕ) (rs : List Run) → total width (mapN (faceOf missing R x) n rs) ≡ 3 * sumOver (triangles (pointCount (R .head))) rs
   unfolding total sumOver mapN
   widths-are n [] = refl
   widths-are n (r ∷ rs) = let e = width-is n r in let f = widths-are (suc n) rs in omega arith
@@ -141,7 +141,7 @@ module _ (missing : Words4) (R : Rest) (x : List ℕ) where
 
   pub named-face : (num : ℕ) (r : Run) → All (λ (c : Corner). names (r .items) (c .gather) ≡ true) (faceOf missing R x num r)
   unfolding faceOf
-  named-face num r = go (kept (pointCount R) (r .items))
+  named-face num r = go (kept (pointCount (R .head)) (r .items))
     where
       go : (b : Bool) → All (λ (c : Corner). names (r .items) (c .gather) ≡ true) (cond b (mapN (cornerOf missing R x num) (r .start) (r .items)) [])
       go true = named-corners num (r .start) (r .items)
@@ -149,7 +149,7 @@ module _ (missing : Words4) (R : Rest) (x : List ℕ) where
 
   pub unnamed-face : (num : ℕ) (r : Run) (p : ℕ) → names (r .items) p ≡ false → gathers (faceOf missing R x num r) p ≡ false
   unfolding faceOf
-  unnamed-face num r p h = go (kept (pointCount R) (r .items))
+  unnamed-face num r p h = go (kept (pointCount (R .head)) (r .items))
     where
       go : (b : Bool) → gathers (cond b (mapN (cornerOf missing R x num) (r .start) (r .items)) []) p ≡ false
       go true = gathers-corners num (r .start) (r .items) p ∙ h

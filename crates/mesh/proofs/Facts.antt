@@ -18,10 +18,10 @@ use Rattle.mesh.specs.Vertices.{Key, noKey, sameKey, keysOf, vertices, l
 use Rattle.mesh.specs.Mend.{mended}
 use Rattle.mesh.specs.Mesh.{meshOf, mesh, Slices, slicesOf}
 use Rattle.mesh.specs.FaceSet.{Rest, restOf, pointCount, coordIn, runsIn, facesOf, frameOf, faceSetMesh}
+use Rattle.mesh.proofs.FaceSet.{lengths-are, widths-are}
 use Rattle.lists.proofs.Lists.{length-mapN, length-words, All-map, All-of-map, All-joinN, length-joinN, length-firsts, Distinct, firsts-distinct, firsts-append, place-firsts}
 use Rattle.mesh.proofs.Keys.{sameKey-self}
 use Rattle.mesh.proofs.Corners.{length-keys, length-faceIndices, locals-within, number-lt}
-use Rattle.mesh.proofs.FaceSet.{lengths-are, widths-are}
 
 module _ (F : Frame) (fs : List Face) where
   -- FORMAT 4: N
@@ -78,11 +78,11 @@ number-stays k ks more t =
 
 -- FORMAT 4: of the faces of an index list, from its runs alone, in any frame
 module _ (missing : Words4) (R : Rest) (coord : List ℕ) (F : Frame) where
-  pub list-indices : length (mesh F (facesOf missing R coord) .indices) ≡ 3 * sumOver (triangles (pointCount R)) (runs (entries coord))
+  pub list-indices : length (mesh F (facesOf missing R coord) .indices) ≡ 3 * sumOver (triangles (pointCount (R .head))) (runs (entries coord))
   unfolding mesh meshOf facesOf
   list-indices = let fs = facesOf missing R coord in length-indices F fs (vertices F fs) ∙ widths-are missing R coord 0 (runs (entries coord))
 
-  pub list-vertices : length (mesh F (facesOf missing R coord) .sources) ≤ sumOver (corners (pointCount R)) (runs (entries coord))
+  pub list-vertices : length (mesh F (facesOf missing R coord) .sources) ≤ sumOver (corners (pointCount (R .head))) (runs (entries coord))
   unfolding mesh meshOf facesOf
   list-vertices =
       let fs = facesOf missing R coord in
@@ -91,10 +91,10 @@ module _ (missing : Words4) (R : Rest) (coord : List ℕ) (F : Frame) where
 
 -- of a face set
 module _ (missing : Words4) (bs : List ℕ) where
-  pub face-set-indices : length (faceSetMesh missing bs .indices) ≡ 3 * sumOver (triangles (pointCount (restOf bs))) (runsIn bs)
+  pub face-set-indices : length (faceSetMesh missing bs .indices) ≡ 3 * sumOver (triangles (pointCount (restOf bs .head))) (runsIn bs)
   unfolding faceSetMesh runsIn
   face-set-indices = list-indices missing (restOf bs) (coordIn bs) (frameOf (restOf bs))
 
-  pub face-set-vertices : length (faceSetMesh missing bs .sources) ≤ sumOver (corners (pointCount (restOf bs))) (runsIn bs)
+  pub face-set-vertices : length (faceSetMesh missing bs .sources) ≤ sumOver (corners (pointCount (restOf bs .head))) (runsIn bs)
   unfolding faceSetMesh runsIn
   face-set-vertices = list-vertices missing (restOf bs) (coordIn bs) (frameOf (restOf bs))

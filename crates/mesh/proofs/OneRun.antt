@@ -22,13 +22,13 @@ use Rattle.mesh.specs.Soup.{Corner, Face}
 use Rattle.mesh.specs.Vertices.{Key, vertices, faceIndices, indicesOf, width}
 use Rattle.mesh.specs.Mesh.{Slices, meshOf, mesh, slicesOf, shownAt, normalAt, partOf}
 use Rattle.mesh.specs.FaceSet.{Rest, restOf, pointCount, coordIn, runsIn, faceOf, facesOf, frameOf, faceSetMesh}
+use Rattle.mesh.proofs.FaceSet.{length-faces, face-at, width-is, widths-are, named-face, unnamed-face, faces-but}
 use Rattle.mesh.specs.OneRun.{runIn, OneRun, runPart, names, creaseAngle, NormalsApart, own, apart, supplied, SameTriangles, Parts, OthersStay}
 use Rattle.lists.proofs.Lists.{All-map, take-mapN, joinN-same}
 use Rattle.mesh.proofs.Runs.{noRun, one-run-of}
 use Rattle.mesh.proofs.Corners.{part-is, length-faceIndices}
 use Rattle.mesh.proofs.Facts.{indices-within}
 use Rattle.mesh.proofs.OneFace.{gathers, NormalsHold, generatedOwn, generatedApart, suppliedUsable, one-face, one-face-normals}
-use Rattle.mesh.proofs.FaceSet.{length-faces, face-at, width-is, widths-are, named-face, unnamed-face, faces-but}
 use Rattle.mesh.proofs.Bytes.{coords, rest-same}
 
 -- ---- a run that names a point beyond the list is skipped
@@ -64,7 +64,7 @@ module _ (missing : Words4) (bs : List ℕ) where
   part-of-run j b =
       let R = restOf bs in
       let x = coordIn bs in
-      let w : 3 * triangles (pointCount R) (runIn bs j .items) ≡ width (getD faces j []) =
+      let w : 3 * triangles (pointCount (R .head)) (runIn bs j .items) ≡ width (getD faces j []) =
       sym (ap width (face-in j b) ∙ width-is missing R x j (runIn bs j)) in
       let t = sym (ap (total width) (take-mapN (faceOf missing R x) 0 j (runsIn bs)) ∙ widths-are missing R x 0 (take j (runsIn bs))) in
       λ i. take (w i) (drop (t i) (faceSetMesh missing bs .indices))
@@ -83,7 +83,7 @@ module _ (missing : Words4) (bs : List ℕ) where
       ∙ ap (λ (k : ℕ). faceIndices F faces vs k (getD faces j [])) (sym (zero-add j)))
 
   -- three indices for each of its triangles; none for a run that is skipped, as one that names a point beyond the list
-  pub part-length : (j : ℕ) → j < length (runsIn bs) → length (runPart bs is j) ≡ 3 * triangles (pointCount (restOf bs)) (runIn bs j .items)
+  pub part-length : (j : ℕ) → j < length (runsIn bs) → length (runPart bs is j) ≡ 3 * triangles (pointCount (restOf bs .head)) (runIn bs j .items)
   unfolding faceSetMesh mesh meshOf faces runsIn
   part-length j b =
       let F = frameOf (restOf bs) in
@@ -92,16 +92,16 @@ module _ (missing : Words4) (bs : List ℕ) where
       ∙ length-faceIndices F faces vs j (getD faces j [])
       ∙ ap width (face-in j b) ∙ width-is missing (restOf bs) (coordIn bs) j (runIn bs j)
 
-  pub part-skipped : (j : ℕ) → kept (pointCount (restOf bs)) (runIn bs j .items) ≡ false → runPart bs is j ≡ []
+  pub part-skipped : (j : ℕ) → kept (pointCount (restOf bs .head)) (runIn bs j .items) ≡ false → runPart bs is j ≡ []
   unfolding runPart triangles
   part-skipped j e =
-      ap (λ (b : Bool). take (3 * cond b (length (runIn bs j .items) - 2) 0) (drop (3 * sumOver (triangles (pointCount (restOf bs))) (take j (runsIn bs))) is)) e
+      ap (λ (b : Bool). take (3 * cond b (length (runIn bs j .items) - 2) 0) (drop (3 * sumOver (triangles (pointCount (restOf bs .head))) (take j (runsIn bs))) is)) e
 
   pub parts : Parts bs is
   parts = record {
     whole = parts-whole;
     long = part-length;
-    beyond = λ j p h l. part-skipped j (names-skipped (pointCount (restOf bs)) (runIn bs j .items) p h l);
+    beyond = λ j p h l. part-skipped j (names-skipped (pointCount (restOf bs .head)) (runIn bs j .items) p h l);
   }
 
   -- FORMAT 11: every index names a vertex

@@ -46,24 +46,24 @@ module _ (p : ℕ) (low : p ≤ 2 ^ 32) (g : Topology) where
       (All-of-map (λ (x : List ℕ). All IsWord x) (stretchRuns p g) (stretches g ws) (All-of (λ (r : Run). stretch-words r) (stretches g ws)))
 
 -- FORMAT 6.4: so its bytes are those of its entries
-pub listed-entries : (g : Topology) (bs : List ℕ) → entries (listedCoord g bs) ≡ faceList (pointCount (restOf bs)) g (entries (coordIn bs))
+pub listed-entries : (g : Topology) (bs : List ℕ) → entries (listedCoord g bs) ≡ faceList (pointCount (restOf bs .head)) g (entries (coordIn bs))
 unfolding listedCoord restOf
 listed-entries g bs =
-    let p = pointCount (restOf bs) in
+    let p = pointCount (restOf bs .head) in
     let l : p ≤ 2 ^ 32 = omega (arith, count-narrow bs 0) in
     let ws = faceList p g (entries (coordIn bs)) in
     entries-bytes ws (λ k b. All-getD IsWord ws (list-words p l g (entries (coordIn bs))) 0 k b)
 
 -- ---- FORMAT 4: N, and at most a vertex for each corner
 module _ (missing : Words4) (g : Topology) (bs : List ℕ) where
-  pub primitive-indices : length (primitiveMesh missing g bs .indices) ≡ 3 * sumOver (triangles (pointCount (restOf bs))) (runs (faceList (pointCount (restOf bs)) g (entries (coordIn bs))))
+  pub primitive-indices : length (primitiveMesh missing g bs .indices) ≡ 3 * sumOver (triangles (pointCount (restOf bs .head))) (runs (faceList (pointCount (restOf bs .head)) g (entries (coordIn bs))))
   unfolding primitiveMesh
   primitive-indices =
       list-indices missing (restOf bs) (listedCoord g bs) (convexFrame (restOf bs))
-      ∙ ap (λ (ws : List ℕ). 3 * sumOver (triangles (pointCount (restOf bs))) (runs ws)) (listed-entries g bs)
+      ∙ ap (λ (ws : List ℕ). 3 * sumOver (triangles (pointCount (restOf bs .head))) (runs ws)) (listed-entries g bs)
 
-  pub primitive-vertices : length (primitiveMesh missing g bs .sources) ≤ sumOver (corners (pointCount (restOf bs))) (runs (faceList (pointCount (restOf bs)) g (entries (coordIn bs))))
+  pub primitive-vertices : length (primitiveMesh missing g bs .sources) ≤ sumOver (corners (pointCount (restOf bs .head))) (runs (faceList (pointCount (restOf bs .head)) g (entries (coordIn bs))))
   unfolding primitiveMesh
   primitive-vertices =
-      let e = ap (λ (ws : List ℕ). sumOver (corners (pointCount (restOf bs))) (runs ws)) (listed-entries g bs) in
+      let e = ap (λ (ws : List ℕ). sumOver (corners (pointCount (restOf bs .head))) (runs ws)) (listed-entries g bs) in
       rw (← e) (list-vertices missing (restOf bs) (listedCoord g bs) (convexFrame (restOf bs)))

@@ -56,32 +56,32 @@ one-line false q none os n h = h none
 one-line false q (some k) os n h = h none
 
 module _ (missing : Words4) (R : Rest) (coord : List ℕ) where
-  keys-length : (num k : ℕ) (es : List ℕ) → length (somes (mapN (itemOf missing R coord num) k es)) ≡ named (pointCount R) es
+  keys-length : (num k : ℕ) (es : List ℕ) → length (somes (mapN (itemOf missing R coord num) k es)) ≡ named (pointCount (R .head)) es
   unfolding somes mapN itemOf named
   keys-length num k [] = refl
-  keys-length num k (e ∷ es) = one-key (ltb e (pointCount R)) _ _ _ (keys-length num (suc k) es)
+  keys-length num k (e ∷ es) = one-key (ltb e (pointCount (R .head))) _ _ _ (keys-length num (suc k) es)
 
   ends-length : (num k : ℕ) (prev : Option Key) (es : List ℕ)
-      → length (joined prev (mapN (itemOf missing R coord num) k es)) ≡ 2 * linesAfter (pointCount R) (isSome prev) es
+      → length (joined prev (mapN (itemOf missing R coord num) k es)) ≡ 2 * linesAfter (pointCount (R .head)) (isSome prev) es
   unfolding joined mapN itemOf linesAfter
   ends-length num k prev [] = refl
   ends-length num k prev (e ∷ es) =
-      one-line (ltb e (pointCount R)) _ prev (mapN (itemOf missing R coord num) (suc k) es) (λ b. linesAfter (pointCount R) b es) (λ o. ends-length num (suc k) o es)
+      one-line (ltb e (pointCount (R .head))) _ prev (mapN (itemOf missing R coord num) (suc k) es) (λ b. linesAfter (pointCount (R .head)) b es) (λ o. ends-length num (suc k) o es)
 
-  lines-corners : total length (lineFaces missing R coord) ≡ sumOver (named (pointCount R)) (runs (entries coord))
+  lines-corners : total length (lineFaces missing R coord) ≡ sumOver (named (pointCount (R .head))) (runs (entries coord))
   unfolding lineFaces lineKeys itemsOf
   lines-corners =
-      total-mapN length (λ (r : Run). named (pointCount R) (r .items)) (λ num r. map cornerFor (lineKeys missing R coord num r))
+      total-mapN length (λ (r : Run). named (pointCount (R .head)) (r .items)) (λ num r. map cornerFor (lineKeys missing R coord num r))
       (λ num r. length-map (lineKeys missing R coord num r) cornerFor ∙ keys-length num (r .start) (r .items)) 0 (runs (entries coord))
-      ∙ sum-total (named (pointCount R)) (runs (entries coord))
+      ∙ sum-total (named (pointCount (R .head))) (runs (entries coord))
 
-  lines-indices : (vs : List Key) → length (lineIndices missing R coord vs) ≡ 2 * sumOver (linesAfter (pointCount R) false) (runs (entries coord))
+  lines-indices : (vs : List Key) → length (lineIndices missing R coord vs) ≡ 2 * sumOver (linesAfter (pointCount (R .head)) false) (runs (entries coord))
   unfolding lineIndices lineEnds itemsOf isSome
   lines-indices vs =
       length-map (joinN (lineEnds missing R coord) 0 (runs (entries coord))) (λ (k : Key). place sameKey k vs)
-      ∙ length-joinN (lineEnds missing R coord) (λ (r : Run). 2 * linesAfter (pointCount R) false (r .items)) (λ num r. ends-length num (r .start) none (r .items)) 0 (runs (entries coord))
-      ∙ times-total 2 (λ (r : Run). linesAfter (pointCount R) false (r .items)) (runs (entries coord))
-      ∙ ap (λ (k : ℕ). 2 * k) (sum-total (linesAfter (pointCount R) false) (runs (entries coord)))
+      ∙ length-joinN (lineEnds missing R coord) (λ (r : Run). 2 * linesAfter (pointCount (R .head)) false (r .items)) (λ num r. ends-length num (r .start) none (r .items)) 0 (runs (entries coord))
+      ∙ times-total 2 (λ (r : Run). linesAfter (pointCount (R .head)) false (r .items)) (runs (entries coord))
+      ∙ ap (λ (k : ℕ). 2 * k) (sum-total (linesAfter (pointCount (R .head)) false) (runs (entries coord)))
 
 module _ (missing : Words4) (bs : List ℕ) where
   pub line-set-corners : total length (lineFaces missing (restOf bs) (coordIn bs)) ≡ lineSetSizes bs (headerOf bs) .corners

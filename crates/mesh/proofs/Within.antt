@@ -47,48 +47,48 @@ quad-within n f a b h i j p q =
 
 -- ---- face set and line set
 
-below-within : (missing : Words4) (R : Rest) (coord : List ℕ) (num k : ℕ) (es : List ℕ) → allBelow (pointCount R) es ≡ true
-    → Within (pointCount R) (mapN (cornerOf missing R coord num) k es)
+below-within : (missing : Words4) (R : Rest) (coord : List ℕ) (num k : ℕ) (es : List ℕ) → allBelow (pointCount (R .head)) es ≡ true
+    → Within (pointCount (R .head)) (mapN (cornerOf missing R coord num) k es)
 unfolding mapN cornerOf cornerBy allBelow
 below-within missing R coord num k [] h = tt
-below-within missing R coord num k (e ∷ es) h = go (ltb e (pointCount R)) refl h (below-within missing R coord num (suc k) es)
+below-within missing R coord num k (e ∷ es) h = go (ltb e (pointCount (R .head))) refl h (below-within missing R coord num (suc k) es)
   where
-    go : (b : Bool) → ltb e (pointCount R) ≡ b → (b && allBelow (pointCount R) es) ≡ true
-        → (allBelow (pointCount R) es ≡ true → Within (pointCount R) (mapN (cornerOf missing R coord num) (suc k) es))
-        → Within (pointCount R) (mapN (cornerOf missing R coord num) k (e ∷ es))
-    go true t q below = let l : e < pointCount R = ltb-true _ _ t in ((l, l), below q)
+    go : (b : Bool) → ltb e (pointCount (R .head)) ≡ b → (b && allBelow (pointCount (R .head)) es) ≡ true
+        → (allBelow (pointCount (R .head)) es ≡ true → Within (pointCount (R .head)) (mapN (cornerOf missing R coord num) (suc k) es))
+        → Within (pointCount (R .head)) (mapN (cornerOf missing R coord num) k (e ∷ es))
+    go true t q below = let l : e < pointCount (R .head) = ltb-true _ _ t in ((l, l), below q)
     go false t q below = absurd (true≢false (sym q))
 
-pub face-set-within : (missing : Words4) (R : Rest) (coord : List ℕ) → All (Within (pointCount R)) (facesOf missing R coord)
+pub face-set-within : (missing : Words4) (R : Rest) (coord : List ℕ) → All (Within (pointCount (R .head))) (facesOf missing R coord)
 unfolding facesOf faceOf kept
-face-set-within missing R coord = All-mapN (Within (pointCount R)) (faceOf missing R coord) one 0 (runs (entries coord))
+face-set-within missing R coord = All-mapN (Within (pointCount (R .head))) (faceOf missing R coord) one 0 (runs (entries coord))
   where
-    one : (num : ℕ) (r : Run) → Within (pointCount R) (faceOf missing R coord num r)
-    one num r = go (leb 3 (length (r .items))) (allBelow (pointCount R) (r .items)) refl
+    one : (num : ℕ) (r : Run) → Within (pointCount (R .head)) (faceOf missing R coord num r)
+    one num r = go (leb 3 (length (r .items))) (allBelow (pointCount (R .head)) (r .items)) refl
       where
-        go : (a b : Bool) → allBelow (pointCount R) (r .items) ≡ b → Within (pointCount R) (cond (a && b) (mapN (cornerOf missing R coord num) (r .start) (r .items)) [])
+        go : (a b : Bool) → allBelow (pointCount (R .head)) (r .items) ≡ b → Within (pointCount (R .head)) (cond (a && b) (mapN (cornerOf missing R coord num) (r .start) (r .items)) [])
         go true true e = below-within missing R coord num (r .start) (r .items) e
         go true false e = tt
         go false b e = tt
 
 keys-within : (missing : Words4) (R : Rest) (coord : List ℕ) (num k : ℕ) (es : List ℕ)
-    → Within (pointCount R) (map cornerFor (somes (mapN (itemOf missing R coord num) k es)))
+    → Within (pointCount (R .head)) (map cornerFor (somes (mapN (itemOf missing R coord num) k es)))
 unfolding somes mapN itemOf
 keys-within missing R coord num k [] = tt
-keys-within missing R coord num k (e ∷ es) = go (ltb e (pointCount R)) refl (keys-within missing R coord num (suc k) es)
+keys-within missing R coord num k (e ∷ es) = go (ltb e (pointCount (R .head))) refl (keys-within missing R coord num (suc k) es)
   where
     q : Key
     q = record { point = e; normal = no3; colour = colourOf missing R coord num k; texture = no2 }
 
-    go : (b : Bool) → ltb e (pointCount R) ≡ b → Within (pointCount R) (map cornerFor (somes (mapN (itemOf missing R coord num) (suc k) es)))
-        → Within (pointCount R) (map cornerFor (these (cond b (some q) none) ++ somes (mapN (itemOf missing R coord num) (suc k) es)))
-    go true t rest = let l : e < pointCount R = ltb-true _ _ t in ((l, l), rest)
+    go : (b : Bool) → ltb e (pointCount (R .head)) ≡ b → Within (pointCount (R .head)) (map cornerFor (somes (mapN (itemOf missing R coord num) (suc k) es)))
+        → Within (pointCount (R .head)) (map cornerFor (these (cond b (some q) none) ++ somes (mapN (itemOf missing R coord num) (suc k) es)))
+    go true t rest = let l : e < pointCount (R .head) = ltb-true _ _ t in ((l, l), rest)
     go false t rest = rest
 
-pub line-set-within : (missing : Words4) (R : Rest) (coord : List ℕ) → All (Within (pointCount R)) (lineFaces missing R coord)
+pub line-set-within : (missing : Words4) (R : Rest) (coord : List ℕ) → All (Within (pointCount (R .head))) (lineFaces missing R coord)
 unfolding lineFaces lineKeys itemsOf
 line-set-within missing R coord =
-    All-mapN (Within (pointCount R)) (λ num r. map cornerFor (lineKeys missing R coord num r)) (λ num r. keys-within missing R coord num (r .start) (r .items)) 0 (runs (entries coord))
+    All-mapN (Within (pointCount (R .head))) (λ num r. map cornerFor (lineKeys missing R coord num r)) (λ num r. keys-within missing R coord num (r .start) (r .items)) 0 (runs (entries coord))
 
 -- ---- grid
 

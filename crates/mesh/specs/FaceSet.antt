@@ -59,8 +59,8 @@ unfoldable pub runsIn : List ℕ → List Run
 runsIn bs = runs (entries (coordIn bs))
 
 -- FORMAT 2.2: how many points a set lists
-abbrev pub pointCount : Rest → ℕ
-pointCount R = getD (R .head .counts) 0 0
+abbrev pub pointCount : Header → ℕ
+pointCount h = getD (h .counts) 0 0
 
 -- what a corner reads, by its face number and its place in coordIndex (of a grid, by the quad's number and the point's); nothing of an attribute that is not there
 
@@ -96,11 +96,11 @@ cornerBy missing R coord num k p default =
 
 -- FORMAT 8.1: the corner of face `num` at place k, where coordIndex has the entry e
 unfoldable pub cornerOf : Words4 → Rest → List ℕ → ℕ → ℕ → ℕ → Corner
-cornerOf missing R coord num k e = cornerBy missing R coord num k e (defaultAt (R .points) (fitOf (R .points) (pointCount R)) e)
+cornerOf missing R coord num k e = cornerBy missing R coord num k e (defaultAt (R .points) (fitOf (R .points) (pointCount (R .head))) e)
 
 -- FORMAT 6.2: a run that is skipped is a face with no corners
 unfoldable pub faceOf : Words4 → Rest → List ℕ → ℕ → Run → Face
-faceOf missing R coord num r = cond (kept (pointCount R) (r .items)) (mapN (cornerOf missing R coord num) (r .start) (r .items)) []
+faceOf missing R coord num r = cond (kept (pointCount (R .head)) (r .items)) (mapN (cornerOf missing R coord num) (r .start) (r .items)) []
 
 -- FORMAT 6.2, 8.1: every run, by its number
 unfoldable pub facesOf : Words4 → Rest → List ℕ → List Face

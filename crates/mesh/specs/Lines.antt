@@ -39,7 +39,7 @@ module _ {A : Type 0} where
 unfoldable pub itemOf : Words4 → Rest → List ℕ → ℕ → ℕ → ℕ → Option Key
 itemOf missing R coord num k e =
     let key : Key = record { point = e; normal = no3; colour = colourOf missing R coord num k; texture = no2 } in
-    cond (ltb e (pointCount R)) (some key) none
+    cond (ltb e (pointCount (R .head))) (some key) none
 
 -- FORMAT 6.3: the entries of a run
 unfoldable pub itemsOf : Words4 → Rest → List ℕ → ℕ → Run → List (Option Key)

@@ -40,7 +40,7 @@ pub record OneRun (b c : List ℕ) (r : ℕ) : Type 0 where
 -- FORMAT 13: the part of the indices that run j made: its place and length are those of the triangles of the runs
 unfoldable pub runPart : List ℕ → List ℕ → ℕ → List ℕ
 runPart bs indices j =
-    let count = triangles (pointCount (restOf bs)) in
+    let count = triangles (pointCount (restOf bs .head)) in
     take (3 * count (runIn bs j .items)) (drop (3 * sumOver count (take j (runsIn bs))) indices)
 
 -- FORMAT 13: a run names the points that its entries give, kept or skipped
@@ -71,8 +71,8 @@ pub record SameTriangles (missing : Words4) (b c : List ℕ) (S T : Slices) (r j
 -- FORMAT 13: the indices are the parts of the runs, in the order of their numbers: three for each triangle, and none where a run names a point beyond the list
 pub record Parts (bs indices : List ℕ) : Type 0 where
   pub whole : joinN (λ (j : ℕ) (r : Run). runPart bs indices j) 0 (runsIn bs) ≡ indices
-  pub long : (j : ℕ) → j < length (runsIn bs) → length (runPart bs indices j) ≡ 3 * triangles (pointCount (restOf bs)) (runIn bs j .items)
-  pub beyond : (j p : ℕ) → names (runIn bs j .items) p ≡ true → pointCount (restOf bs) ≤ p → runPart bs indices j ≡ []
+  pub long : (j : ℕ) → j < length (runsIn bs) → length (runPart bs indices j) ≡ 3 * triangles (pointCount (restOf bs .head)) (runIn bs j .items)
+  pub beyond : (j p : ℕ) → names (runIn bs j .items) p ≡ true → pointCount (restOf bs .head) ≤ p → runPart bs indices j ≡ []
 
 -- FORMAT 13: the face numbers agree, and every other face has the same triangles in S, made of b, and in T, made of c; every index names a vertex that was made
 pub record OthersStay (missing : Words4) (b c : List ℕ) (S T : Slices) (r : ℕ) : Type 0 where

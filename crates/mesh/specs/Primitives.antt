@@ -11,7 +11,7 @@ use Rattle.mesh.specs.FaceSet.{restOf, coordIn, pointCount, facesOf, con
 
 -- FORMAT 6.4: the bytes of the index list of that face set
 unfoldable pub listedCoord : Topology → List ℕ → List ℕ
-listedCoord g bs = bytesOf (faceList (pointCount (restOf bs)) g (entries (coordIn bs)))
+listedCoord g bs = bytesOf (faceList (pointCount (restOf bs .head)) g (entries (coordIn bs)))
 
 -- FORMAT 8.5: the mesh of that face set, a quad split as a fan
 unfoldable pub primitiveMesh : Words4 → Topology → List ℕ → Mesh

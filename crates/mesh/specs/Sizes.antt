@@ -16,6 +16,7 @@ use Rattle.block.specs.Runs.{Run, runs, corners, triangles, sumOver}
 use Rattle.primitives.specs.Primitives.{faceList}
 use Rattle.mesh.specs.Grid.{xDimension, zDimension}
 use Rattle.mesh.specs.Extrusion.{spineCount, sectionCount, sectionOf, capLength, hasCap}
+use Rattle.mesh.specs.FaceSet.{pointCount}
 
 -- FORMAT 4: P, C and N
 pub record Sizes : Type 0 where
@@ -25,26 +26,23 @@ pub record Sizes : Type 0 where
 
 -- ---- face set, and triangle, fan, strip or quad set
 
--- FORMAT 6.1, 2.2: the runs of coordIndex, and the count of listed points
+-- FORMAT 6.1: the runs of coordIndex
 abbrev pub coordRuns : List ℕ → Header → List Run
 coordRuns bs h = runs (entries (listBytes bs h 1))
-
-abbrev pub listedPoints : Header → ℕ
-listedPoints h = getD (h .counts) 0 0
 
 -- FORMAT 4, 6.2: of p points and the runs rs, the corners and the triangles of the kept faces
 abbrev pub runSizes : ℕ → List Run → Sizes
 runSizes p rs = record { points = p; corners = sumOver (corners p) rs; indices = 3 * sumOver (triangles p) rs }
 
 unfoldable pub faceSetSizes : List ℕ → Header → Sizes
-faceSetSizes bs h = runSizes (listedPoints h) (coordRuns bs h)
+faceSetSizes bs h = runSizes (pointCount h) (coordRuns bs h)
 
 -- FORMAT 4, 6.4: the runs of the face set that lists the primitives one by one
 abbrev pub listedRuns : Topology → List ℕ → Header → List Run
-listedRuns g bs h = runs (faceList (listedPoints h) g (entries (listBytes bs h 1)))
+listedRuns g bs h = runs (faceList (pointCount h) g (entries (listBytes bs h 1)))
 
 unfoldable pub primitiveSizes : Topology → List ℕ → Header → Sizes
-primitiveSizes g bs h = runSizes (listedPoints h) (listedRuns g bs h)
+primitiveSizes g bs h = runSizes (pointCount h) (listedRuns g bs h)
 
 -- ---- line set
 
@@ -62,9 +60,9 @@ linesAfter p prev (e ∷ es) = let n = linesAfter p (ltb e p) es in cond prev (c
 unfoldable pub lineSetSizes : List ℕ → Header → Sizes
 lineSetSizes bs h =
     record {
-      points = listedPoints h;
-      corners = sumOver (named (listedPoints h)) (coordRuns bs h);
-      indices = 2 * sumOver (linesAfter (listedPoints h) false) (coordRuns bs h);
+      points = pointCount h;
+      corners = sumOver (named (pointCount h)) (coordRuns bs h);
+      indices = 2 * sumOver (linesAfter (pointCount h) false) (coordRuns bs h);
     }
 
 -- ---- grid

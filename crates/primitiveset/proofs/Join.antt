@@ -132,17 +132,17 @@ module _ (missing : Words4) (R : Rest) (none : Plain R) where
     colour = cond (R .head .colors) (value4At (R .colours) (R .head .alpha) (number-same (R .colourIndex) (none .colours) a b (R .head .«color_per_vertex») num i) missing) no4;
     texture = let listed = value2At (R .textures) (number-same (R .textureIndex) (none .textures) a b true num i) no2 in
         let uv = uvWords (R .head .transformed) (R .settings .transform) in
-        let default = defaultAt (R .points) (fitOf (R .points) (pointCount R)) p in
+        let default = defaultAt (R .points) (fitOf (R .points) (pointCount (R .head))) p in
         cond (R .head .«texture_points») (uv listed) (cond (R .head .«need_uvs») (uv default) no2);
   }
 
   -- ---- a face, and all faces, of the listing whose bytes are B and whose entries are L
 
-  module _ (low : pointCount R ≤ 0x8000_0000) (g : Topology) (coord B L : List ℕ) (is : entries B ≡ L) where
+  module _ (low : pointCount (R .head) ≤ 0x8000_0000) (g : Topology) (coord B L : List ℕ) (is : entries B ≡ L) where
     abbrev Named : List Use → Type 0
     Named us = All (λ (u : Use). Corner coord (u .place) (u .point)) us
 
-    face-same : (num s : ℕ) (us : List Use) (more : List ℕ) → Named us → All (λ (w : ℕ). w < pointCount R) (pointsUsed us) → drop s L ≡ pointsUsed us ++ more
+    face-same : (num s : ℕ) (us : List Use) (more : List ℕ) → Named us → All (λ (w : ℕ). w < pointCount (R .head)) (pointsUsed us) → drop s L ≡ pointsUsed us ++ more
         → map (cornerUse missing R B num) (mapN useOf s (pointsUsed us)) ≡ map (cornerUse missing R coord num) us
     unfolding mapN
     face-same num s [] more a b d = refl
@@ -152,8 +152,8 @@ module _ (missing : Words4) (R : Rest) (none : Plain R) where
         let c : Corner B s (u .point) = indexed (rw is l) (rw is (h .0)) (not-negative (u .point) (let z = b .0 in omega arith)) in
         λ i. corner-same num c (a .0) i ∷ face-same num (suc s) us more (a .1) (b .1) (h .1) i
 
-    faces-same : (n s : ℕ) (uss : List (List Use)) → All (λ (us : List Use). Named us × Primitive (pointCount R) g (pointsUsed us)) uss → drop s L ≡ flat (map closed (map pointsUsed uss))
-        → facesWith (cornerUse missing R B) (joinN (listed (pointCount R)) n (runsFrom s (flat (map closed (map pointsUsed uss))))) ≡ facesWith (cornerUse missing R coord) (mapN listingOf n uss)
+    faces-same : (n s : ℕ) (uss : List (List Use)) → All (λ (us : List Use). Named us × Primitive (pointCount (R .head)) g (pointsUsed us)) uss → drop s L ≡ flat (map closed (map pointsUsed uss))
+        → facesWith (cornerUse missing R B) (joinN (listed (pointCount (R .head))) n (runsFrom s (flat (map closed (map pointsUsed uss))))) ≡ facesWith (cornerUse missing R coord) (mapN listingOf n uss)
     unfolding facesWith joinN mapN runsFrom flat
     faces-same n s [] a d = refl
     faces-same n s (us ∷ uss) a d =
@@ -163,23 +163,23 @@ module _ (missing : Words4) (R : Rest) (none : Plain R) where
         let P = a .0 .1 in
         let e : drop s L ≡ ps ++ 0xffff_ffff ∷ more = d ∙ append-assoc ps (0xffff_ffff ∷ []) more in
         let rest : drop t L ≡ more = sym (drop-drop (length ps + 1) s L) ∙ ap (drop (length ps + 1)) e ∙ drop-append-add ps (0xffff_ffff ∷ more) 1 in
-        ap (λ (rs : List Run). facesWith (cornerUse missing R B) (joinN (listed (pointCount R)) n rs)) (closed-first s ps (map pointsUsed uss) (goes-on low P))
-        ∙ ap (facesWith (cornerUse missing R B)) (listings-kept (pointCount R) n (runOf s ps) (runsFrom t more) (P .whole))
+        ap (λ (rs : List Run). facesWith (cornerUse missing R B) (joinN (listed (pointCount (R .head))) n rs)) (closed-first s ps (map pointsUsed uss) (goes-on low P))
+        ∙ ap (facesWith (cornerUse missing R B)) (listings-kept (pointCount (R .head)) n (runOf s ps) (runsFrom t more) (P .whole))
         ∙ (λ i. face-same n s us (0xffff_ffff ∷ more) (a .0 .0) (P .below) e i ∷ faces-same (suc n) t uss (a .1) rest i)
 
 -- FORMAT 6.4: the kept faces of the face set whose coordIndex B lists the primitives one by one are those listed here, each corner at its own place in coordIndex
-pub join : (missing : Words4) (R : Rest) → Plain R → pointCount R ≤ 0x8000_0000 → (g : Topology) (coord B : List ℕ) → entries B ≡ faceList (pointCount R) g (entries coord)
-    → dense (facesOf missing R B) ≡ facesWith (cornerUse missing R coord) (primitiveListings (pointCount R) g (entries coord))
+pub join : (missing : Words4) (R : Rest) → Plain R → pointCount (R .head) ≤ 0x8000_0000 → (g : Topology) (coord B : List ℕ) → entries B ≡ faceList (pointCount (R .head)) g (entries coord)
+    → dense (facesOf missing R B) ≡ facesWith (cornerUse missing R coord) (primitiveListings (pointCount (R .head)) g (entries coord))
 unfolding listingsOf primitiveListings
 join missing R none low g coord B is =
     let ws = entries coord in
-    let L = faceList (pointCount R) g ws in
-    let uss = primitiveUses (pointCount R) g ws in
-    let same : map pointsUsed uss ≡ keptPrimitives (pointCount R) g ws = points-kept (pointCount R) g ws in
-    let closes : L ≡ flat (map closed (map pointsUsed uss)) = list-closed (pointCount R) g ws ∙ ap (λ (l : List (List ℕ)). flat (map closed l)) (sym same) in
+    let L = faceList (pointCount (R .head)) g ws in
+    let uss = primitiveUses (pointCount (R .head)) g ws in
+    let same : map pointsUsed uss ≡ keptPrimitives (pointCount (R .head)) g ws = points-kept (pointCount (R .head)) g ws in
+    let closes : L ≡ flat (map closed (map pointsUsed uss)) = list-closed (pointCount (R .head)) g ws ∙ ap (λ (l : List (List ℕ)). flat (map closed l)) (sym same) in
     let named = uses-named g coord low in
-    let prims = All-at-map (Primitive (pointCount R) g) pointsUsed uss (rw same (primitives-are (pointCount R) g ws)) in
+    let prims = All-at-map (Primitive (pointCount (R .head)) g) pointsUsed uss (rw same (primitives-are (pointCount (R .head)) g ws)) in
     dense-listed missing R B
-    ∙ ap (λ (l : List ℕ). facesWith (cornerUse missing R B) (joinN (listed (pointCount R)) 0 (runs l))) (is ∙ closes)
+    ∙ ap (λ (l : List ℕ). facesWith (cornerUse missing R B) (joinN (listed (pointCount (R .head))) 0 (runs l))) (is ∙ closes)
     ∙ faces-same missing R none low g coord B L is 0 0 uss
-    (All-both (λ (us : List Use). All (λ (u : Use). Corner coord (u .place) (u .point)) us) (λ (us : List Use). Primitive (pointCount R) g (pointsUsed us)) uss named prims) closes
+    (All-both (λ (us : List Use). All (λ (u : Use). Corner coord (u .place) (u .point)) us) (λ (us : List Use). Primitive (pointCount (R .head)) g (pointsUsed us)) uss named prims) closes

@@ -13,7 +13,8 @@ use Rattle.block.proofs.Table.{count-low}
 use Rattle.block.proofs.ListLaws.{widths-of}
 use Rattle.primitives.proofs.Closed.{listing-faces, listing-corners}
 use Rattle.mesh.specs.Mesh.{Slices}
-use Rattle.mesh.specs.Sizes.{listedRuns, listedPoints, primitiveSizes, sizesOf}
+use Rattle.mesh.specs.Sizes.{listedRuns, primitiveSizes, sizesOf}
+use Rattle.mesh.specs.FaceSet.{pointCount}
 use Rattle.tables.specs.declared.layout.Plan.{Plan}
 use Rattle.lent.specs.Lent.{Asked}
 use Rattle.sizes.specs.Known.{primitiveFaces, facesIn}
@@ -27,10 +28,10 @@ module _ {g : Topology} {bs : List ℕ} {h : Header} {s : Settings} {o : Slices}
   sized = record { sizes = rw (A .kind) refl; faces = rw (A .kind) refl }
 
   -- the number of a point ends no run
-  pub points-low : listedPoints h ≤ 0x8000_0000
+  pub points-low : pointCount h ≤ 0x8000_0000
   points-low = omega (arith, count-low (A .accepted .taken) 0)
 
-  pub planned : {t : Plan} → t ≡ runPlan (listedPoints h) (listedRuns g bs h) → {coord : List ℕ} → coord ≡ listBytes bs h 1 → Planned (listedPoints h) g coord w t
+  pub planned : {t : Plan} → t ≡ runPlan (pointCount h) (listedRuns g bs h) → {coord : List ℕ} → coord ≡ listBytes bs h 1 → Planned (pointCount h) g coord w t
   planned e c =
       let G = roomy A sized e in
       rw c

@@ -19,9 +19,8 @@ use Rattle.block.proofs.ListLaws.{list-none}
 use Rattle.block.proofs.Table.{by-point}
 use Rattle.lists.proofs.Lists.{All-getD}
 use Rattle.mesh.specs.Mesh.{mesh}
-use Rattle.mesh.specs.FaceSet.{restOf, coordIn, facesOf, convexFrame}
+use Rattle.mesh.specs.FaceSet.{restOf, coordIn, facesOf, convexFrame, pointCount}
 use Rattle.mesh.specs.Primitives.{listedCoord, primitiveMesh}
-use Rattle.mesh.specs.Sizes.{listedPoints}
 use Rattle.mesh.proofs.Dense.{mesh-dense}
 use Rattle.mesh.proofs.Primitives.{listed-entries}
 use Rattle.tables.specs.Listed.{Listing, noListing, facesWith}
@@ -43,7 +42,7 @@ module _ (missing : Words4) (g : Topology) (bs : List ℕ) where
   own k =
       let ls = listingsIn g bs (headerOf bs) in
       listed missing bs true (ap isIndexed k) (rw k refl, rw k refl, rw k refl) ls
-      (All-getD (λ (l : Listing). 3 ≤ length (l .uses)) ls (listings-long (listedPoints (headerOf bs)) g (entries (listBytes bs (headerOf bs) 1))) noListing)
+      (All-getD (λ (l : Listing). 3 ≤ length (l .uses)) ls (listings-long (pointCount (headerOf bs)) g (entries (listBytes bs (headerOf bs) 1))) noListing)
 
   -- FORMAT 3, 9: what is not refused has no attribute index
   plain-rest : headerOf bs .kind ≡ Primitives g → isOtherAttributes (headerOf bs) ≡ false → Plain (restOf bs)
@@ -56,7 +55,7 @@ module _ (missing : Words4) (g : Topology) (bs : List ℕ) where
         textures = list-none bs (headerOf bs) 7 (B .texture-index);
       }
 
-  mesh-own : headerOf bs .kind ≡ Primitives g → isOtherAttributes (headerOf bs) ≡ false → listedPoints (headerOf bs) ≤ 0x8000_0000
+  mesh-own : headerOf bs .kind ≡ Primitives g → isOtherAttributes (headerOf bs) ≡ false → pointCount (headerOf bs) ≤ 0x8000_0000
       → primitiveMesh missing g bs
       ≡ mesh (frameBy (entries (listBytes bs (headerOf bs) 0)) (listedShared missing true (headerOf bs)) (settingsOf bs .crease))
       (facesWith (cornerUse missing (restOf bs) (listBytes bs (headerOf bs) 1)) (listingsIn g bs (headerOf bs)))
@@ -71,6 +70,6 @@ module _ (missing : Words4) (g : Topology) (bs : List ℕ) where
     pub shape : h .kind ≡ Primitives g → Shape bs coord h sh (listingsIn g bs h) (faceSetTexture bs h s) (cornerUse missing (restOf bs) coord)
     shape k = rw (c, q, es, eh) (own (rw eh at k))
 
-    pub mesh-is : h .kind ≡ Primitives g → isOtherAttributes h ≡ false → listedPoints h ≤ 0x8000_0000
+    pub mesh-is : h .kind ≡ Primitives g → isOtherAttributes h ≡ false → pointCount h ≤ 0x8000_0000
         → primitiveMesh missing g bs ≡ mesh (frameBy (entries (listBytes bs h 0)) sh (s .crease)) (facesWith (cornerUse missing (restOf bs) coord) (listingsIn g bs h))
     mesh-is k e l = rw (c, q, es, eh) (mesh-own (rw eh at k) (rw eh at e) (rw eh at l))

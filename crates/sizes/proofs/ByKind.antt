@@ -30,13 +30,14 @@ use Rattle.extrusion.proofs.Joined.{cap-fits}
 use Rattle.lists.proofs.Tests.{or-none}
 use Rattle.sizes.specs.declared.kinds.Sizes.{Sizes}
 use Rattle.sizes.specs.Known.{Known, Sides, setFaces, primitiveFaces, facesIn, Are, Counted}
+use Rattle.mesh.specs.FaceSet.{pointCount}
 
 -- ---- the sizes of each kind
 
 module _ (bs : List ℕ) (h : Header) where
   -- of the runs rs
-  runs-are : (rs : List Run) (t : Totals) (p : ℕ) → t ≡ totals (spec.listedPoints h) rs → p ≡ spec.listedPoints h
-      → Are (spec.runSizes (spec.listedPoints h) rs) (sumOver (faces (spec.listedPoints h)) rs) (record { points = p; corners = t .corners; indices = 3 * t .triangles; faces = t .faces })
+  runs-are : (rs : List Run) (t : Totals) (p : ℕ) → t ≡ totals (pointCount h) rs → p ≡ pointCount h
+      → Are (spec.runSizes (pointCount h) rs) (sumOver (faces (pointCount h)) rs) (record { points = p; corners = t .corners; indices = 3 * t .triangles; faces = t .faces })
   runs-are rs t p et ep =
       record {
         points = ep;
@@ -50,26 +51,26 @@ module _ (bs : List ℕ) (h : Header) where
     over-list : (f : List ℕ → ℕ) (n : ℕ) → n ≡ sumOver f (runs (entries l)) → n ≡ sumOver f (runs (entries (listBytes bs h 1)))
     over-list f n e = e ∙ ap (λ (l : List ℕ). sumOver f (runs (entries l))) el
 
-    pub face-set-are : (t : Totals) (p : ℕ) → t ≡ totals (spec.listedPoints h) (runs (entries l)) → p ≡ spec.listedPoints h
+    pub face-set-are : (t : Totals) (p : ℕ) → t ≡ totals (pointCount h) (runs (entries l)) → p ≡ pointCount h
         → Are (spec.faceSetSizes bs h) (setFaces bs h) (record { points = p; corners = t .corners; indices = 3 * t .triangles; faces = t .faces })
     unfolding spec.faceSetSizes setFaces
-    face-set-are t p et ep = runs-are (spec.coordRuns bs h) t p (et ∙ ap (λ (l : List ℕ). totals (spec.listedPoints h) (runs (entries l))) el) ep
+    face-set-are t p et ep = runs-are (spec.coordRuns bs h) t p (et ∙ ap (λ (l : List ℕ). totals (pointCount h) (runs (entries l))) el) ep
 
-    pub primitives-are : (g : Topology) (t : Totals) (p : ℕ) → t ≡ totals (spec.listedPoints h) (runs (faceList (spec.listedPoints h) g (entries l))) → p ≡ spec.listedPoints h
+    pub primitives-are : (g : Topology) (t : Totals) (p : ℕ) → t ≡ totals (pointCount h) (runs (faceList (pointCount h) g (entries l))) → p ≡ pointCount h
         → Are (spec.primitiveSizes g bs h) (primitiveFaces g bs h) (record { points = p; corners = t .corners; indices = 3 * t .triangles; faces = t .faces })
     unfolding spec.primitiveSizes primitiveFaces
     primitives-are g t p et ep =
-        runs-are (spec.listedRuns g bs h) t p (et ∙ ap (λ (l : List ℕ). totals (spec.listedPoints h) (runs (faceList (spec.listedPoints h) g (entries l)))) el) ep
+        runs-are (spec.listedRuns g bs h) t p (et ∙ ap (λ (l : List ℕ). totals (pointCount h) (runs (faceList (pointCount h) g (entries l)))) el) ep
 
-    pub line-set-are : (c n p : ℕ) → c ≡ sumOver (spec.named (spec.listedPoints h)) (runs (entries l))
-        → n ≡ sumOver (spec.linesAfter (spec.listedPoints h) false) (runs (entries l)) → p ≡ spec.listedPoints h
+    pub line-set-are : (c n p : ℕ) → c ≡ sumOver (spec.named (pointCount h)) (runs (entries l))
+        → n ≡ sumOver (spec.linesAfter (pointCount h) false) (runs (entries l)) → p ≡ pointCount h
         → Are (spec.lineSetSizes bs h) 0 (record { points = p; corners = c; indices = 2 * n; faces = 0 })
     unfolding spec.lineSetSizes
     line-set-are c n p ec en ep =
         record {
           points = ep;
-          corners = over-list (spec.named (spec.listedPoints h)) c ec;
-          indices = ap (λ (n : ℕ). 2 * n) (over-list (spec.linesAfter (spec.listedPoints h) false) n en);
+          corners = over-list (spec.named (pointCount h)) c ec;
+          indices = ap (λ (n : ℕ). 2 * n) (over-list (spec.linesAfter (pointCount h) false) n en);
           faces = refl;
         }
 

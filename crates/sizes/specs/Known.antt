@@ -10,7 +10,8 @@ use Rattle.block.specs.declared.topology.Topology.{Topology}
 use Rattle.block.specs.Kind.{byKind}
 use Rattle.block.specs.Refusal.{Taken}
 use Rattle.block.specs.Runs.{faces, sumOver}
-use Rattle.mesh.specs.Sizes.{Sizes as Defined, coordRuns, listedRuns, listedPoints, sizesOf, isNoShape}
+use Rattle.mesh.specs.Sizes.{Sizes as Defined, coordRuns, listedRuns, sizesOf, isNoShape}
+use Rattle.mesh.specs.FaceSet.{pointCount}
 use Rattle.tables.specs.Layout.{most}
 use Rattle.sizes.specs.declared.kinds.Sizes.{Sizes}
 
@@ -29,10 +30,10 @@ pub record Sides (h : Header) : Type 0 where
 
 -- FORMAT 6.2, 6.4: how many faces of a face set, and how many primitives, are kept; of a block of any kind, 0 where it has neither
 unfoldable pub setFaces : List ℕ → Header → ℕ
-setFaces bs h = sumOver (faces (listedPoints h)) (coordRuns bs h)
+setFaces bs h = sumOver (faces (pointCount h)) (coordRuns bs h)
 
 unfoldable pub primitiveFaces : Topology → List ℕ → Header → ℕ
-primitiveFaces g bs h = sumOver (faces (listedPoints h)) (listedRuns g bs h)
+primitiveFaces g bs h = sumOver (faces (pointCount h)) (listedRuns g bs h)
 
 unfoldable pub facesIn : List ℕ → Header → ℕ
 facesIn bs h = byKind (h .kind) (setFaces bs h) 0 0 0 (λ g. primitiveFaces g bs h)

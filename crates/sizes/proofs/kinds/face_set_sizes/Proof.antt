@@ -1,4 +1,4 @@
-use Rattle.mesh.specs.Sizes.{listedPoints}
+use Rattle.mesh.specs.FaceSet.{pointCount}
 use native.Mathlib.Omega.{arith}
 use mathlib.Core.Path.{ap}
 use denote.Ref.{now}
@@ -27,7 +27,7 @@ wide-requires : tie.Need-wide-requires
 wide-requires c κs = search needs
 
 mul-t12 : tie.Need-mul-t12
-mul-t12 c = let l = now (c .before .before .before .list-part .result) in record { fits = omega (arith, ap (λ (t : Totals). t .triangles) (c .before .before .face-totals .ensures), triangles-within (listedPoints (c .before .before .before .before .before .before .args .h)) (entries l), entries-length l) }
+mul-t12 c = let l = now (c .before .before .before .list-part .result) in record { fits = omega (arith, ap (λ (t : Totals). t .triangles) (c .before .before .face-totals .ensures), triangles-within (pointCount (c .before .before .before .before .before .before .args .h)) (entries l), entries-length l) }
 
 returns : tie.Need-returns
 returns c = face-set-are _ _ _ (c .before .before .before .list-part .ensures) _ _ (c .before .before .face-totals .ensures) (c .before .wide .ensures)

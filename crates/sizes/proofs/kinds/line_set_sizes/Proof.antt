@@ -1,4 +1,4 @@
-use Rattle.mesh.specs.Sizes.{listedPoints}
+use Rattle.mesh.specs.FaceSet.{pointCount}
 use native.Mathlib.Omega.{arith}
 use denote.Ref.{now}
 use Rattle.bits.specs.Bits.{entries}
@@ -25,7 +25,7 @@ wide-requires : tie.Need-wide-requires
 wide-requires c κs = search needs
 
 mul-t12 : tie.Need-mul-t12
-mul-t12 c = let l = now (c .before .before .before .list-part .result) in record { fits = omega (arith, c .before .before .line-totals .ensures .1, lines-within (listedPoints (c .before .before .before .before .before .before .args .h)) (entries l), entries-length l) }
+mul-t12 c = let l = now (c .before .before .before .list-part .result) in record { fits = omega (arith, c .before .before .line-totals .ensures .1, lines-within (pointCount (c .before .before .before .before .before .before .args .h)) (entries l), entries-length l) }
 
 returns : tie.Need-returns
 returns c = line-set-are _ _ _ (c .before .before .before .list-part .ensures) _ _ _ (c .before .before .line-totals .ensures .0) (c .before .before .line-totals .ensures .1) (c .before .wide .ensures)

@@ -1,4 +1,4 @@
-use Rattle.mesh.specs.Sizes.{listedPoints}
+use Rattle.mesh.specs.FaceSet.{pointCount}
 use native.Mathlib.Omega.{arith}
 use mathlib.Core.Path.{ap}
 use denote.Ref.{now}
@@ -31,7 +31,7 @@ mul-t13 c =
     let c2 = c .before .before in
     let c6 = c2 .before .before .before .before in
     let l = now (c2 .before .list-part .result) in
-    record { fits = omega (arith, ap (λ (t : Totals). t .triangles) (c2 .primitive-totals .ensures), primitives-within {points = listedPoints (c6 .args .h)} (omega (arith, c6 .pre)) (c6 .args .g) (entries l), entries-length l) }
+    record { fits = omega (arith, ap (λ (t : Totals). t .triangles) (c2 .primitive-totals .ensures), primitives-within {points = pointCount (c6 .args .h)} (omega (arith, c6 .pre)) (c6 .args .g) (entries l), entries-length l) }
 
 returns : tie.Need-returns
 returns c = primitives-are _ _ _ (c .before .before .before .list-part .ensures) _ _ _ (c .before .before .primitive-totals .ensures) (c .before .wide .ensures)
