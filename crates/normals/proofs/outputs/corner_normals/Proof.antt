@@ -40,16 +40,28 @@ mul-put3 : tie.Need-mul-put3 Inv-loop μ-loop
 mul-put3 c = let R = c .before .before .before .before .before .before .before .before .before .before .pre .0 .room in omega (arith, c .before .before .before .before .before .if1 .taken)
 
 put3-requires : tie.Need-put3-requires Inv-loop μ-loop
-put3-requires c κs = omega (arith, c .before .before .before .before .before .if1 .taken, c .before .before .before .before .before .before .before .before .before .before .pre .2, c .before .before .before .before .before .before .before .loop .inv .2)
+put3-requires c κs =
+    let c5 = c .before .before .before .before .before in
+    let c7 = c5 .before .before in
+    omega (arith, c5 .if1 .taken, c7 .before .before .before .pre .2, c7 .loop .inv .2)
 
 add-c : tie.Need-add-c Inv-loop μ-loop
-add-c c = let R = c .before .before .before .before .before .before .before .before .before .before .before .before .before .pre .0 .room in omega (arith, c .before .before .before .before .before .before .before .before .if1 .taken)
+add-c c =
+    let c8 = c .before .before .before .before .before .before .before .before in
+    let R = c8 .before .before .before .before .before .pre .0 .room in omega (arith, c8 .if1 .taken)
 
 loop-less : tie.Need-loop-less Inv-loop μ-loop
 loop-less c = omega (arith, c .before .before .before .before .before .before .before .before .if1 .taken)
 
 loop-again : tie.Need-loop-again Inv-loop μ-loop
-loop-again c = let q = spread-step _ _ _ _ 0 _ (c .before .before .before .before .before .before .before .before .before .before .loop .inv .1) (corner-is _ _ _ _ _ _ (c .before .before .before .before .corner-normal .ensures) (c .before .before .before .before .before .before .owner-of .ensures) (c .before .before .before .before .before .before .before .gather-of .ensures)) in let r = c .before .before .put3 .ensures ∙ q in (omega (arith, c .before .before .before .before .before .before .before .before .if1 .taken), r, made-length _ _ _ _ _ r (omega (arith, c .before .before .before .before .before .before .before .before .if1 .taken, c .before .before .before .before .before .before .before .before .before .before .before .before .before .pre .2)), summed-put (c .before .before .before .before .before .before .before .before .before .before .loop .floats) _ _ (c .before .before .before .before .before .before .before .before .before .before .loop .inv .3) (c .before .before .before .before .before .before .before .before .if1 .taken) (omega (arith, c .before .before .before .before .before .before .before .before .before .before .before .before .before .pre .2, c .before .before .before .before .before .before .before .before .before .before .loop .inv .2)) (c .before .before .put3 .ensures))
+loop-again c =
+    let c2 = c .before .before in
+    let c4 = c2 .before .before in
+    let c6 = c4 .before .before in
+    let c8 = c6 .before .before in
+    let c10 = c8 .before .before in
+    let c13 = c10 .before .before .before in
+    let q = spread-step _ _ _ _ 0 _ (c10 .loop .inv .1) (corner-is _ _ _ _ _ _ (c4 .corner-normal .ensures) (c6 .owner-of .ensures) (c6 .before .gather-of .ensures)) in let r = c2 .put3 .ensures ∙ q in (omega (arith, c8 .if1 .taken), r, made-length _ _ _ _ _ r (omega (arith, c8 .if1 .taken, c13 .pre .2)), summed-put (c10 .loop .floats) _ _ (c10 .loop .inv .3) (c8 .if1 .taken) (omega (arith, c13 .pre .2, c10 .loop .inv .2)) (c2 .put3 .ensures))
 
 same-length : tie.Need-same-length Inv-loop μ-loop
 same-length c = c .before .before .loop .inv .2

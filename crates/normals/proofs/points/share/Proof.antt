@@ -21,7 +21,10 @@ same-length : tie.Need-same-length
 same-length c = search needs
 
 returns-2 : tie.Need-returns-2
-returns-2 c = (c .before .before .sum-points .ensures .0, sums-all (c .before .before .sum-points .ensures .0) (c .before .before .before .before .before .before .before .before .pre .0) _ _ _ (c .before .before .before .before .enum-told2 .given .1) (omega arith) (c .before .before .sum-points .ensures .1))
+returns-2 c =
+    let c2 = c .before .before in
+    let c4 = c2 .before .before in
+    (c2 .sum-points .ensures .0, sums-all (c2 .sum-points .ensures .0) (c4 .before .before .before .before .pre .0) _ _ _ (c4 .enum-told2 .given .1) (omega arith) (c2 .sum-points .ensures .1))
 
 enum-known-rule : tie.Need-enum-known-rule
 enum-known-rule c = search needs

@@ -29,13 +29,22 @@ wide-requires : tie.Need-wide-requires Inv-loop μ-loop
 wide-requires c κs = search needs
 
 mul-load : tie.Need-mul-load Inv-loop μ-loop
-mul-load c = let R = c .before .before .before .before .before .before .pre .0 in omega (arith, All-getD (λ (g : ℕ). g < c .before .before .before .before .before .before .args .t .faces) (c .before .before .before .before .before .before .args .faces .now) (c .before .before .before .before .before .before .pre .1) 0 (c .before .before .before .loop .k) (c .before .before .loop-test .taken), c .wide .ensures)
+mul-load c =
+    let c2 = c .before .before in
+    let c6 = c2 .before .before .before .before in
+    let R = c6 .pre .0 in omega (arith, All-getD (λ (g : ℕ). g < c6 .args .t .faces) (c6 .args .faces .now) (c6 .pre .1) 0 (c2 .before .loop .k) (c2 .loop-test .taken), c .wide .ensures)
 
 add-load : tie.Need-add-load Inv-loop μ-loop
-add-load c = let R = c .before .before .before .before .before .before .before .pre .0 in omega (arith, All-getD (λ (g : ℕ). g < c .before .before .before .before .before .before .before .args .t .faces) (c .before .before .before .before .before .before .before .args .faces .now) (c .before .before .before .before .before .before .before .pre .1) 0 (c .before .before .before .before .loop .k) (c .before .before .before .loop-test .taken), c .before .wide .ensures)
+add-load c =
+    let c3 = c .before .before .before in
+    let c7 = c3 .before .before .before .before in
+    let R = c7 .pre .0 in omega (arith, All-getD (λ (g : ℕ). g < c7 .args .t .faces) (c7 .args .faces .now) (c7 .pre .1) 0 (c3 .before .loop .k) (c3 .loop-test .taken), c .before .wide .ensures)
 
 load-requires : tie.Need-load-requires Inv-loop μ-loop
-load-requires c κs = let R = c .before .before .before .before .before .before .before .pre .0 in omega (arith, All-getD (λ (g : ℕ). g < c .before .before .before .before .before .before .before .args .t .faces) (c .before .before .before .before .before .before .before .args .faces .now) (c .before .before .before .before .before .before .before .pre .1) 0 (c .before .before .before .before .loop .k) (c .before .before .before .loop-test .taken), c .before .wide .ensures)
+load-requires c κs =
+    let c3 = c .before .before .before in
+    let c7 = c3 .before .before .before .before in
+    let R = c7 .pre .0 in omega (arith, All-getD (λ (g : ℕ). g < c7 .args .t .faces) (c7 .args .faces .now) (c7 .pre .1) 0 (c3 .before .loop .k) (c3 .loop-test .taken), c .before .wide .ensures)
 
 add-requires : tie.Need-add-requires Inv-loop μ-loop
 add-requires c κs = search needs
@@ -48,7 +57,11 @@ loop-less c = omega arith
 
 loop-again : tie.Need-loop-again Inv-loop μ-loop
 unfolding normalIn
-loop-again c = (omega arith, left-step sumAll _ _ _ (c .before .before .before .before .before .before .loop .inv .1) (c .before .before .before .before .before .loop-test .taken) (all-one (c .before .before .before .before .before .before .before .before .before .args .work .now) (c .before .before .before .before .before .before .before .before .before .args .t) _ _ _ _ (c .before .before .before .wide .ensures) _ (c .before .load .ensures) (c .add .ensures)))
+loop-again c =
+    let c3 = c .before .before .before in
+    let c5 = c3 .before .before in
+    let c9 = c5 .before .before .before .before in
+    (omega arith, left-step sumAll _ _ _ (c5 .before .loop .inv .1) (c5 .loop-test .taken) (all-one (c9 .args .work .now) (c9 .args .t) _ _ _ _ (c3 .wide .ensures) _ (c .before .load .ensures) (c .add .ensures)))
 
 returns : tie.Need-returns Inv-loop μ-loop
 returns c = left-end sumAll _ _ _ refl (c .before .loop .inv .1) (omega arith) (all-none _)

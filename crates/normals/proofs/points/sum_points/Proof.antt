@@ -31,7 +31,10 @@ normalize-requires : tie.Need-normalize-requires Inv-loop μ-loop
 normalize-requires c κs = search needs
 
 store-unit-requires : tie.Need-store-unit-requires Inv-loop μ-loop
-store-unit-requires c κs = let R = c .before .before .before .before .before .before .before .before .before .pre .room in omega (arith, c .before .before .before .before .before .if1 .taken, c .before .before .before .before .before .before .before .loop .inv .1 .len)
+store-unit-requires c κs =
+    let c5 = c .before .before .before .before .before in
+    let c7 = c5 .before .before in
+    let R = c7 .before .before .pre .room in omega (arith, c5 .if1 .taken, c7 .loop .inv .1 .len)
 
 add-p : tie.Need-add-p Inv-loop μ-loop
 add-p c = search needs
@@ -41,9 +44,12 @@ loop-less c = search needs
 
 loop-again : tie.Need-loop-again Inv-loop μ-loop
 loop-again c =
-    let I = c .before .before .before .before .before .before .before .before .before .before .loop .inv in
-    let k = sums-next (I .1) (c .before .before .before .before .before .before .before .before .before .before .before .before .pre) _ _ _ (I .2) (c .before .before .before .before .before .before .sum-all .ensures) (c .before .before .before .normalize .ensures) (c .before .before .store-unit .ensures .0) (c .before .before .store-unit .ensures .1) in
-    (omega (arith, c .before .before .before .before .before .before .before .before .if1 .taken), k .0, k .1)
+    let c2 = c .before .before in
+    let c6 = c2 .before .before .before .before in
+    let c8 = c6 .before .before in
+    let I = c8 .before .before .loop .inv in
+    let k = sums-next (I .1) (c8 .before .before .before .before .pre) _ _ _ (I .2) (c6 .sum-all .ensures) (c2 .before .normalize .ensures) (c2 .store-unit .ensures .0) (c2 .store-unit .ensures .1) in
+    (omega (arith, c8 .if1 .taken), k .0, k .1)
 
 same-length : tie.Need-same-length Inv-loop μ-loop
 same-length c = c .before .before .loop .inv .1 .len

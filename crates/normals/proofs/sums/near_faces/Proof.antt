@@ -43,13 +43,22 @@ mul-near-step : tie.Need-mul-near-step Inv-loop μ-loop
 mul-near-step c = let R = c .before .before .before .before .before .before .before .before .before .before .pre .0 .room in omega arith
 
 mul-near-step-2 : tie.Need-mul-near-step-2 Inv-loop μ-loop
-mul-near-step-2 c = let R = c .before .before .before .before .before .before .before .before .before .before .pre .0 .room in omega (arith, all-low (c .before .before .before .before .before .before .before .before .before .before .args .t .faces) (c .before .before .before .before .before .before .before .before .before .before .args .faces .now) (c .before .before .before .before .before .before .before .before .before .before .pre .1) _ _ (c .before .before .before .loop-test .taken) (c .before .wide .ensures), c .before .before .before .before .before .before .before .before .before .before .pre .3 .room)
+mul-near-step-2 c =
+    let c3 = c .before .before .before in
+    let c10 = c3 .before .before .before .before .before .before .before in
+    let R = c10 .pre .0 .room in omega (arith, all-low (c10 .args .t .faces) (c10 .args .faces .now) (c10 .pre .1) _ _ (c3 .loop-test .taken) (c .before .wide .ensures), c10 .pre .3 .room)
 
 add-near-step : tie.Need-add-near-step Inv-loop μ-loop
-add-near-step c = let R = c .before .before .before .before .before .before .before .before .before .before .pre .0 .room in omega (arith, all-low (c .before .before .before .before .before .before .before .before .before .before .args .t .faces) (c .before .before .before .before .before .before .before .before .before .before .args .faces .now) (c .before .before .before .before .before .before .before .before .before .before .pre .1) _ _ (c .before .before .before .loop-test .taken) (c .before .wide .ensures), c .before .before .before .before .before .before .before .before .before .before .pre .3 .room)
+add-near-step c =
+    let c3 = c .before .before .before in
+    let c10 = c3 .before .before .before .before .before .before .before in
+    let R = c10 .pre .0 .room in omega (arith, all-low (c10 .args .t .faces) (c10 .args .faces .now) (c10 .pre .1) _ _ (c3 .loop-test .taken) (c .before .wide .ensures), c10 .pre .3 .room)
 
 near-step-requires : tie.Need-near-step-requires Inv-loop μ-loop
-near-step-requires c κs = let R = c .before .before .before .before .before .before .before .before .before .before .pre .0 .room in omega (arith, all-low (c .before .before .before .before .before .before .before .before .before .before .args .t .faces) (c .before .before .before .before .before .before .before .before .before .before .args .faces .now) (c .before .before .before .before .before .before .before .before .before .before .pre .1) _ _ (c .before .before .before .loop-test .taken) (c .before .wide .ensures), c .before .before .before .before .before .before .before .before .before .before .pre .3 .room)
+near-step-requires c κs =
+    let c3 = c .before .before .before in
+    let c10 = c3 .before .before .before .before .before .before .before in
+    let R = c10 .pre .0 .room in omega (arith, all-low (c10 .args .t .faces) (c10 .args .faces .now) (c10 .pre .1) _ _ (c3 .loop-test .taken) (c .before .wide .ensures), c10 .pre .3 .room)
 
 add-k : tie.Need-add-k Inv-loop μ-loop
 add-k c = omega (arith, c .before .before .before .before .loop-test .taken, c .before .before .before .before .before .before .before .before .before .before .before .good)
@@ -58,10 +67,17 @@ loop-less : tie.Need-loop-less Inv-loop μ-loop
 loop-less c = omega arith
 
 loop-again : tie.Need-loop-again Inv-loop μ-loop
-loop-again c = let l = all-low (c .before .before .before .before .before .before .before .before .before .before .before .args .t .faces) (c .before .before .before .before .before .before .before .before .before .before .before .args .faces .now) (c .before .before .before .before .before .before .before .before .before .before .before .pre .1) _ _ (c .before .before .before .before .loop-test .taken) (c .before .before .wide .ensures) in (omega arith, left-step (sumNear _ _ _) _ _ _ (c .before .before .before .before .before .loop .inv .1) (c .before .before .before .before .loop-test .taken) (near-one _ _ _ _ _ _ (c .before .before .wide .ensures) _ _ _ _ _ (c .before .before .before .before .before .before .before .before .before .before .before .pre .0) l (c .before .before .before .before .before .before .before .before .before .before .before .pre .3 .unit _ l) (c .before .before .before .before .before .before .before .before .before .before .before .pre .3 .normal _ l) (c .near-step .ensures)))
+loop-again c =
+    let c2 = c .before .before in
+    let c4 = c2 .before .before in
+    let c11 = c4 .before .before .before .before .before .before .before in
+    let l = all-low (c11 .args .t .faces) (c11 .args .faces .now) (c11 .pre .1) _ _ (c4 .loop-test .taken) (c2 .wide .ensures) in (omega arith, left-step (sumNear _ _ _) _ _ _ (c4 .before .loop .inv .1) (c4 .loop-test .taken) (near-one _ _ _ _ _ _ (c2 .wide .ensures) _ _ _ _ _ (c11 .pre .0) l (c11 .pre .3 .unit _ l) (c11 .pre .3 .normal _ l) (c .near-step .ensures)))
 
 returns : tie.Need-returns Inv-loop μ-loop
-returns c = left-end (sumNear _ _ _) _ _ _ (c .before .before .get3 .ensures ∙ c .before .before .before .before .before .before .before .pre .3 .normal _ (c .before .before .before .before .before .before .before .pre .2)) (c .before .loop .inv .1) (omega arith) (near-nothing _ _ _ _)
+returns c =
+    let c2 = c .before .before in
+    let c7 = c2 .before .before .before .before .before in
+    left-end (sumNear _ _ _) _ _ _ (c2 .get3 .ensures ∙ c7 .pre .3 .normal _ (c7 .pre .2)) (c .before .loop .inv .1) (omega arith) (near-nothing _ _ _ _)
 
 pub near-faces-spec : {M : Type 1} → statement M
 near-faces-spec =

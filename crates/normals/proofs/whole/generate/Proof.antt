@@ -16,8 +16,10 @@ share-requires c κs = (c .before .before .before .before .prepare .ensures .rea
 
 corner-normals-requires : tie.Need-corner-normals-requires
 corner-normals-requires c κs =
-    let M = made-kept (c .before .before .before .before .before .before .before .before .before .before .before .prepare .ensures) (c .before .before .before .before .before .before .share .ensures .0) in
-    (M .ready, c .before .before .before .before .before .before .share .ensures .1, omega (arith, c .before .before .before .before .before .before .before .before .before .before .before .before .before .before .before .pre .1, c .before .before .before .before .before .before .share .kept .1 .1 .1 .0))
+    let c6 = c .before .before .before .before .before .before in
+    let c11 = c6 .before .before .before .before .before in
+    let M = made-kept (c11 .prepare .ensures) (c6 .share .ensures .0) in
+    (M .ready, c6 .share .ensures .1, omega (arith, c11 .before .before .before .before .pre .1, c6 .share .kept .1 .1 .1 .0))
 
 same-length : tie.Need-same-length
 same-length c = search needs
