@@ -22,7 +22,10 @@ words-at-requires : tie.Need-words-at-requires Inv-loop μ-loop
 words-at-requires c κs = search needs
 
 mend-one-requires : tie.Need-mend-one-requires Inv-loop μ-loop
-mend-one-requires c κs = (c .before .before .before .before .before .before .before .before .before .pre .0, c .before .before .before .before .before .before .before .before .before .pre .1, omega arith, c .before .before .before .before .loop .inv .2)
+mend-one-requires c κs =
+    let c4 = c .before .before .before .before in
+    let c9 = c4 .before .before .before .before .before in
+    (c9 .pre .0, c9 .pre .1, omega arith, c4 .loop .inv .2)
 
 put-words-requires : tie.Need-put-words-requires Inv-loop μ-loop
 put-words-requires c κs = search needs
@@ -35,7 +38,10 @@ loop-less c = search needs
 
 loop-again : tie.Need-loop-again Inv-loop μ-loop
 loop-again c =
-    (mending-go _ _ _ _ _ _ _ _ _ (c .before .before .before .before .before .before .before .before .before .before .loop-test .taken) (c .before .before .before .before .before .before .before .before .words-at .ensures) (c .before .before .before .before .before .before .mend-one .ensures .0) (c .before .before .put-words .kept .0) (c .before .before .put-words .ensures) (c .before .before .before .before .before .before .before .before .before .before .before .loop .inv .0), search needs, c .before .before .before .before .before .before .mend-one .ensures .1)
+    let c2 = c .before .before in
+    let c6 = c2 .before .before .before .before in
+    let c8 = c6 .before .before in
+    (mending-go _ _ _ _ _ _ _ _ _ (c8 .before .before .loop-test .taken) (c8 .words-at .ensures) (c6 .mend-one .ensures .0) (c2 .put-words .kept .0) (c2 .put-words .ensures) (c8 .before .before .before .loop .inv .0), search needs, c6 .mend-one .ensures .1)
 
 same-length : tie.Need-same-length Inv-loop μ-loop
 same-length c = c .before .loop .inv .0 .long

@@ -13,8 +13,9 @@ bucket-of-requires c κs =
 
 find-requires : tie.Need-find-requires
 find-requires c κs =
-    let P = c .before .before .before .before .before .before .before .before .before .before .before .before .before .pre in
-    (roomy-le _ (P .room .roomy) (omega arith), P .words, laid-le _ (P .room .laid) (omega arith), P .chained, c .before .before .before .before .before .bucket-of .ensures .0, c .before .before .before .before .before .bucket-of .ensures .1)
+    let c5 = c .before .before .before .before .before in
+    let P = c5 .before .before .before .before .before .before .before .before .pre in
+    (roomy-le _ (P .room .roomy) (omega arith), P .words, laid-le _ (P .room .laid) (omega arith), P .chained, c5 .bucket-of .ensures .0, c5 .bucket-of .ensures .1)
 
 enum-known-known : tie.Need-enum-known-known
 enum-known-known c = search needs

@@ -47,7 +47,11 @@ same-length : tie.Need-same-length Inv-loop μ-loop
 same-length c = search needs
 
 returns : tie.Need-returns Inv-loop μ-loop
-returns c = rw (c .before .before .before .before .before .before .before .if1 .taken, seg-three (c .before .before .before .before .before .before .before .before .before .before .args .src .now) (c .before .before .before .before .before .before .before .before .before .before .args .j) (omega (arith, c .before .before .before .before .before .before .before .before .before .before .pre .1, c .before .before .before .before .before .before .before .if1 .taken))) (c .before .before .put-three .ensures)
+returns c =
+    let c2 = c .before .before in
+    let c7 = c2 .before .before .before .before .before in
+    let c10 = c7 .before .before .before in
+    rw (c7 .if1 .taken, seg-three (c10 .args .src .now) (c10 .args .j) (omega (arith, c10 .pre .1, c7 .if1 .taken))) (c2 .put-three .ensures)
 
 loop-holds : tie.Need-loop-holds Inv-loop μ-loop
 loop-holds c = (omega arith, rw (add-zero, sub-zero, add-zero), refl)
