@@ -27,6 +27,8 @@ SIGNATURE = re.compile(r'^(?:(?:unfoldable|abbrev|pub) )*([^\s({]+)(?: \{[^}]*\}
 # What gives `c` another meaning inside an answer, and words whose parts are not looked into.
 OTHER_C = re.compile(r'λ(?:(?!\.\s).)*?(?<![^\s({,])c(?! \.)(?=[\s.:,)}])|\blet \(?c[ ,:=]|\bc ←', re.S)
 UNREAD = re.compile(OPEN + r'(?:elim|where|do)\b' + SHUT)
+# An answer that the prover finds by itself: its signature, and one clause.
+FOUND = re.compile(r'\S+ : tie\.Need-.*\n\S+ c((?: κs)?) = search needs')
 # What reads all that is in scope, up to a bound: a name more there may keep it from a fact that lies further back.
 READS_SCOPE = re.compile(OPEN + '(?:omega|search|cc)' + SHUT)
 BOLD = '@@ '  # before a folded answer: name its places all the same
@@ -440,6 +442,26 @@ def all_unfolded(text, generated):
     return text
 
 
+def settle(files, _generated):
+    return laid_out(each(files, settled))
+
+
+def settled(text):
+    """The text with each answer that is `search needs` and no more in the list that the proof ends with."""
+    start, definitions = parts_of(text)
+    if not definitions or 'tie.spec' not in definitions[-1].text():
+        return text
+    others, ending = definitions[:-1], definitions[-1].text()
+    for answer in definitions[:-1]:
+        found = FOUND.fullmatch(answer.text().strip())
+        name = re.compile(OPEN + re.escape(answer.name) + SHUT)
+        left = [other for other in others if other is not answer]
+        if found and len(name.findall(ending)) == 1 and not any(name.search(other.text()) for other in left):
+            ending = name.sub(f'(λ {answer.name}{found[1]}. search needs)', ending)
+            others = left
+    return whole(start, others) + ending
+
+
 def each(files, change):
     done = {}
     for path, text in files.items():
@@ -588,6 +610,8 @@ def main():
                   lambda given: rewrite_all(fold, given))
     verb = add_rewriting(verbs, 'expand', "turn '@name' into paths, and name far places once", expand_as_told)
     verb.add_argument('--bold', action='store_true', help='name them where omega, search or cc read the names too')
+    add_rewriting(verbs, 'settle', "put each answer that is 'search needs' into the list that the proof ends with",
+                  lambda given: rewrite_all(settle, given))
     add_looking(verbs)
     given = told.parse_args()
     try:

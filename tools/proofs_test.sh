@@ -70,6 +70,14 @@ for crate in "${tried[@]}"; do
     proofs copy expand "$crate" --generated "target/goals/$crate"
 done
 
+part=$work/copy/crates/bits/proofs/part/Proof.antt
+proofs copy settle bits && grep -q '^    (λ sub-if2\. search needs)$' "$part" && ! grep -q '^sub-if2 c' "$part" && grep -q '^returns c' "$part"
+tally 'an answer that is found by itself goes into the list' $?
+(cd "$work/copy" && rt dev bits > "$work/said" 2>&1)
+tally 'and is found there' $?
+proofs copy settle bits && [ ! -s "$work/said" ]
+tally 'settled again changes nothing' $?
+
 word=$work/copy/crates/bits/proofs/word/Proof.antt
 goals=(--generated target/goals/bits)
 cp "$word" "$work/word"
