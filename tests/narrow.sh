@@ -30,12 +30,14 @@ file=crates/math/src/square_root.rt
 ! grep -nwE '[ui](64|128|size)|f64' "$file"
 tally "no wider type is named in $file" $?
 
-code=$(code_under math math::square_root::root)
-tally 'the code of the root' $?
-! wider <<< "$code"
-tally 'no value of the root is wider than 32 bits' $?
-! cut -d'"' -f2 <<< "$code" | grep -v '^math::square_root::'
-tally "the root calls nothing outside of $file" $?
+for name in root roots; do
+    code=$(code_under math "math::square_root::$name")
+    tally "the code of $name" $?
+    ! wider <<< "$code"
+    tally "no value of $name is wider than 32 bits" $?
+    ! cut -d'"' -f2 <<< "$code" | grep -v '^math::square_root::'
+    tally "$name calls nothing outside of $file" $?
+done
 
 # A function with an index of 64 bits, so that the look is seen to see one.
 [ -n "$(code_under lists lists::get | wider)" ]

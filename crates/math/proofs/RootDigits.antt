@@ -13,6 +13,12 @@ shift-even g m e = ap (λ (k : ℕ). m * 2 ^ (25 + k)) (sym e)
 pub shift-odd : (g m : ℕ) → g % 2 ≡ 1 → m * 67108864 ≡ m * 2 ^ (25 + g % 2)
 shift-odd g m e = ap (λ (k : ℕ). m * 2 ^ (25 + k)) (sym e)
 
+pub shift-either : (g m : ℕ) → m * 128 * (1 + g % 2) * 2 ^ 18 ≡ m * 2 ^ (25 + g % 2)
+shift-either g m = elim (parity g) [ inl e ↦ rw e (omega arith) | inr e ↦ rw e (omega arith) ]
+
+pub shift-fits : (g m : ℕ) → m * 128 * (1 + g % 2) ≤ m * 256
+shift-fits g m = elim (parity g) [ inl e ↦ rw e (omega arith) | inr e ↦ rw e (omega arith) ]
+
 module _ (g m : ℕ) (large : 2 ^ 23 ≤ m) (small : m < 2 ^ 24) where
   pub shifted-small : m * 2 ^ (25 + g % 2) ≤ 1125899839733760
   shifted-small = elim (parity g) [ inl e ↦ omega (arith, shift-even g m e) | inr e ↦ omega (arith, shift-odd g m e) ]

@@ -16,6 +16,7 @@ use lib.Ieee.Digits.{size-le}
 use lib.Ieee.Fits.{up-pos, down-pos, kept-lt, and-l, and-r}
 use Rattle.math.specs.SquareRoot.{rootOf, rootBits}
 use Rattle.math.specs.Vector.{zeroF}
+use Rattle.math.specs.Digit.{Plain, plain}
 use Rattle.math.proofs.Units.{down-fits}
 
 -- bits up to those of infinity are no NaN's
@@ -144,3 +145,23 @@ positive-in x p h =
 
 pub positive-root : (x : Float) → Positive x → ofBits binary32 (rootBits (toBits binary32 x)) ≡ rootOf x
 positive-root x p = subst (λ (y : Float). ofBits binary32 (rootBits (toBits binary32 y)) ≡ rootOf y) (sym (p .is)) (unfold rootOf in refl)
+
+-- ---- a value that is known to be plain
+
+both : (a b : Bool) → (a && b) ≡ true → (a ≡ true) × (b ≡ true)
+both true b h = (refl, h)
+both false b h = absurd (true≢false (sym h))
+
+pub plain-positive : (x : Float) → plain x ≡ true → Positive x
+unfolding plain
+plain-positive x h =
+    let k = both (lt zeroF x && lt x infF) (ltb 8388607 (toBits binary32 x)) h in
+    let m = both (lt zeroF x) (lt x infF) (k .0) in
+    above-finite x (m .0) (m .1)
+
+pub plain-in : (x : Float) → plain x ≡ true → T (fits binary32 x) → Plain (toBits binary32 x)
+unfolding plain
+plain-in x h f =
+    let k = both (lt zeroF x && lt x infF) (ltb 8388607 (toBits binary32 x)) h in
+    let l = ltb-true 8388607 (toBits binary32 x) (k .1) in
+    (omega (arith, l), positive-in x (plain-positive x h) f .1)

@@ -2,6 +2,7 @@
 ghost use mathlib.Core.Path.{_≡_};
 ghost use Rattle.math.specs.Vector.{vadd, vsub, vscale, vdot, vcross, vlen, unitBy, unitOf};
 use crate::square_root::root;
+use crate::square_root::roots;
 use crate::word::is_finite;
 
 pub struct V3 {
@@ -84,4 +85,24 @@ pub fn normalize(a: V3) -> Unit
     ensures { λ r. ⌜ r ≡ unitOf a ⌝ }
 {
     unit_by(a, len(a))
+}
+
+pub struct Units {
+    pub a: Unit,
+    pub b: Unit,
+    pub c: Unit,
+    pub d: Unit,
+}
+
+// Four vectors normalised: their roots are taken together.
+pub fn normalize_four(a: V3, b: V3, c: V3, d: V3) -> Units
+    ensures { λ r. ⌜ (r .a ≡ unitOf a) × (r .b ≡ unitOf b) × (r .c ≡ unitOf c) × (r .d ≡ unitOf d) ⌝ }
+{
+    let l = roots(dot(a, a), dot(b, b), dot(c, c), dot(d, d));
+    Units {
+        a: unit_by(a, l.a),
+        b: unit_by(b, l.b),
+        c: unit_by(c, l.c),
+        d: unit_by(d, l.d),
+    }
 }
