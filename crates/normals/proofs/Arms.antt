@@ -1,9 +1,10 @@
 -- One law for each way out of the functions that branch.
-use mathlib.Core.Path.{_≡_, sym, ap, _∙_}
-use mathlib.Core.Bool.{true, false}
+use mathlib.Core.Path.{_≡_, refl, sym, ap, _∙_}
+use mathlib.Core.Bool.{Bool, true, false, cond}
 use mathlib.Core.List.{List}
 use Prim.Native.Nat.{ℕ}
 use borrow.Author.Tests.{eq-eqb, ne-eqb}
+use lib.Dec.{eqb}
 use lib.Ieee.{Float, lt}
 use Rattle.math.specs.declared.vector.V3.{V3}
 use Rattle.math.specs.declared.vector.Unit.{Unit}
@@ -22,14 +23,19 @@ module _ (b : Float) (own : ℕ) (u : V3) (g : ℕ) (s n : V3) where
   unfolding nearBy
   near-own k e = rw (eq-eqb g own e)
 
-  module _ (v v′ : V3) (d : g ≡ own → ⊥) (e : v′ ≡ v) (c : Float) (h : c ≡ vdot u v′) where
+  module _ (v v′ : V3) (e : v′ ≡ v) (c : Float) (h : c ≡ vdot u v′) where
+    -- whether it is the own face or not
     pub near-far : lt b c ≡ false → s ≡ nearBy b own u g (Of v) s n
     unfolding nearBy isNear
-    near-far q = rw (ne-eqb g own d, ← e, ← h, q)
+    near-far q = rw (← e, ← h, q) (sym (either (eqb g own)))
+      where
+        either : (a : Bool) → cond a s s ≡ s
+        either true = refl
+        either false = refl
 
-    pub near-yes : (m r : V3) → lt b c ≡ true → m ≡ n → r ≡ vadd s m → r ≡ nearBy b own u g (Of v) s n
+    pub near-yes : (m r : V3) → (g ≡ own → ⊥) → lt b c ≡ true → m ≡ n → r ≡ vadd s m → r ≡ nearBy b own u g (Of v) s n
     unfolding nearBy isNear
-    near-yes m r q i j = rw (ne-eqb g own d, ← e, ← h, q) (j ∙ ap (vadd s) i)
+    near-yes m r d q i j = rw (ne-eqb g own d, ← e, ← h, q) (j ∙ ap (vadd s) i)
 
 module _ (own : ℕ) (n : V3) (hs : List Hit) (rule : CreaseRule) (r : Unit) where
   pub unit-own : rule ≡ Own → r ≡ unitOf n → r ≡ unitOf (creaseSum rule own n hs)
@@ -50,8 +56,8 @@ module _ (own : ℕ) (n : V3) (hs : List Hit) (rule : CreaseRule) (r : Unit) whe
     unfolding creaseSum nearSum
     unit-bound-none i q = let alone : n ≡ creaseSum rule own n hs = rw (e, ← h, i) in q ∙ sym i ∙ h ∙ ap unitOf alone
 
-pub normal-made : (w : List ℕ) (t : Plan) (rule : CreaseRule) (own p : ℕ) (d r : V3) (k j : Unit)
-    → k ≡ unitOf (creaseSum rule own (normalIn w t own) (hitsAt w t p)) → j ≡ unitOf (normalIn w t own) → d ≡ orElse j yAxis → r ≡ orElse k d
+pub normal-made : (w : List ℕ) (t : Plan) (rule : CreaseRule) (own p : ℕ) (r : V3) (k : Unit)
+    → k ≡ unitOf (creaseSum rule own (normalIn w t own) (hitsAt w t p)) → r ≡ orElse k (orElse (unitOf (normalIn w t own)) yAxis)
     → r ≡ normalAt w t rule own p
 unfolding normalAt
-normal-made w t rule own p d r k j ek ej ed er = er ∙ λ z. orElse (ek z) ((ed ∙ ap (λ (q : Unit). orElse q yAxis) ej) z)
+normal-made w t rule own p r k ek er = er ∙ ap (λ (q : Unit). orElse q (orElse (unitOf (normalIn w t own)) yAxis)) ek

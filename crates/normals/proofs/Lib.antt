@@ -8,4 +8,5 @@ mod Making
 mod Floats
 mod Summing
 mod Soups
+mod Begun
 pub mod Joined

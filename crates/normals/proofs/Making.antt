@@ -1,7 +1,7 @@
 -- The tables, written one after another: what was written stays.
-use mathlib.Core.Path.{_≡_, refl, sym, ap, ap₂, _∙_}
-use mathlib.Core.Logic.{⊎-elim}
-use mathlib.Core.Bool.{Bool, cond}
+use mathlib.Core.Path.{_≡_, refl, sym, ap, ap₂, _∙_, subst}
+use mathlib.Core.Logic.{_⊎_, inl, inr, ⊎-elim}
+use mathlib.Core.Bool.{Bool, true, false, cond}
 use mathlib.Core.List.{List}
 use Prim.Native.Nat.{ℕ, zero, suc, _+_, _*_, _-_, _≤_, _<_}
 use native.Mathlib.Nat.{not-suc-le-zero}
@@ -84,13 +84,42 @@ rowed-step {v} {w} {w′} {t} {ccw} g n R K en eu f = record {
 
 -- ---- a turn of the loops
 
-pub rows-next : {v w w′ : List ℕ} {t : Plan} {ccw : Bool} (g : ℕ) (n : V3) → Sound v t → Kept (t .rows) v w → Rowed v w t ccw g → g < t .faces
-    → n ≡ facingIn w t ccw g → Kept (t .rows + 7 * g) w w′ → at3 w′ (t .rows + 7 * g) ≡ n → unitAt w′ (t .rows + 7 * g + 3) ≡ unitOf n
-    → Kept (t .rows) v w′ × Sound w′ t × Rowed v w′ t ccw (g + 1)
-rows-next {v} {w} {w′} {t} {ccw} g n S K P k en L e3 eu =
-    let R = S .room in
-    let M = kept-then K L (omega arith) in
-    (M, sound-kept M t (omega arith) S, rowed-step g n P L e3 eu (en ∙ facing-kept K t (omega arith) S ccw g k))
+-- the next row, of a face whose facing normal is n
+abbrev pub Row : Plan → List ℕ → List ℕ → ℕ → V3 → Type 0
+Row t w w′ g n = Kept (t .rows + 7 * g) w w′ × (at3 w′ (t .rows + 7 * g) ≡ n) × (unitAt w′ (t .rows + 7 * g + 3) ≡ unitOf n)
+
+module _ {v : List ℕ} {t : Plan} (ccw : Bool) (S : Sound v t) where
+  rows-more : {w w′ : List ℕ} (g : ℕ) (n : V3) → Kept (t .rows) v w → Rowed v w t ccw g → g < t .faces → n ≡ facingIn v t ccw g → Row t w w′ g n
+      → Kept (t .rows) v w′ × Sound w′ t × Rowed v w′ t ccw (g + 1)
+  rows-more {w} {w′} g n K P k en (L, e3, eu) =
+      let R = S .room in
+      let M = kept-then K L (omega arith) in
+      (M, sound-kept M t (omega arith) S, rowed-step g n P L e3 eu en)
+
+  here : {w : List ℕ} (g : ℕ) (n : V3) → Kept (t .rows) v w → g < t .faces → n ≡ facingIn w t ccw g → n ≡ facingIn v t ccw g
+  here {w} g n K k en = let R = S .room in en ∙ facing-kept K t (omega arith) S ccw g k
+
+  pub rows-next : {w w′ : List ℕ} (g : ℕ) (n : V3) → Kept (t .rows) v w → Rowed v w t ccw g → g < t .faces → n ≡ facingIn w t ccw g → Row t w w′ g n
+      → Kept (t .rows) v w′ × Sound w′ t × Rowed v w′ t ccw (g + 1)
+  rows-next g n K P k en L = rows-more g n K P k (here g n K k en) L
+
+  pub rows-four : {w w₁ w₂ w₃ w₄ : List ℕ} (g : ℕ) (a b c d : V3) → Kept (t .rows) v w → Rowed v w t ccw g → g + 3 < t .faces
+      → a ≡ facingIn w t ccw g → b ≡ facingIn w t ccw (g + 1) → c ≡ facingIn w t ccw (g + 2) → d ≡ facingIn w t ccw (g + 3)
+      → Row t w w₁ g a → Row t w₁ w₂ (g + 1) b → Row t w₂ w₃ (g + 2) c → Row t w₃ w₄ (g + 3) d
+      → Kept (t .rows) v w₄ × Sound w₄ t × Rowed v w₄ t ccw (g + 4)
+  rows-four {w} {w₁} {w₂} {w₃} {w₄} g a b c d K P k ea eb ec ed L₁ L₂ L₃ L₄ =
+      let r₁ = rows-more g a K P (omega arith) (here g a K (omega arith) ea) L₁ in
+      let r₂ = rows-more (g + 1) b (r₁ .0) (r₁ .2) (omega arith) (here (g + 1) b K (omega arith) eb) L₂ in
+      let q₂ : g + 1 + 1 ≡ g + 2 = omega arith in
+      let r₃ = rows-more (g + 2) c (r₂ .0) (subst (λ (n : ℕ). Rowed v w₂ t ccw n) q₂ (r₂ .2)) (omega arith) (here (g + 2) c K (omega arith) ec) L₃ in
+      let q₃ : g + 2 + 1 ≡ g + 3 = omega arith in
+      let r₄ = rows-more (g + 3) d (r₃ .0) (subst (λ (n : ℕ). Rowed v w₃ t ccw n) q₃ (r₃ .2)) (omega arith) (here (g + 3) d K (omega arith) ed) L₄ in
+      let q₄ : g + 3 + 1 ≡ g + 4 = omega arith in
+      (r₄ .0, r₄ .1, subst (λ (n : ℕ). Rowed v w₄ t ccw n) q₄ (r₄ .2))
+
+-- the tables below the rows are as they were
+pub row-sound : {w w′ : List ℕ} {t : Plan} → Sound w t → (g : ℕ) (n : V3) → g < t .faces → Row t w w′ g n → Sound w′ t
+row-sound {w} {w′} {t} S g n k (L, e3, eu) = let R = S .room in sound-kept L t (omega arith) S
 
 -- ---- three words stored
 

@@ -60,6 +60,10 @@ pub record Rowed (v w : List ℕ) (t : Plan) (ccw : Bool) (n : ℕ) : Type 0 whe
   pub normal : (g : ℕ) → g < n → normalIn w t g ≡ facingIn v t ccw g
   pub unit : (g : ℕ) → g < n → unitIn w t g ≡ unitOf (normalIn w t g)
 
+-- from g rows to n: where the first g are made, from whatever words, the first n are
+abbrev pub Onward : List ℕ → List ℕ → Plan → Bool → ℕ → ℕ → Type 0
+Onward w w′ t ccw g n = (v : List ℕ) → Sound v t → Kept (t .rows) v w → Rowed v w t ccw g → Kept (t .rows) v w′ × Sound w′ t × Rowed v w′ t ccw n
+
 -- each corner's face is in the table of owners
 abbrev pub Owned : List ℕ → Plan → Type 0
 Owned w t = OwnedTo w w t (t .faces)

@@ -1,20 +1,22 @@
 -- FORMAT 10.2, generate_normals: a corner's normal by the tables, and what is written: the generated normals of the soup, three floats a corner.
 use mathlib.Core.Path.{_≡_}
-use mathlib.Core.Bool.{Bool}
-use mathlib.Core.List.{List, [], _∷_, map}
-use Prim.Native.Nat.{ℕ, _*_}
+use mathlib.Core.Bool.{Bool, _&&_}
+use mathlib.Core.List.{List, [], _∷_, _++_, map}
+use Prim.Native.Nat.{ℕ, _*_, _≤_}
+use lib.Dec.{eqb}
 use lib.Ieee.{Float}
-use lib.ListN.{take}
+use lib.ListN.{length, take, drop}
 use Rattle.math.specs.declared.vector.V3.{V3}
 use Rattle.math.specs.Vector.{yAxis, unitOf}
 use Rattle.block.specs.declared.crease.CreaseRule.{CreaseRule}
 use Rattle.lists.specs.Lists.{joinN, flat}
+use Rattle.lists.specs.Loops.{tab}
 use Rattle.mesh.specs.Soup.{Corner, Face, Frame}
 use Rattle.mesh.specs.Normals.{creaseSum, orElse, generated}
 use Rattle.tables.specs.declared.layout.Plan.{Plan}
 use Rattle.lists.specs.Parts.{Kept}
 use Rattle.tables.specs.Soups.{gatherIn, ownerIn, soupIn, frameIn}
-use Rattle.normals.specs.Rows.{normalIn, hitsAt}
+use Rattle.normals.specs.Rows.{normalIn, hitsAt, Summed}
 
 -- the normal of a corner of face `own` that is gathered under p; the normal of corner c
 unfoldable pub normalAt : List ℕ → Plan → CreaseRule → ℕ → ℕ → V3
@@ -24,6 +26,14 @@ normalAt w t rule own p =
 
 unfoldable pub cornerNormalIn : List ℕ → Plan → CreaseRule → ℕ → V3
 cornerNormalIn w t rule c = normalAt w t rule (ownerIn w t c) (gatherIn w t c)
+
+-- the sum at corner c by the crease rule
+unfoldable pub cornerSumIn : List ℕ → Plan → CreaseRule → ℕ → V3
+cornerSumIn w t rule c = creaseSum rule (ownerIn w t c) (normalIn w t (ownerIn w t c)) (hitsAt w t (gatherIn w t c))
+
+-- whether corners c and d are of one face and gathered under one number
+unfoldable pub again : List ℕ → Plan → ℕ → ℕ → Bool
+again w t c d = eqb (gatherIn w t c) (gatherIn w t d) && eqb (ownerIn w t c) (ownerIn w t d)
 
 -- the floats of a vector; of vectors, one after another
 abbrev pub three : V3 → List Float
@@ -44,3 +54,14 @@ normalsOf F fs = joinN (faceNormals F fs) 0 fs
 pub record Generated (w w′ : List ℕ) (t : Plan) (ccw : Bool) (rule : CreaseRule) (e : List Float) : Type 0 where
   pub kept : Kept (t .owners) w w′
   pub normals : take (3 * t .count) e ≡ spread (normalsOf (frameIn w t ccw rule) (soupIn w t))
+
+-- d are the floats before and e those after: the normals of the first n corners stand in front, and what the rule asks for is as it was
+pub record Begun (d e : List Float) (w : List ℕ) (t : Plan) (rule : CreaseRule) (n : ℕ) : Type 0 where
+  pub within : n ≤ t .count
+  pub is : e ≡ spread (tab (cornerNormalIn w t rule) n 0) ++ drop (3 * n) d
+  pub size : length e ≡ length d
+  pub summed : Summed w t rule e
+
+-- from n normals to m: where the first n are made, in whatever floats, the first m are
+abbrev pub Continued : List Float → List Float → List ℕ → Plan → CreaseRule → ℕ → ℕ → Type 0
+Continued e e′ w t rule n m = (d : List Float) → 3 * t .count ≤ length d → Begun d e w t rule n → Begun d e′ w t rule m

@@ -5,9 +5,10 @@ ghost use lib.ListN.{length};
 ghost use Rattle.math.specs.Vector.{unitOf};
 ghost use Rattle.lists.specs.Parts.{Kept};
 ghost use Rattle.tables.specs.Soups.{Sound};
-ghost use Rattle.normals.specs.Rows.{at3, unitAt, facingIn, OwnedTo, Rowed};
+ghost use Rattle.normals.specs.Rows.{at3, unitAt, facingIn, OwnedTo, Rowed, Onward};
 use crate::vectors::store_unit;
 use crate::vectors::store3;
+use math::Unit;
 use math::V3;
 use tables::Plan;
 use tables::fill;
@@ -41,13 +42,56 @@ fn face_normal(work: &[u32], t: Plan, ccw: bool, g: usize) -> V3
     polygon::handed_of(ccw, n)
 }
 
-// A face's row: its facing normal, and its unit vector.
-fn put_row(work: &mut [u32], a: usize, v: V3)
-    requires { ⌜ a + 7 ≤ length (now work) ⌝ }
+// A face's row: its facing normal v, and its unit vector k.
+fn put_row(work: &mut [u32], a: usize, v: V3, k: Unit)
+    requires { ⌜ (a + 7 ≤ length (now work)) × (k ≡ unitOf v) ⌝ }
     ensures { λ _. ⌜ Kept a (now (work .entry)) (now (work .exit)) × (at3 (now (work .exit)) a ≡ v) × (unitAt (now (work .exit)) (a + 3) ≡ unitOf v) ⌝ }
 {
     store3(work, a, v);
-    store_unit(work, a + 3, math::normalize(v));
+    store_unit(work, a + 3, k);
+}
+
+// The rows of the faces, four at a time, and how many they are.
+fn rows_by_fours(work: &mut [u32], t: Plan, ccw: bool) -> usize
+    requires { ⌜ Sound (now work) t ⌝ }
+    ensures { λ r. ⌜ (r ≤ t .faces) × Kept (t .rows) (now (work .entry)) (now (work .exit)) × Sound (now (work .exit)) t × Rowed (now (work .entry)) (now (work .exit)) t ccw r ⌝ }
+{
+    let mut g = 0;
+    while g + 3 < t.faces {
+        let p = t.rows + 7 * g;
+        let q = t.rows + 7 * (g + 1);
+        let r = t.rows + 7 * (g + 2);
+        let s = t.rows + 7 * (g + 3);
+        let a = face_normal(work, t, ccw, g);
+        let b = face_normal(work, t, ccw, g + 1);
+        let c = face_normal(work, t, ccw, g + 2);
+        let d = face_normal(work, t, ccw, g + 3);
+        let k = math::normalize_four(a, b, c, d);
+        let ua = k.a;
+        let ub = k.b;
+        let uc = k.c;
+        let ud = k.d;
+        put_row(work, p, a, ua);
+        put_row(work, q, b, ub);
+        put_row(work, r, c, uc);
+        put_row(work, s, d, ud);
+        g += 4;
+    }
+    g
+}
+
+// The rows from face g on.
+fn rows_from(work: &mut [u32], t: Plan, ccw: bool, g: usize)
+    requires { ⌜ Sound (now work) t × (g ≤ t .faces) ⌝ }
+    ensures { λ _. ⌜ Onward (now (work .entry)) (now (work .exit)) t ccw g (t .faces) ⌝ }
+{
+    let mut k = g;
+    while k < t.faces {
+        let n = face_normal(work, t, ccw, k);
+        let u = math::normalize(n);
+        put_row(work, t.rows + 7 * k, n, u);
+        k += 1;
+    }
 }
 
 // The rows of all faces.
@@ -55,10 +99,6 @@ pub fn rows(work: &mut [u32], t: Plan, ccw: bool)
     requires { ⌜ Sound (now work) t ⌝ }
     ensures { λ _. ⌜ Kept (t .rows) (now (work .entry)) (now (work .exit)) × Rowed (now (work .entry)) (now (work .exit)) t ccw (t .faces) ⌝ }
 {
-    let mut g = 0;
-    while g < t.faces {
-        let n = face_normal(work, t, ccw, g);
-        put_row(work, t.rows + 7 * g, n);
-        g += 1;
-    }
+    let g = rows_by_fours(work, t, ccw);
+    rows_from(work, t, ccw, g);
 }

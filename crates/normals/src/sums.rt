@@ -4,9 +4,9 @@ ghost use mathlib.Core.List.{map};
 ghost use Prim.Native.Nat.{ℕ, _+_, _≤_, _<_};
 ghost use lib.ListN.{length};
 ghost use Rattle.math.specs.declared.vector.Unit.the-variants.{Of};
-ghost use Rattle.math.specs.Vector.{unitOf};
+ghost use Rattle.math.specs.Vector.{yAxis, unitOf};
 ghost use Rattle.lists.specs.Loops.{All};
-ghost use Rattle.mesh.specs.Normals.{nearBy, sumNear, creaseSum};
+ghost use Rattle.mesh.specs.Normals.{nearBy, sumNear, creaseSum, orElse};
 ghost use Rattle.normals.specs.Rows.{vector, normalIn, hitOf, hitsAt, Ready, Mirrored, Summed};
 ghost use Rattle.normals.specs.Written.{normalAt};
 use crate::groups::end_at;
@@ -26,11 +26,11 @@ fn near_step(floats: &[f32], row: usize, g: usize, own: usize, u: V3, bound: f32
     requires { ⌜ row + 6 ≤ length (now floats) ⌝ }
     ensures { λ r. ⌜ r ≡ nearBy bound own u g (Of (vector (now (floats .entry)) (row + 3))) s (vector (now (floats .entry)) row) ⌝ }
 {
-    if g == own {
-        return s;
-    }
     let v = get3(floats, row + 3);
     if math::dot(u, v) > bound {
+        if g == own {
+            return s;
+        }
         return math::add(s, get3(floats, row));
     }
     s
@@ -60,7 +60,7 @@ fn near_faces(
 }
 
 // The faces at p, once for each use.
-fn sum_near(
+pub fn sum_near(
     work: &[u32],
     t: Plan,
     floats: &[f32],
@@ -111,6 +111,19 @@ fn crease_unit(
     }
 }
 
+// The normal of a corner of face own, whose sum has the unit vector s.
+pub fn normal_by(work: &[u32], t: Plan, own: usize, s: Unit) -> V3
+    requires { ⌜ Ready (now work) t × (own < t .faces) ⌝ }
+    ensures { λ r. ⌜ r ≡ orElse s (orElse (unitOf (normalIn (now (work .entry)) t own)) yAxis) ⌝ }
+{
+    let up = V3 {
+        x: 0.0,
+        y: 1.0,
+        z: 0.0,
+    };
+    or_else(s, or_else(load_unit(work, t.rows + 7 * own + 3), up))
+}
+
 // The normal of a corner of face own that is gathered under p.
 pub fn corner_normal(
     work: &[u32],
@@ -125,10 +138,5 @@ pub fn corner_normal(
 {
     let k = load_unit(work, t.rows + 7 * own + 3);
     let s = crease_unit(work, t, floats, p, own, rule, k);
-    let up = V3 {
-        x: 0.0,
-        y: 1.0,
-        z: 0.0,
-    };
-    or_else(s, or_else(k, up))
+    normal_by(work, t, own, s)
 }

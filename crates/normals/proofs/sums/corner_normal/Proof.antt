@@ -24,18 +24,11 @@ crease-unit-requires c κs =
     let c4 = c .before .before .before .before in
     (c4 .pre .0, c4 .pre .1, c4 .pre .2, c4 .pre .3, c .load-unit .ensures ∙ c4 .pre .0 .units _ (c4 .pre .3))
 
-or-else-requires : tie.Need-or-else-requires
-or-else-requires c κs = search needs
-
-or-else-requires-2 : tie.Need-or-else-requires-2
-or-else-requires-2 c κs = search needs
+normal-by-requires : tie.Need-normal-by-requires
+normal-by-requires c κs = (c .before .before .before .before .before .pre .0, c .before .before .before .before .before .pre .3)
 
 returns : tie.Need-returns
-unfolding unitIn
-returns c =
-    let c2 = c .before .before in
-    let c7 = c2 .before .before .before .before .before in
-    normal-made _ _ _ _ _ _ _ _ _ (c2 .crease-unit .ensures) (c2 .before .load-unit .ensures ∙ c7 .pre .0 .units _ (c7 .pre .3)) (c .before .or-else .ensures) (c .or-else2 .ensures)
+returns c = normal-made _ _ _ _ _ _ _ (c .before .crease-unit .ensures) (c .normal-by .ensures)
 
 pub corner-normal-spec : {M : Type 1} → statement M
 corner-normal-spec =
@@ -46,6 +39,5 @@ corner-normal-spec =
     add-load-unit-2
     load-unit-requires
     crease-unit-requires
-    or-else-requires
-    or-else-requires-2
+    normal-by-requires
     returns)

@@ -3,9 +3,6 @@ use borrow.Author.Needs.{needs}
 use Rattle.normals.proofs.sums.near_step.Statement.{statement}
 use Rattle.normals.proofs.sums.near_step.Tie as tie
 
-returns : tie.Need-returns
-returns c = near-own _ _ _ _ _ _ _ (c .if1 .taken)
-
 add-get3 : tie.Need-add-get3
 add-get3 c = search needs
 
@@ -15,6 +12,9 @@ get3-requires c κs = search needs
 dot-requires : tie.Need-dot-requires
 dot-requires c κs = search needs
 
+returns : tie.Need-returns
+returns c = near-own _ _ _ _ _ _ _ (c .if2 .taken)
+
 get3-requires-2 : tie.Need-get3-requires-2
 get3-requires-2 c κs = search needs
 
@@ -22,19 +22,19 @@ add-requires : tie.Need-add-requires
 add-requires c κs = search needs
 
 returns-2 : tie.Need-returns-2
-returns-2 c = near-yes _ _ _ _ _ _ _ _ (c .before .before .before .before .before .if1 .left) (c .before .before .before .before .get3 .ensures) _ (c .before .before .before .dot .ensures) _ _ (c .before .before .if2 .taken) (c .before .get32 .ensures) (c .add .ensures)
+returns-2 c = near-yes _ _ _ _ _ _ _ _ (c .before .before .before .before .before .get3 .ensures) _ (c .before .before .before .before .dot .ensures) _ _ (c .before .before .if2 .left) (c .before .before .before .if1 .taken) (c .before .get32 .ensures) (c .add .ensures)
 
 returns-3 : tie.Need-returns-3
-returns-3 c = near-far _ _ _ _ _ _ _ _ (c .before .before .before .if1 .left) (c .before .before .get3 .ensures) _ (c .before .dot .ensures) (c .if2 .left)
+returns-3 c = near-far _ _ _ _ _ _ _ _ (c .before .before .get3 .ensures) _ (c .before .dot .ensures) (c .if1 .left)
 
 pub near-step-spec : {M : Type 1} → statement M
 near-step-spec =
     tie.close
     (tie.spec
-    returns
     add-get3
     get3-requires
     dot-requires
+    returns
     get3-requires-2
     add-requires
     returns-2
