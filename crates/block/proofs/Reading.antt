@@ -11,7 +11,7 @@ use Rattle.block.specs.declared.edition.Edition.{Edition}
 use Rattle.block.specs.Edition.{editionOf, editionIn, countsAt, zerosAt, wordsAhead}
 use Rattle.block.specs.Kind.{kindOf}
 use Rattle.block.specs.Header.{countAt, countsOf, headerOf}
-use Rattle.block.specs.Settings.{floatAt, finiteOr, pairOr, pairAt, transformOf, settingsOf}
+use Rattle.block.specs.Settings.{floatAt, finiteOr, finiteTransform, transformOf, settingsOf}
 use Rattle.block.specs.Crease.{creaseOf}
 use Rattle.block.proofs.EditionLaws.{header-full, count-ahead}
 
@@ -64,31 +64,21 @@ module _ (b c : List ℕ) (same : (i n : ℕ) → i + n ≤ 32 * wordsAhead (edi
       ap (ofBits binary32) (same (32 * (editionIn b .«header_words» + k)) 32 (omega arith))
       ∙ ap (λ (e : Edition). ofBits binary32 (field c (32 * (e .«header_words» + k)) 32)) edition-same
 
-  pair-same : (k : ℕ) (x y : Float) → k + 1 < 12 → pairAt b k x y ≡ pairAt c k x y
-  pair-same k x y h =
-      let f = float-same k (omega arith) in
-      let g = float-same (k + 1) h in
-      λ t. pairOr (record { s = f t; t = g t }) (record { s = x; t = y })
-
   pub settings-same : settingsOf b ≡ settingsOf c
   unfolding settingsOf transformOf
-  settings-same =
-      let center = pair-same 4 zeroF zeroF (lit< tt) in
-      let rotation = pair-same 6 zeroF oneF (lit< tt) in
-      let scale = pair-same 8 oneF oneF (lit< tt) in
-      let translation = pair-same 10 zeroF zeroF (lit< tt) in
-      λ t. record {
-        crease = creaseOf (finiteOr (float-same 0 (lit< tt) t) zeroF) (float-same 1 (lit< tt) t);
-        «x_spacing» = finiteOr (float-same 2 (lit< tt) t) oneF;
-        «z_spacing» = finiteOr (float-same 3 (lit< tt) t) oneF;
-        transform = record {
-          «center_s» = center t .s;
-          «center_t» = center t .t;
-          sine = rotation t .s;
-          cosine = rotation t .t;
-          «scale_s» = scale t .s;
-          «scale_t» = scale t .t;
-          «translation_s» = translation t .s;
-          «translation_t» = translation t .t;
-        };
-      }
+  settings-same = λ t. record {
+    crease = creaseOf (finiteOr (float-same 0 (lit< tt) t) zeroF) (float-same 1 (lit< tt) t);
+    «x_spacing» = finiteOr (float-same 2 (lit< tt) t) oneF;
+    «z_spacing» = finiteOr (float-same 3 (lit< tt) t) oneF;
+    transform = finiteTransform
+        (record {
+          «center_s» = float-same 4 (lit< tt) t;
+          «center_t» = float-same 5 (lit< tt) t;
+          sine = float-same 6 (lit< tt) t;
+          cosine = float-same 7 (lit< tt) t;
+          «scale_s» = float-same 8 (lit< tt) t;
+          «scale_t» = float-same 9 (lit< tt) t;
+          «translation_s» = float-same 10 (lit< tt) t;
+          «translation_t» = float-same 11 (lit< tt) t;
+        });
+  }

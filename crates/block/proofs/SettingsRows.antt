@@ -8,7 +8,7 @@ use Rattle.bits.specs.Bits.{field, bytesOf}
 use Rattle.math.specs.Vector.{zeroF, oneF}
 use Rattle.block.specs.Edition.{edition1, editionOf, editionIn}
 use Rattle.block.specs.Crease.{creaseOf}
-use Rattle.block.specs.Settings.{pairOr, transformOf, settingsOf}
+use Rattle.block.specs.Settings.{pairOr, finiteTransform, transformOf, settingsOf}
 use Rattle.block.specs.declared.crease.CreaseRule.the-variants.{Own}
 
 abbrev pub infinite : ℕ
@@ -44,5 +44,5 @@ pub settings-row : settingsOf oddBlock
             «translation_t» = zeroF;
           };
     }
-unfolding oddBlock settingsOf transformOf pairOr creaseOf field ofBits le editionOf edition1
+unfolding oddBlock settingsOf transformOf finiteTransform pairOr creaseOf field ofBits le editionOf edition1
 settings-row = refl

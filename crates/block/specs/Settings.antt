@@ -24,17 +24,17 @@ finiteOr x other = cond (finite x) x other
 unfoldable pub pairOr : Pair → Pair → Pair
 pairOr p other = cond (finite (p .s) && finite (p .t)) p other
 
--- FORMAT 2.3: floats k and k + 1, or (s, t)
-abbrev pub pairAt : List ℕ → ℕ → Float → Float → Pair
-pairAt bs k s t = pairOr (record { s = floatAt bs k; t = floatAt bs (k + 1) }) (record { s = s; t = t })
+-- FORMAT 2.3: s and t, or the other two
+abbrev pub finitePair : Float → Float → Float → Float → Pair
+finitePair s t s′ t′ = pairOr (record { s = s; t = t }) (record { s = s′; t = t′ })
 
--- FORMAT 2.3, TexTransform::from_node: centre, sine and cosine of the rotation, scale, translation
-unfoldable pub transformOf : List ℕ → TexTransform
-transformOf bs =
-    let center = pairAt bs 4 zeroF zeroF in
-    let rotation = pairAt bs 6 zeroF oneF in
-    let scale = pairAt bs 8 oneF oneF in
-    let translation = pairAt bs 10 zeroF zeroF in
+-- FORMAT 2.3, TexTransform::from_node: centre, sine and cosine of the rotation, scale, translation, each by itself
+unfoldable pub finiteTransform : TexTransform → TexTransform
+finiteTransform x =
+    let center = finitePair (x .«center_s») (x .«center_t») zeroF zeroF in
+    let rotation = finitePair (x .sine) (x .cosine) zeroF oneF in
+    let scale = finitePair (x .«scale_s») (x .«scale_t») oneF oneF in
+    let translation = finitePair (x .«translation_s») (x .«translation_t») zeroF zeroF in
     record {
       «center_s» = center .s;
       «center_t» = center .t;
@@ -45,6 +45,21 @@ transformOf bs =
       «translation_s» = translation .s;
       «translation_t» = translation .t;
     }
+
+-- FORMAT 2.3: that of a block
+unfoldable pub transformOf : List ℕ → TexTransform
+transformOf bs =
+    finiteTransform
+    (record {
+      «center_s» = floatAt bs 4;
+      «center_t» = floatAt bs 5;
+      sine = floatAt bs 6;
+      cosine = floatAt bs 7;
+      «scale_s» = floatAt bs 8;
+      «scale_t» = floatAt bs 9;
+      «translation_s» = floatAt bs 10;
+      «translation_t» = floatAt bs 11;
+    })
 
 -- FORMAT 2.3: crease angle, its cosine as given, each spacing alone, the texture transform
 unfoldable pub settingsOf : List ℕ → Settings

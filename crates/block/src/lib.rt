@@ -45,6 +45,7 @@ pub use runs::next_start;
 pub use runs::point_at;
 pub use runs::run_at;
 pub use settings::Settings;
+pub use settings::finite_transform;
 pub use settings::read_settings;
 pub use stream::Stream;
 pub use stream::chosen_list;

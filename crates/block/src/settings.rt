@@ -1,7 +1,7 @@
 // The twelve words after the header, with what is read for those that are not finite (FORMAT 2.3).
 ghost use mathlib.Core.Path.{_≡_};
 ghost use Prim.Native.Nat.{_<_};
-ghost use Rattle.block.specs.Settings.{floatAt, finiteOr, pairOr, pairAt, transformOf, settingsOf};
+ghost use Rattle.block.specs.Settings.{floatAt, finiteOr, pairOr, finiteTransform, transformOf, settingsOf};
 use crate::crease::CreaseRule;
 use crate::crease::crease_of;
 use crate::edition::edition_in;
@@ -42,24 +42,38 @@ fn pair_or(p: Pair, other: Pair) -> Pair
     other
 }
 
-fn pair_at(block: &[u8], k: u32, s: f32, t: f32) -> Pair
-    requires { ⌜ k < 11 ⌝ }
-    ensures { λ r. ⌜ r ≡ pairAt (now (block .entry)) k s t ⌝ }
+// The transform with each of its pairs that is not finite replaced.
+pub fn finite_transform(x: TexTransform) -> TexTransform
+    ensures { λ r. ⌜ r ≡ finiteTransform x ⌝ }
 {
-    let p = Pair {
-        s: float_at(block, k),
-        t: float_at(block, k + 1),
-    };
-    pair_or(p, Pair { s, t })
-}
-
-fn read_transform(block: &[u8]) -> TexTransform
-    ensures { λ r. ⌜ r ≡ transformOf (now (block .entry)) ⌝ }
-{
-    let center = pair_at(block, 4, 0.0, 0.0);
-    let rotation = pair_at(block, 6, 0.0, 1.0);
-    let scale = pair_at(block, 8, 1.0, 1.0);
-    let translation = pair_at(block, 10, 0.0, 0.0);
+    let center = pair_or(
+        Pair {
+            s: x.center_s,
+            t: x.center_t,
+        },
+        Pair { s: 0.0, t: 0.0 },
+    );
+    let rotation = pair_or(
+        Pair {
+            s: x.sine,
+            t: x.cosine,
+        },
+        Pair { s: 0.0, t: 1.0 },
+    );
+    let scale = pair_or(
+        Pair {
+            s: x.scale_s,
+            t: x.scale_t,
+        },
+        Pair { s: 1.0, t: 1.0 },
+    );
+    let translation = pair_or(
+        Pair {
+            s: x.translation_s,
+            t: x.translation_t,
+        },
+        Pair { s: 0.0, t: 0.0 },
+    );
     TexTransform {
         center_s: center.s,
         center_t: center.t,
@@ -70,6 +84,21 @@ fn read_transform(block: &[u8]) -> TexTransform
         translation_s: translation.s,
         translation_t: translation.t,
     }
+}
+
+fn read_transform(block: &[u8]) -> TexTransform
+    ensures { λ r. ⌜ r ≡ transformOf (now (block .entry)) ⌝ }
+{
+    finite_transform(TexTransform {
+        center_s: float_at(block, 4),
+        center_t: float_at(block, 5),
+        sine: float_at(block, 6),
+        cosine: float_at(block, 7),
+        scale_s: float_at(block, 8),
+        scale_t: float_at(block, 9),
+        translation_s: float_at(block, 10),
+        translation_t: float_at(block, 11),
+    })
 }
 
 pub fn read_settings(block: &[u8]) -> Settings

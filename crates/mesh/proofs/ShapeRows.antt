@@ -19,7 +19,7 @@ use Rattle.block.specs.Edition.{edition1, editionOf}
 use Rattle.block.specs.Header.{countsOf, headerOf}
 use Rattle.block.specs.Lists.{widths, wordsIn, listAt, listSize, placeOf}
 use Rattle.block.specs.Crease.{creaseOf}
-use Rattle.block.specs.Settings.{pairOr, transformOf, settingsOf}
+use Rattle.block.specs.Settings.{pairOr, finiteTransform, transformOf, settingsOf}
 use Rattle.block.specs.Runs.{endsRun, runsFrom, corners, sumOver}
 use Rattle.block.specs.Stream.{itself, numberIn, numberAt}
 use Rattle.block.specs.declared.texture.Pair.{Pair}
@@ -76,7 +76,7 @@ pub grid-soup : (convexFrame (gridOf bench) ≡ flatFrame)
     × (sizesOf bench (headerOf bench) ≡ record { points = 4; corners = 4; indices = 6 })
     × (isNoShape (headerOf bench) ≡ false)
     × (isOverCorners bench (headerOf bench) ≡ false)
-unfolding grid gridHeader gridRest convexFrame gridOf gridPoints gridPoint gridFaces gridFace gridCorner cornerBy textureBy normalOf colourOf tabs tab flat quad headerOf countsOf editionOf edition1 settingsOf transformOf pairOr creaseOf placeOf listAt listSize widths wordsIn entries table field ofInt ofBits toBits mul le sizesOf gridSizes isNoShape isOverCorners
+unfolding grid gridHeader gridRest convexFrame gridOf gridPoints gridPoint gridFaces gridFace gridCorner cornerBy textureBy normalOf colourOf tabs tab flat quad headerOf countsOf editionOf edition1 settingsOf transformOf finiteTransform pairOr creaseOf placeOf listAt listSize widths wordsIn entries table field ofInt ofBits toBits mul le sizesOf gridSizes isNoShape isOverCorners
 grid-soup = (refl, refl, refl, refl, refl)
 
 abbrev benchMesh : Mesh
@@ -116,7 +116,7 @@ pub slope-soup : (gridOf slope .points
     ∷ (tinted white 1 (st half w1) ∷ tinted white 4 (st half 0) ∷ tinted white 5 (st w1 0) ∷ tinted white 2 (st w1 w1) ∷ [])
     ∷ [])
     × (sizesOf slope (headerOf slope) ≡ record { points = 6; corners = 8; indices = 12 })
-unfolding gridOf gridPoints gridPoint gridFaces gridFace gridCorner gridDefault cornerBy textureBy normalOf colourOf uvWords numberAt numberIn itself valueAt tabs tab flat quad headerOf countsOf editionOf edition1 settingsOf transformOf pairOr creaseOf placeOf listAt listSize widths wordsIn entries table field ofInt ofBits toBits sub mul div le sizesOf gridSizes
+unfolding gridOf gridPoints gridPoint gridFaces gridFace gridCorner gridDefault cornerBy textureBy normalOf colourOf uvWords numberAt numberIn itself valueAt tabs tab flat quad headerOf countsOf editionOf edition1 settingsOf transformOf finiteTransform pairOr creaseOf placeOf listAt listSize widths wordsIn entries table field ofInt ofBits toBits sub mul div le sizesOf gridSizes
 slope-soup = (refl, refl, refl)
 
 -- FORMAT 5: neither colours nor texture are made of the bench's grid
@@ -172,7 +172,7 @@ pub prism-soup : (extrusionPoints (extrusionOf prism)
     ≡ map (map plain) ((0 ∷ 1 ∷ 4 ∷ 3 ∷ []) ∷ (1 ∷ 2 ∷ 5 ∷ 4 ∷ []) ∷ (2 ∷ 1 ∷ 0 ∷ []) ∷ (3 ∷ 4 ∷ 5 ∷ []) ∷ []))
     × (sizesOf prism (headerOf prism) ≡ record { points = 6; corners = 14; indices = 18 })
     × (isNoShape (headerOf prism) ≡ false)
-unfolding extrusionPoints rowAt rowWords extrusionOf sectionOf turnIn scaleAt turnAt local placed at axesAt firstY yAt firstZ firstOf lastOf yOwn alongEnd closed zOwn zEnd bend prevZ pickZ orElse straight between turnTo halfTurn shortestArc unitOf vlen rootOf extrusionFaces sides caps capFace capLength closes sideCorner capCorner cornerAt at2 tabs tab flat quad headerOf countsOf editionOf edition1 settingsOf transformOf pairOr creaseOf placeOf listAt listSize widths wordsIn field ofInt ofBits toBits add sub mul div neg lt le eq sizesOf extrusionSizes isNoShape
+unfolding extrusionPoints rowAt rowWords extrusionOf sectionOf turnIn scaleAt turnAt local placed at axesAt firstY yAt firstZ firstOf lastOf yOwn alongEnd closed zOwn zEnd bend prevZ pickZ orElse straight between turnTo halfTurn shortestArc unitOf vlen rootOf extrusionFaces sides caps capFace capLength closes sideCorner capCorner cornerAt at2 tabs tab flat quad headerOf countsOf editionOf edition1 settingsOf transformOf finiteTransform pairOr creaseOf placeOf listAt listSize widths wordsIn field ofInt ofBits toBits add sub mul div neg lt le eq sizesOf extrusionSizes isNoShape
 prism-soup = (refl, refl, refl, refl)
 
 -- parts of the triangle's outline: 1 and 1 + √5 of 3 + √5
@@ -190,7 +190,7 @@ pub prism-texture : map (map (λ (c : Corner). c .texture)) (extrusionFaces (ext
     ∷ (st 0 0 ∷ st half w1 ∷ st 0 w1 ∷ [])
     ∷ (st 0 w1 ∷ st half w1 ∷ st 0 0 ∷ [])
     ∷ []
-unfolding extrusionOf sectionOf at extrusionFaces sides caps capFace capLength closes sideCorner capCorner cornerAt sideTexture capTexture capFit uvWords arcs share lengthTo step3 step2 widened spanOf divisor minOf maxOf choice isZero negative isNan at2 tabs tab flat quad vlen rootOf headerOf countsOf editionOf edition1 settingsOf transformOf pairOr creaseOf placeOf listAt listSize widths wordsIn field ofInt ofBits toBits add sub mul div lt le eq
+unfolding extrusionOf sectionOf at extrusionFaces sides caps capFace capLength closes sideCorner capCorner cornerAt sideTexture capTexture capFit uvWords arcs share lengthTo step3 step2 widened spanOf divisor minOf maxOf choice isZero negative isNan at2 tabs tab flat quad vlen rootOf headerOf countsOf editionOf edition1 settingsOf transformOf finiteTransform pairOr creaseOf placeOf listAt listSize widths wordsIn field ofInt ofBits toBits add sub mul div lt le eq
 prism-texture = refl
 
 -- ---- points along other spines, as the source makes them
