@@ -25,7 +25,8 @@ use Rattle.mesh.proofs.Facts.{length-indices, length-vertices, face-set-indices
 use Rattle.mesh.proofs.Primitives.{primitive-vertices, primitive-indices}
 use Rattle.mesh.proofs.LineSoup.{line-soup}
 use Rattle.mesh.proofs.Sizes.{line-set-corners, line-set-indices, grid-corners, grid-indices, extrusion-corners, extrusion-indices}
-use Rattle.geometry.specs.Answer.{resultFor, Saying, refused, made, said}
+use Rattle.lent.specs.Answer.{Saying, refused, made, said}
+use Rattle.geometry.specs.Answer.{resultFor}
 use Rattle.geometry.proofs.Refusing.{asked-of}
 use Rattle.answer.specs.Lending.{passed, fresh, number}
 

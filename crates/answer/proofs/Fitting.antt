@@ -9,7 +9,8 @@ use lib.ListN.{length}
 use Rattle.block.specs.Header.{headerOf}
 use Rattle.lists.specs.Loops.{pick}
 use Rattle.mesh.specs.Mesh.{Slices}
-use Rattle.geometry.specs.Answer.{resultFor, Saying, refused, made, said}
+use Rattle.lent.specs.Answer.{Saying, refused, made, said}
+use Rattle.geometry.specs.Answer.{resultFor}
 use Rattle.text.specs.declared.lines.Parts.{Parts}
 use Rattle.text.specs.Answer.{longText, textRoom}
 use Rattle.text.specs.Wrote.{Printed}

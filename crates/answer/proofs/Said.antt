@@ -5,8 +5,8 @@ use mathlib.Core.List.{List}
 use borrow.Author.Tests.{lt-ltb, le-ltb}
 use lib.ListN.{length}
 use Rattle.block.specs.Header.{headerOf}
-use Rattle.geometry.specs.declared.answer.Answer.{Answer}
-use Rattle.geometry.specs.Answer.{saying}
+use Rattle.lent.specs.declared.answer.Answer.{Answer}
+use Rattle.lent.specs.Answer.{saying}
 use Rattle.geometry.specs.Converted.{Lending, Converted}
 use Rattle.text.specs.declared.lines.Parts.{Parts}
 use Rattle.text.specs.Answer.{longText}

@@ -7,8 +7,9 @@ use lib.Ieee.{binary32, ofBits}
 use Rattle.mesh.specs.Mesh.{Slices}
 use Rattle.mesh.specs.Result.{made}
 use Rattle.geometry.specs.declared.answer.Call.{Call}
-use Rattle.geometry.specs.Answer.{white, resultFor, saying, said}
-use Rattle.geometry.specs.Converted.{Lending, numberFor, afterAll}
+use Rattle.lent.specs.Answer.{saying, said, afterAll}
+use Rattle.geometry.specs.Answer.{white, resultFor}
+use Rattle.geometry.specs.Converted.{Lending, numberFor}
 use Rattle.answer.specs.declared.lending.Conversion.{Conversion}
 
 -- FORMAT 14: what the program chooses

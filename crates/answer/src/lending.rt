@@ -1,7 +1,7 @@
 // One call with the slices that the program lends (FORMAT 14).
 ghost use Rattle.answer.specs.Lending.{Left};
-use geometry::Answer;
 use geometry::Call;
+use lent::Answer;
 
 // The answer of a call, and what it left in the six slices of the mesh.
 pub struct Conversion {

@@ -4,7 +4,7 @@ ghost use Rattle.answer.specs.Text.{blockText, answerText};
 use crate::lending::lend_and_convert;
 use crate::parts::parts_in;
 use block::number_of;
-use geometry::Answer;
+use lent::Answer;
 use text::Head;
 use text::put_long;
 use text::put_mesh;

@@ -25,11 +25,12 @@ use Rattle.mesh.specs.OneRun.{OneRun, runPart, OthersStay}
 use Rattle.mesh.proofs.Facts.{Sized, slices-sized}
 use Rattle.mesh.proofs.Bytes.{heads}
 use Rattle.mesh.proofs.OneRun.{one-run}
-use Rattle.geometry.specs.declared.answer.Answer.the-variants.{Made}
+use Rattle.lent.specs.declared.answer.Answer.the-variants.{Made}
 use Rattle.geometry.specs.declared.answer.Call.{Call}
-use Rattle.geometry.specs.declared.answer.Report.{Report}
-use Rattle.geometry.specs.Answer.{resultFor, saying, said}
-use Rattle.geometry.specs.Converted.{numberFor, afterAll}
+use Rattle.lent.specs.declared.answer.Report.{Report}
+use Rattle.lent.specs.Answer.{saying, said, afterAll}
+use Rattle.geometry.specs.Answer.{resultFor}
+use Rattle.geometry.specs.Converted.{numberFor}
 use Rattle.geometry.specs.Apart.{AcceptedCall, elements, elementsOf}
 use Rattle.geometry.proofs.Calls.{numberIn, resultIn}
 

@@ -16,8 +16,9 @@ use Rattle.mesh.specs.Result.{made}
 use Rattle.mesh.specs.OneRun.{OthersStay}
 use Rattle.mesh.proofs.Blocks.{flatBlock, beside, beside′, pairs}
 use Rattle.geometry.specs.declared.answer.Call.{Call}
-use Rattle.geometry.specs.Answer.{rows, isShort, refusal, resultFor, said}
-use Rattle.geometry.specs.Converted.{Lending, lengthsOf, numberFor, afterAll, cleared}
+use Rattle.lent.specs.Answer.{said, afterAll}
+use Rattle.geometry.specs.Answer.{rows, isShort, refusal, resultFor}
+use Rattle.geometry.specs.Converted.{Lending, lengthsOf, numberFor, cleared}
 use Rattle.geometry.specs.Apart.{AcceptedCall, elementsOf}
 use Rattle.geometry.proofs.Apart.{apart}
 

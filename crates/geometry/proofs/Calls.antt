@@ -15,12 +15,13 @@ use Rattle.lent.specs.declared.Counts.{Counts}
 use Rattle.lent.specs.Lent.{Shaped, Cleared}
 use Rattle.sizes.specs.declared.flags.Flags.{Flags}
 use Rattle.sizes.specs.Flagged.{Flagged}
-use Rattle.geometry.specs.declared.answer.Answer.{Answer}
-use Rattle.geometry.specs.declared.answer.Answer.the-variants.{Refused, Made}
+use Rattle.lent.specs.declared.answer.Answer.{Answer}
+use Rattle.lent.specs.declared.answer.Answer.the-variants.{Refused, Made}
 use Rattle.geometry.specs.declared.answer.Call.{Call}
-use Rattle.geometry.specs.declared.answer.Report.{Report}
-use Rattle.geometry.specs.Answer as spec
-use Rattle.geometry.specs.Answer.{Saying, refusal, resultFor, saying}
+use Rattle.lent.specs.declared.answer.Report.{Report}
+use Rattle.lent.specs.Answer as spec
+use Rattle.lent.specs.Answer.{Saying, saying}
+use Rattle.geometry.specs.Answer.{refusal, resultFor}
 use Rattle.geometry.specs.Converted.{Lending, lengthsOf, Converted}
 
 -- ---- refused

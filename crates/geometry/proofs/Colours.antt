@@ -30,10 +30,11 @@ use Rattle.mesh.specs.Lines.{somes, joined, itemOf, itemsOf, lineKeys, lineEnds
 use Rattle.mesh.specs.Extrusion.{extrusionMesh}
 use Rattle.mesh.specs.Primitives.{listedCoord, primitiveMesh}
 use Rattle.mesh.specs.Result.{makesColours, blockMesh, madeOf, made, resultOf}
-use Rattle.geometry.specs.declared.answer.Answer.{Answer}
+use Rattle.lent.specs.declared.answer.Answer.{Answer}
 use Rattle.geometry.specs.declared.answer.Call.{Call}
-use Rattle.geometry.specs.Answer.{grey, white, resultFor, said}
-use Rattle.geometry.specs.Converted.{Lending, numberFor, afterAll, Converted}
+use Rattle.lent.specs.Answer.{said, afterAll}
+use Rattle.geometry.specs.Answer.{grey, white, resultFor}
+use Rattle.geometry.specs.Converted.{Lending, numberFor, Converted}
 
 -- ---- the shapes of a block whose colours are not present
 

@@ -1,16 +1,14 @@
--- FORMAT 3, 4, 5: row 8 of the table of refusals, the whole table, and what each answer says.
-use Prim.Native.Nat.{ℕ, zero, suc, _+_, _*_}
+-- FORMAT 3, 4, 5, 7.2: two colours, row 8 of the table of refusals, the whole table, and the result of an accepted block.
+use Prim.Native.Nat.{ℕ, _+_, _*_}
 use mathlib.Core.Bool.{Bool, _||_}
 use mathlib.Core.List.{List, [], _∷_, _++_}
 use lib.Dec.{ltb}
 use Rattle.bits.specs.declared.Words4.{Words4}
 use Rattle.block.specs.declared.refusal.Refusal.the-variants.{Buffer}
 use Rattle.block.specs.Header.{headerOf}
-use Rattle.block.specs.Refusal.{numberOf, Row, row, blockRows, firstOf}
+use Rattle.block.specs.Refusal.{Row, row, blockRows, firstOf}
 use Rattle.mesh.specs.Sizes.{Sizes, sizesOf, shapeRows}
 use Rattle.mesh.specs.Result.{Result, blockMesh, resultOf}
-use Rattle.geometry.specs.declared.answer.Answer.{Answer}
-use Rattle.geometry.specs.declared.answer.Answer.the-variants.{Refused, Made}
 use Rattle.geometry.specs.declared.answer.Call.{Call}
 use Rattle.geometry.specs.declared.answer.Lengths.{Lengths}
 
@@ -45,18 +43,3 @@ refusal bs l = firstOf (rows bs l)
 -- FORMAT 5: the counts and bits of an accepted block
 unfoldable pub resultFor : Call → List ℕ → Result
 resultFor call bs = resultOf (headerOf bs) (blockMesh (call .colour) bs)
-
--- FORMAT 3, 5: what an answer says: the number of a refusal, or the counts and bits of a mesh
-pub data Saying : Type 0 where
-  refused : ℕ → Saying
-  made : Result → Saying
-
--- FORMAT 3, 5: each answer's
-abbrev pub saying : Answer → Saying
-saying (Refused n) = refused (numberOf n)
-saying (Made p) = made (record { vertices = p .vertices; indices = p .indices; solid = p .solid; unlit = p .unlit; hasColours = p .«has_colors» })
-
--- FORMAT 3, 5: what is to be said: the number, or the result where nothing is refused
-abbrev pub said : ℕ → Result → Saying
-said zero r = made r
-said (suc n) r = refused (suc n)

@@ -7,9 +7,9 @@ use Rattle.block.specs.declared.header.Header.{Header}
 use Rattle.block.specs.Header.{headerOf}
 use Rattle.mesh.specs.Mesh.{Slices}
 use Rattle.mesh.specs.Result.{makesNormals, makesColours, makesTextures}
-use Rattle.geometry.specs.declared.answer.Answer.the-variants.{Made}
+use Rattle.lent.specs.declared.answer.Answer.the-variants.{Made}
 use Rattle.geometry.specs.declared.answer.Call.{Call}
-use Rattle.geometry.specs.declared.answer.Report.{Report}
+use Rattle.lent.specs.declared.answer.Report.{Report}
 use Rattle.geometry.specs.Converted.{Lending, Converted}
 
 -- FORMAT 3, 5: of the block bs: what it was lent, what it left, and the counts and bits it answered

@@ -4,12 +4,13 @@ use mathlib.Core.Path.{_≡_}
 use mathlib.Core.List.{List}
 use lib.ListN.{length, replicate}
 use lib.Ieee.{Float, binary32, ofBits}
-use Rattle.mesh.specs.Mesh.{Slices, overAll}
+use Rattle.mesh.specs.Mesh.{Slices}
 use Rattle.mesh.specs.Result.{made}
-use Rattle.geometry.specs.declared.answer.Answer.{Answer}
+use Rattle.lent.specs.declared.answer.Answer.{Answer}
 use Rattle.geometry.specs.declared.answer.Call.{Call}
 use Rattle.geometry.specs.declared.answer.Lengths.{Lengths}
-use Rattle.geometry.specs.Answer.{refusal, resultFor, saying, said}
+use Rattle.lent.specs.Answer.{saying, said, afterAll}
+use Rattle.geometry.specs.Answer.{refusal, resultFor}
 
 -- FORMAT 4: what the eight lent slices hold: the six of the mesh, and the two working slices
 pub record Lending : Type 0 where
@@ -34,11 +35,6 @@ lengthsOf l =
 -- FORMAT 3: the number of the refusal of a call, 0 for none
 abbrev pub numberFor : List ℕ → Lending → ℕ
 numberFor bs l = refusal bs (lengthsOf l)
-
--- FORMAT 3, 5: the six slices after a call: where nothing is refused, what is made and then what they held; else what they held
-abbrev pub afterAll : ℕ → Slices → Slices → Slices
-afterAll zero new held = overAll new held
-afterAll (suc n) new held = held
 
 -- FORMAT 3, 5: a working slice after a call: where nothing is refused, zeros; else what it held
 abbrev pub cleared : {A : Type 0} → ℕ → A → List A → List A

@@ -1,6 +1,5 @@
-// What a call answers, and what it was lent (FORMAT 3, 4, 5).
+// What the caller of a conversion chooses, and what it lends (FORMAT 4, 7.2).
 use bits::Words4;
-use block::Refusal;
 
 // What the caller chooses: the colour of a missing entry (FORMAT 7.2).
 pub struct Call {
@@ -22,20 +21,6 @@ pub const WHITE: Words4 = Words4 {
     b: 0x3f80_0000,
     a: 0x3f80_0000,
 };
-
-// What a mesh has.
-pub struct Report {
-    pub vertices: usize,
-    pub indices: usize,
-    pub solid: bool,
-    pub unlit: bool,
-    pub has_colors: bool,
-}
-
-pub enum Answer {
-    Refused(Refusal),
-    Made(Report),
-}
 
 // The lengths of the eight lent slices.
 pub struct Lengths {

@@ -4,10 +4,8 @@ mod kinds;
 mod refusals;
 mod whole;
 
-pub use answer::Answer;
 pub use answer::Call;
 pub use answer::GREY;
 pub use answer::Lengths;
-pub use answer::Report;
 pub use answer::WHITE;
 pub use whole::convert;

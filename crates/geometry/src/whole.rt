@@ -3,13 +3,13 @@ ghost use mathlib.Core.Path.{_≡_};
 ghost use Rattle.block.specs.Header.{headerOf};
 ghost use Rattle.sizes.specs.Known.{Counted};
 ghost use Rattle.geometry.specs.Converted.{numberFor, Converted};
-use crate::answer::Answer;
 use crate::answer::Call;
 use crate::answer::Lengths;
-use crate::answer::Report;
 use crate::kinds::make_kind;
 use crate::refusals::verdict_for;
 use block::Header;
+use lent::Answer;
+use lent::Report;
 use sizes::Sizes;
 use sizes::Verdict;
 

@@ -6,10 +6,10 @@ use lib.Seq.{sets}
 use Rattle.block.specs.declared.refusal.Refusal.{Refusal}
 use Rattle.block.specs.Refusal.{numberOf}
 use Rattle.geometry.specs.Converted.{Lending, Converted}
-use Rattle.geometry.specs.declared.answer.Answer.{Answer}
-use Rattle.geometry.specs.declared.answer.Answer.the-variants.{Refused, Made}
+use Rattle.lent.specs.declared.answer.Answer.{Answer}
+use Rattle.lent.specs.declared.answer.Answer.the-variants.{Refused, Made}
 use Rattle.geometry.specs.declared.answer.Call.{Call}
-use Rattle.geometry.specs.declared.answer.Report.{Report}
+use Rattle.lent.specs.declared.answer.Report.{Report}
 use Rattle.host.specs.Hosted.{wordsOf, returned, resultAfter, Hosted}
 
 -- k is what `convert` was called with

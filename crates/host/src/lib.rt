@@ -7,9 +7,9 @@ ghost use Rattle.sine.specs.SinCos.{sinCosOf};
 ghost use Rattle.host.specs.Hosted.{callOf, Hosted, wordsOf};
 use bits::Words4;
 use block::number_of;
-use geometry::Answer;
 use geometry::Call;
-use geometry::Report;
+use lent::Answer;
+use lent::Report;
 use sine::SinCos;
 
 // A colour as a host has it: the bits of four f32, laid out as in C.

@@ -1,2 +1,3 @@
--- What is lent for a block, and what is made in it.
+-- What is lent for a block, what is made in it, and what a call answers.
+pub mod Answer
 pub mod Lent

@@ -1,4 +1,8 @@
-// What is made of a block in the lent slices (FORMAT 4, 5).
+// What is made in the lent slices, and what a call answers (FORMAT 3, 4, 5).
+mod answer;
+
+pub use answer::Answer;
+pub use answer::Report;
 
 // How many vertices and how many indices.
 pub struct Counts {

@@ -6,10 +6,10 @@ use lib.ListN.{getD}
 use Rattle.block.specs.declared.refusal.Refusal.{Refusal}
 use Rattle.block.specs.Refusal.{numberOf}
 use Rattle.mesh.specs.Mesh.{Slices}
-use Rattle.geometry.specs.declared.answer.Answer.{Answer}
-use Rattle.geometry.specs.declared.answer.Answer.the-variants.{Refused, Made}
-use Rattle.geometry.specs.declared.answer.Report.{Report}
-use Rattle.geometry.specs.Answer.{saying}
+use Rattle.lent.specs.declared.answer.Answer.{Answer}
+use Rattle.lent.specs.declared.answer.Answer.the-variants.{Refused, Made}
+use Rattle.lent.specs.declared.answer.Report.{Report}
+use Rattle.lent.specs.Answer.{saying}
 use Rattle.geometry.specs.Converted.{Lending, Converted}
 use Rattle.limits.specs.declared.full.Seen.{Seen}
 use Rattle.limits.specs.Shown.{passed, full, numberIn, indicesIn, left, Shows}

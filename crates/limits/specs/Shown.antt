@@ -7,9 +7,10 @@ use lib.Ieee.{binary32, ofBits}
 use Rattle.block.specs.Edition.{edition1}
 use Rattle.mesh.specs.Result.{made}
 use Rattle.geometry.specs.declared.answer.Call.{Call}
-use Rattle.geometry.specs.Answer.{white, resultFor, Saying, refused, said}
-use Rattle.geometry.specs.Answer as spec
-use Rattle.geometry.specs.Converted.{Lending, numberFor, afterAll}
+use Rattle.lent.specs.Answer.{Saying, refused, said, afterAll}
+use Rattle.geometry.specs.Answer.{white, resultFor}
+use Rattle.lent.specs.Answer as spec
+use Rattle.geometry.specs.Converted.{Lending, numberFor}
 use Rattle.limits.specs.declared.full.Seen.{Seen}
 
 -- FORMAT 7.2: what the program chooses

@@ -2,8 +2,8 @@
 ghost use Rattle.limits.specs.Shown.{Shows};
 use block::LIMIT;
 use block::number_of;
-use geometry::Answer;
 use geometry::Call;
+use lent::Answer;
 
 // The refusal's number, the number of indices, and the first triangle.
 pub struct Seen {

@@ -4,9 +4,9 @@ use answer::parts_of;
 use block::LIMIT;
 use block::number_of;
 use block::read_header;
-use geometry::Answer;
 use geometry::Call;
-use geometry::Report;
+use lent::Answer;
+use lent::Report;
 use text::Head;
 
 fn least(a: usize, b: usize) -> usize
