@@ -16,7 +16,7 @@ use Rattle.block.proofs.RunLaws.{below-at}
 use Rattle.block.specs.Refusal.{numberOf, Row, row, isOverLimit, isOtherLength, isByPoint, isOtherAttributes, blockRows, firstOf, Taken}
 use Rattle.block.specs.declared.header.Header.{Header}
 use Rattle.block.specs.declared.refusal.Refusal.{Refusal}
-use Rattle.block.specs.declared.refusal.Refusal.the-variants.{Stub, Edition, ZeroBits, ListLimit, Length, NoShape, Corners, Buffer, Attributes, Nothing}
+use Rattle.block.specs.declared.refusal.Refusal.the-variants.{Stub, Edition, ZeroBits, ListLimit, Length, NoShape, Corners, Buffer, Attributes, Pairs, Nothing}
 
 -- ---- the number tells the answer
 unfoldable answerOf : ℕ → Refusal
@@ -29,7 +29,8 @@ answerOf n =
     (cond (eqb n 6) NoShape
     (cond (eqb n 7) Corners
     (cond (eqb n 8) Buffer
-    (cond (eqb n 9) Attributes Nothing))))))))
+    (cond (eqb n 9) Attributes
+    (cond (eqb n 10) Pairs Nothing)))))))))
 
 answer-of-number : (a : Refusal) → answerOf (numberOf a) ≡ a
 unfolding answerOf
@@ -42,6 +43,7 @@ answer-of-number NoShape = refl
 answer-of-number Corners = refl
 answer-of-number Buffer = refl
 answer-of-number Attributes = refl
+answer-of-number Pairs = refl
 answer-of-number Nothing = refl
 
 pub number-one-to-one : (a b : Refusal) → numberOf a ≡ numberOf b → a ≡ b

@@ -11,9 +11,9 @@ use Rattle.block.specs.Lists.{wordCount}
 use Rattle.block.specs.Runs.{allBelow}
 use Rattle.block.specs.declared.header.Header.{Header}
 use Rattle.block.specs.declared.refusal.Refusal.{Refusal}
-use Rattle.block.specs.declared.refusal.Refusal.the-variants.{Stub, Edition, ZeroBits, ListLimit, Length, NoShape, Corners, Buffer, Attributes, Nothing}
+use Rattle.block.specs.declared.refusal.Refusal.the-variants.{Stub, Edition, ZeroBits, ListLimit, Length, NoShape, Corners, Buffer, Attributes, Pairs, Nothing}
 
--- FORMAT 3: the table's number of each answer; the conditions 6 to 8 are of the shape and of the lent slices, and stand with those
+-- FORMAT 3: the table's number of each answer; the conditions 6 to 8 and 10 are of the shape, of the lent slices and of a part's pairs, and stand with those
 abbrev pub numberOf : Refusal → ℕ
 numberOf Stub = 1
 numberOf Edition = 2
@@ -24,6 +24,7 @@ numberOf NoShape = 6
 numberOf Corners = 7
 numberOf Buffer = 8
 numberOf Attributes = 9
+numberOf Pairs = 10
 numberOf Nothing = 0
 
 -- FORMAT 3, 1, stub: fewer bytes than the header of edition 1

@@ -23,6 +23,7 @@ pub enum Refusal {
     Corners,
     Buffer,
     Attributes,
+    Pairs,
     Nothing,
 }
 
@@ -40,6 +41,7 @@ pub fn number_of(answer: Refusal) -> u32
         Refusal::Corners => 7,
         Refusal::Buffer => 8,
         Refusal::Attributes => 9,
+        Refusal::Pairs => 10,
         Refusal::Nothing => 0,
     }
 }
