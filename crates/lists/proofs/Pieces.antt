@@ -28,9 +28,15 @@ module _ {A : Type 0} where
   map-flat {B} f (x ∷ l) = map-append f x (flat l) ∙ ap (λ (r : List B). map f x ++ r) (map-flat f l)
 
   -- one piece more
-  flat-more : (F : ℕ → List A) (i : ℕ) → flat (tab F (i + 1) 0) ≡ flat (tab F i 0) ++ F i
+  pub flat-more : (F : ℕ → List A) (i : ℕ) → flat (tab F (i + 1) 0) ≡ flat (tab F i 0) ++ F i
   unfolding flat
   flat-more F i = ap flat (tab-snoc F i) ∙ flat-append (tab F i 0) (F i ∷ []) ∙ ap (λ (r : List A). flat (tab F i 0) ++ r) (append-nil (F i))
+
+  -- pieces of one element
+  pub flat-ones : (f : ℕ → A) (n i : ℕ) → flat (tab (λ j. f j ∷ []) n i) ≡ tab f n i
+  unfolding tab flat
+  flat-ones f zero i = refl
+  flat-ones f (suc n) i = ap (λ (r : List A). f i ∷ r) (flat-ones f n (suc i))
 
   pub length-pieces : (F : ℕ → List A) (w : ℕ) → ((t : ℕ) → length (F t) ≡ w) → (i : ℕ) → length (flat (tab F i 0)) ≡ i * w
   length-pieces F w h i = flat-total (tab F i 0) ∙ total-tab length F w h i 0
@@ -151,6 +157,53 @@ module _ {A : Type 0} {F : ℕ → List A} {n : ℕ} {l : List A} {k : ℕ} wher
 -- words: what stands below is kept
 pub pieces-kept : {F : ℕ → List ℕ} {n : ℕ} {l : List ℕ} {k i : ℕ} {made : List ℕ} → Pieces F n l k i made → k ≤ length l → Kept k l made
 pieces-kept {F} {n} {l} {k} {i} P h = record { len = P .size; front = ap (take k) (P .is) ∙ spliced-front l k (flat (tab F i 0)) h }
+
+-- ---- pieces that differ in length, where there is room for all
+
+-- a loop: of l from place k on the first i of n pieces are written, and the next goes to place a
+pub record Uneven {A : Type 0} (F : ℕ → List A) (n : ℕ) (l : List A) (k i a : ℕ) (made : List A) : Type 0 where
+  pub so-far : i ≤ n
+  pub is : made ≡ spliced l k (flat (tab F i 0))
+  pub next : a ≡ k + length (flat (tab F i 0))
+  pub size : length made ≡ length l
+
+module _ {A : Type 0} where
+  -- the first pieces and the next are no longer than all
+  pub uneven-room : (F : ℕ → List A) (n i : ℕ) → i < n → length (flat (tab F i 0)) + length (F i) ≤ length (flat (tab F n 0))
+  uneven-room F n i b =
+      let m : n ≡ i + 1 + (n - (i + 1)) = omega arith in
+      let e : flat (tab F n 0) ≡ flat (tab F (i + 1) 0) ++ flat (tab F (n - (i + 1)) (0 + (i + 1))) =
+      ap (λ (j : ℕ). flat (tab F j 0)) m ∙ ap flat (tab-add F (i + 1) (n - (i + 1)) 0) ∙ flat-append (tab F (i + 1) 0) (tab F (n - (i + 1)) (0 + (i + 1))) in
+      omega (
+        arith,
+        ap length e ∙ length-append (flat (tab F (i + 1) 0)) (flat (tab F (n - (i + 1)) (0 + (i + 1)))),
+        ap length (flat-more F i) ∙ length-append (flat (tab F i 0)) (F i),
+      )
+
+module _ {A : Type 0} {F : ℕ → List A} {n : ℕ} {l : List A} {k : ℕ} where
+  pub uneven-none : Uneven F n l k 0 k l
+  unfolding tab flat
+  uneven-none = record { so-far = omega arith; is = splice-start l k; next = sym (add-zero k); size = refl }
+
+  pub uneven-more : {i a b : ℕ} {made made′ : List A} → k + length (flat (tab F n 0)) ≤ length l → Uneven F n l k i a made → i < n → b ≡ a + length (F i)
+      → made′ ≡ spliced made a (F i) → Uneven F n l k (i + 1) b made′
+  uneven-more {i} {a} {b} {made} {made′} room P h eb em =
+      let r = uneven-room F n i h in
+      let x = P .next in
+      let g : length (flat (tab F i 0) ++ F i) ≡ length (flat (tab F i 0)) + length (F i) = length-append (flat (tab F i 0)) (F i) in
+      let q : made′ ≡ spliced l k (flat (tab F i 0) ++ F i) =
+      rw (em, P .is) (splice-more l k a (flat (tab F i 0)) (F i) x (omega arith)) in
+      record {
+        so-far = omega arith;
+        is = q ∙ ap (spliced l k) (sym (flat-more F i));
+        next = omega (arith, ap length (flat-more F i) ∙ g);
+        size = put-size l k (flat (tab F i 0) ++ F i) q g (omega arith);
+      }
+
+  pub uneven-all : {i a : ℕ} {made : List A} → Uneven F n l k i a made → n ≤ i → made ≡ spliced l k (flat (tab F n 0))
+  uneven-all {i} P h =
+      let e : i ≡ n = (let s = P .so-far in omega arith) in
+      P .is ∙ ap (λ (j : ℕ). spliced l k (flat (tab F j 0))) e
 
 -- ---- one element at a time
 

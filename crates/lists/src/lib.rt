@@ -1,6 +1,9 @@
 // Words read and written at any place of a table.
 ghost use mathlib.Core.Path.{_≡_};
-ghost use lib.ListN.{getD, set};
+ghost use mathlib.Core.List.{[], _∷_};
+ghost use Prim.Native.Nat.{_+_, _≤_};
+ghost use lib.ListN.{length, getD, set};
+ghost use Rattle.lists.specs.Parts.{spliced};
 
 // A read past the end is 0.
 pub fn get(table: &[u32], k: usize) -> u32
@@ -19,4 +22,23 @@ pub fn put(table: &mut [u32], k: usize, v: u32)
     if k < table.len() {
         table[k] = v;
     }
+}
+
+// Two words from place a on.
+pub fn put_two(table: &mut [u32], a: usize, x: u32, y: u32)
+    requires { ⌜ a + 2 ≤ length (now table) ⌝ }
+    ensures { λ _. ⌜ now (table .exit) ≡ spliced (now (table .entry)) a (x ∷ y ∷ []) ⌝ }
+{
+    table[a] = x;
+    table[a + 1] = y;
+}
+
+// Three words from place a on.
+pub fn put_three(table: &mut [u32], a: usize, x: u32, y: u32, z: u32)
+    requires { ⌜ a + 3 ≤ length (now table) ⌝ }
+    ensures { λ _. ⌜ now (table .exit) ≡ spliced (now (table .entry)) a (x ∷ y ∷ z ∷ []) ⌝ }
+{
+    table[a] = x;
+    table[a + 1] = y;
+    table[a + 2] = z;
 }
