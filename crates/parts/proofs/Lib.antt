@@ -1,0 +1,5 @@
+-- Laws of what the parts have in common.
+pub mod Pushing
+pub mod Capping
+pub mod Parting
+pub mod Holding
