@@ -1,0 +1,3 @@
+-- A PointSet.
+pub mod PointSet
+pub mod Numbers
