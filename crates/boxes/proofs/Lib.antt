@@ -1,0 +1,3 @@
+-- Laws of a box, and rows of it worked out.
+pub mod Sized
+pub mod Rows

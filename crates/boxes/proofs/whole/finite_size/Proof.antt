@@ -1,0 +1,41 @@
+use Rattle.boxes.specs.Box.{finiteSize}
+use borrow.Author.Needs.{needs}
+use Rattle.boxes.proofs.whole.finite_size.Statement.{statement}
+use Rattle.boxes.proofs.whole.finite_size.Tie as tie
+
+is-finite-requires : tie.Need-is-finite-requires
+is-finite-requires c κs = search needs
+
+is-finite-requires-2 : tie.Need-is-finite-requires-2
+is-finite-requires-2 c κs = search needs
+
+is-finite-requires-3 : tie.Need-is-finite-requires-3
+is-finite-requires-3 c κs = search needs
+
+returns : tie.Need-returns
+unfolding finiteSize
+returns c = rw (← c .before .before .before .before .before .is-finite .ensures, c .before .before .before .before .if1 .taken, ← c .before .before .before .is-finite2 .ensures, c .before .before .if2 .taken, ← c .before .is-finite3 .ensures, c .if3 .taken)
+
+returns-2 : tie.Need-returns-2
+unfolding finiteSize
+returns-2 c = rw (← c .before .before .before .before .before .is-finite .ensures, c .before .before .before .before .if1 .taken, ← c .before .before .before .is-finite2 .ensures, c .before .before .if2 .taken, ← c .before .is-finite3 .ensures, c .if3 .left)
+
+returns-3 : tie.Need-returns-3
+unfolding finiteSize
+returns-3 c = rw (← c .before .before .before .is-finite .ensures, c .before .before .if1 .taken, ← c .before .is-finite2 .ensures, c .if2 .left)
+
+returns-4 : tie.Need-returns-4
+unfolding finiteSize
+returns-4 c = rw (← c .before .is-finite .ensures, c .if1 .left)
+
+pub finite-size-spec : {M : Type 1} → statement M
+finite-size-spec =
+    tie.close
+    (tie.spec
+    is-finite-requires
+    is-finite-requires-2
+    is-finite-requires-3
+    returns
+    returns-2
+    returns-3
+    returns-4)

@@ -1,0 +1,2 @@
+-- A box.
+pub mod Box
