@@ -1,0 +1,4 @@
+-- Laws of a sphere.
+pub mod Adding
+pub mod Sized
+pub mod Calling

@@ -1,0 +1,2 @@
+-- A sphere.
+pub mod Sphere
