@@ -1,0 +1,2 @@
+-- Laws of a cone.
+pub mod Sides

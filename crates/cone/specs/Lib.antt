@@ -1,0 +1,2 @@
+-- A cone.
+pub mod Cone

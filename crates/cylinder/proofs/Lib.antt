@@ -1,0 +1,2 @@
+-- Laws of a cylinder.
+pub mod Sides

@@ -1,0 +1,2 @@
+-- A cylinder.
+pub mod Cylinder

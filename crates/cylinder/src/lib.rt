@@ -1,0 +1,5 @@
+// FORMAT 17.8, cylinder.
+mod side;
+mod whole;
+
+pub use whole::cylinder;
