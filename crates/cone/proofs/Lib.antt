@@ -1,2 +1,3 @@
--- Laws of a cone.
+-- Laws of a cone, and rows of it worked out.
 pub mod Sides
+pub mod Rows

@@ -1,2 +1,3 @@
--- Laws of a cylinder.
+-- Laws of a cylinder, and rows of it worked out.
 pub mod Sides
+pub mod Rows

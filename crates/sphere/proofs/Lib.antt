@@ -1,4 +1,5 @@
--- Laws of a sphere.
+-- Laws of a sphere, and rows of it worked out.
 pub mod Adding
 pub mod Sized
 pub mod Calling
+pub mod SphereRows

@@ -1,0 +1,117 @@
+-- FORMAT 17.8, worked out: cylinders of 3 slices with radius 2 and height 4, with and without a side and caps.
+use mathlib.Core.Path.{_≡_, refl}
+use mathlib.Core.Bool.{Bool, true, false}
+use mathlib.Core.List.{List, [], _∷_, _++_}
+use Prim.Native.Nat.{ℕ}
+use lib.ListN.{length}
+use lib.Ieee.{Float, binary32, ofBits, toBits, add, sub, mul, div, lt}
+use Rattle.bits.specs.declared.Words3.{Words3}
+use Rattle.lists.specs.Lists.{flat}
+use Rattle.lists.specs.Loops.{tab}
+use Rattle.math.specs.Vector.{zeroF, oneF, twoF}
+use Rattle.parts.specs.declared.sizes.PartSizes.{PartSizes}
+use Rattle.parts.specs.Ring.{sineAt, cosineAt, ringAt, shareOf}
+use Rattle.parts.specs.Sizes.{dimOf, heldTo}
+use Rattle.parts.specs.Part.{Part, followed, positionsOf, normalsOf}
+use Rattle.parts.specs.Cap.{capNormal, capTexture, capCentre, capVert, capVerts, capTri, capIndices, capPart, capAt}
+use Rattle.cylinder.specs.Cylinder.{sideVert, sideVerts, sideTris, sidePart, sideAt, cylinderPart, cylinderOf}
+
+abbrev minusF : Float
+minusF = ofBits binary32 0xbf80_0000
+
+abbrev fourF : Float
+fourF = ofBits binary32 0x4080_0000
+
+-- sines and cosines: at the start, a quarter and a half round
+abbrev turn : List Float
+turn = zeroF ∷ oneF ∷ oneF ∷ zeroF ∷ zeroF ∷ minusF ∷ []
+
+-- the side comes back to the start
+abbrev pairs : List Float
+pairs = turn ++ (zeroF ∷ oneF ∷ turn ++ turn)
+
+abbrev made : Bool → Bool → Bool → Part
+made side top bottom = cylinderOf twoF fourF side top bottom 3 pairs
+
+-- ---- how large
+
+abbrev sizes : Part → PartSizes
+sizes p = record { vertices = length (p .verts); indices = length (p .indices); pairs = p .pairs }
+
+abbrev by : ℕ → ℕ → ℕ → PartSizes
+by v i p = record { vertices = v; indices = i; pairs = p }
+
+all-there : sizes (made true true true) ≡ by 16 36 10
+unfolding cylinderOf cylinderPart followed sideAt sidePart sideVerts sideTris capAt capPart capVerts capIndices capTri heldTo flat tab
+all-there = refl
+
+no-bottom : sizes (made true true false) ≡ by 12 27 7
+unfolding cylinderOf cylinderPart followed sideAt sidePart sideVerts sideTris capAt capPart capVerts capIndices capTri heldTo flat tab
+no-bottom = refl
+
+no-top : sizes (made true false true) ≡ by 12 27 7
+unfolding cylinderOf cylinderPart followed sideAt sidePart sideVerts sideTris capAt capPart capVerts capIndices capTri heldTo flat tab
+no-top = refl
+
+side-only : sizes (made true false false) ≡ by 8 18 4
+unfolding cylinderOf cylinderPart followed sideAt sidePart sideVerts sideTris capAt capPart capVerts capIndices capTri heldTo flat tab
+side-only = refl
+
+no-side : sizes (made false true true) ≡ by 8 18 6
+unfolding cylinderOf cylinderPart followed sideAt sidePart sideVerts sideTris capAt capPart capVerts capIndices capTri heldTo flat tab
+no-side = refl
+
+none-there : sizes (made false false false) ≡ by 0 0 0
+unfolding cylinderOf cylinderPart followed sideAt sidePart sideVerts sideTris capAt capPart capVerts capIndices capTri heldTo flat tab
+none-there = refl
+
+-- ---- the indices
+
+abbrev side : List ℕ
+side = 0 ∷ 2 ∷ 3 ∷ 0 ∷ 3 ∷ 1 ∷ 2 ∷ 4 ∷ 5 ∷ 2 ∷ 5 ∷ 3 ∷ 4 ∷ 6 ∷ 7 ∷ 4 ∷ 7 ∷ 5 ∷ []
+
+indices : made true true true .indices ≡ side ++ (8 ∷ 9 ∷ 10 ∷ 8 ∷ 10 ∷ 11 ∷ 8 ∷ 11 ∷ 9 ∷ 12 ∷ 14 ∷ 13 ∷ 12 ∷ 15 ∷ 14 ∷ 12 ∷ 13 ∷ 15 ∷ [])
+unfolding cylinderOf cylinderPart followed sideAt sidePart sideVerts sideTris capAt capPart capVerts capIndices capTri heldTo flat tab
+indices = refl
+
+-- the bottom takes the numbers that the top would have
+indices-no-top : made true false true .indices ≡ side ++ (8 ∷ 10 ∷ 9 ∷ 8 ∷ 11 ∷ 10 ∷ 8 ∷ 9 ∷ 11 ∷ [])
+unfolding cylinderOf cylinderPart followed sideAt sidePart sideVerts sideTris capAt capPart capVerts capIndices capTri heldTo flat tab
+indices-no-top = refl
+
+indices-no-side : made false true true .indices ≡ 0 ∷ 1 ∷ 2 ∷ 0 ∷ 2 ∷ 3 ∷ 0 ∷ 3 ∷ 1 ∷ 4 ∷ 6 ∷ 5 ∷ 4 ∷ 7 ∷ 6 ∷ 4 ∷ 5 ∷ 7 ∷ []
+unfolding cylinderOf cylinderPart followed sideAt sidePart sideVerts sideTris capAt capPart capVerts capIndices capTri heldTo flat tab
+indices-no-side = refl
+
+-- ---- the vertices: the bits of 0, -0, 1, -1, 2 and -2
+
+abbrev o : ℕ
+o = 0
+
+abbrev z : ℕ
+z = 0x8000_0000
+
+abbrev one : ℕ
+one = 0x3f80_0000
+
+abbrev minus : ℕ
+minus = 0xbf80_0000
+
+abbrev up : ℕ
+up = 0x4000_0000
+
+abbrev down : ℕ
+down = 0xc000_0000
+
+abbrev at : ℕ → ℕ → ℕ → Words3
+at x y z = record { x = x; y = y; z = z }
+
+positions : positionsOf (made true true true .verts)
+    ≡ (at z down down) ∷ (at z up down) ∷ (at down down z) ∷ (at down up z) ∷ (at z down up) ∷ (at z up up) ∷ (at z down down) ∷ (at z up down) ∷ (at o up o) ∷ (at z up down) ∷ (at down up z) ∷ (at z up up) ∷ (at o down o) ∷ (at z down down) ∷ (at down down z) ∷ (at z down up) ∷ []
+unfolding positionsOf cylinderOf cylinderPart followed sideAt sidePart sideVerts sideVert capAt capPart capVerts capVert capCentre capNormal capTexture dimOf heldTo sineAt cosineAt ringAt shareOf flat tab ofBits toBits add sub mul div lt
+positions = refl
+
+normals : normalsOf (made true true true .verts)
+    ≡ (at z o minus) ∷ (at z o minus) ∷ (at minus o z) ∷ (at minus o z) ∷ (at z o one) ∷ (at z o one) ∷ (at z o minus) ∷ (at z o minus) ∷ (at o one o) ∷ (at o one o) ∷ (at o one o) ∷ (at o one o) ∷ (at o minus o) ∷ (at o minus o) ∷ (at o minus o) ∷ (at o minus o) ∷ []
+unfolding normalsOf cylinderOf cylinderPart followed sideAt sidePart sideVerts sideVert capAt capPart capVerts capVert capCentre capNormal capTexture dimOf heldTo sineAt cosineAt ringAt shareOf flat tab ofBits toBits add sub mul div lt
+normals = refl
