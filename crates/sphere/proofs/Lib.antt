@@ -3,3 +3,4 @@ pub mod Adding
 pub mod Sized
 pub mod Calling
 pub mod SphereRows
+pub mod Within
