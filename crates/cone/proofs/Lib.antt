@@ -1,3 +1,4 @@
 -- Laws of a cone, and rows of it worked out.
 pub mod Sides
 pub mod Rows
+pub mod Within

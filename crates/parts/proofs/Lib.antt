@@ -3,3 +3,4 @@ pub mod Pushing
 pub mod Capping
 pub mod Parting
 pub mod Holding
+pub mod Naming
