@@ -4,3 +4,5 @@ pub mod Sized
 pub mod Calling
 pub mod SphereRows
 pub mod Within
+pub mod Taking
+pub mod Read
