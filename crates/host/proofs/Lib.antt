@@ -1,2 +1,2 @@
--- How a call ends.
+-- The two ways a call ends.
 mod Ends

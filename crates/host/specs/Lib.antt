@@ -1,3 +1,2 @@
 -- What a host's call promises.
 pub mod Hosted
-pub mod Context
