@@ -1,2 +1,2 @@
--- The two ways a call ends.
+-- How a call ends.
 mod Ends

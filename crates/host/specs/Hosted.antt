@@ -1,11 +1,10 @@
--- FORMAT 15: what a host's call promises: that of `convert`, with the answer as a number and words.
+-- FORMAT 15, 17.12: what a host's call promises: that of the call behind it, with the answer as a number and words.
 use Prim.Native.Nat.{ℕ}
 use mathlib.Core.Path.{_≡_}
 use mathlib.Core.List.{List, [], _∷_}
 use lib.Seq.{sets}
 use Rattle.block.specs.Refusal.{numberOf}
 use Rattle.mesh.specs.Sizes.{one}
-use Rattle.geometry.specs.Converted.{Lending, Converted}
 use Rattle.lent.specs.declared.answer.Answer.{Answer}
 use Rattle.lent.specs.declared.answer.Answer.the-variants.{Refused, Made}
 use Rattle.geometry.specs.declared.answer.Call.{Call}
@@ -30,9 +29,9 @@ abbrev pub resultAfter : Answer → List ℕ → List ℕ
 resultAfter (Refused n) held = held
 resultAfter (Made p) held = sets held 0 (wordsOf p)
 
--- FORMAT 15: a call with what its host chose, on the block bs, with l and the result slice x lent, left m and y and returned r
-pub record Hosted (call : Call) (bs : List ℕ) (l m : Lending) (x y : List ℕ) (r : ℕ) : Type 0 where
+-- FORMAT 15, 17.12: a call of which the answer fulfils a promise; with the result slice x lent it left y and returned r
+pub record Hosted (promise : Answer → Type 0) (x y : List ℕ) (r : ℕ) : Type 0 where
   pub answer : Answer
-  pub converted : Converted call bs l m answer
+  pub kept : promise answer
   pub number : r ≡ returned answer
   pub result : y ≡ resultAfter answer x

@@ -1,2 +1,3 @@
 -- What a host's call promises.
 pub mod Hosted
+pub mod Context

@@ -1,16 +1,17 @@
-// The conversion for hosts in other languages (FORMAT 15).
+// The conversion for hosts in other languages (FORMAT 15), and the parts (FORMAT 17.12).
 ghost use mathlib.Core.Path.{_≡_};
-ghost use lib.ListN.{set};
-ghost use lib.Seq.{sets};
-ghost use Rattle.mesh.specs.Sizes.{one};
+ghost use Rattle.geometry.specs.Converted.{Converted};
 ghost use Rattle.sine.specs.SinCos.{sinCosOf};
-ghost use Rattle.host.specs.Hosted.{callOf, Hosted, wordsOf};
+ghost use Rattle.host.specs.Hosted.{callOf, Hosted};
+use answers::answered;
 use bits::Words4;
-use block::number_of;
 use geometry::Call;
-use lent::Answer;
-use lent::Report;
 use sine::SinCos;
+
+mod answers;
+mod context;
+mod points;
+mod solids;
 
 // A colour as a host has it: the bits of four f32, laid out as in C.
 #[repr(C)]
@@ -25,34 +26,6 @@ pub struct Colour {
 #[repr(C)]
 pub struct Choice {
     pub colour: Colour,
-}
-
-fn one_if(b: bool) -> usize
-    ensures { λ r. ⌜ r ≡ one b ⌝ }
-{
-    if b {
-        return 1;
-    }
-    0
-}
-
-// A word of the result slice, if the slice has its place.
-fn put(result: &mut [usize], k: usize, v: usize)
-    ensures { λ _. ⌜ now (result .exit) ≡ set (now (result .entry)) k v ⌝ }
-{
-    if k < result.len() {
-        result[k] = v;
-    }
-}
-
-fn put_report(result: &mut [usize], p: Report)
-    ensures { λ _. ⌜ now (result .exit) ≡ sets (now (result .entry)) 0 (wordsOf p) ⌝ }
-{
-    put(result, 0, p.vertices);
-    put(result, 1, p.indices);
-    put(result, 2, one_if(p.solid));
-    put(result, 3, one_if(p.unlit));
-    put(result, 4, one_if(p.has_colors));
 }
 
 fn call_of(choice: Choice) -> Call
@@ -84,12 +57,12 @@ pub extern "C" fn sitemesh_convert(
     floats: &mut [f32],
     result: &mut [usize],
 ) -> u32
-    ensures { λ r. ⌜ Hosted (callOf choice) (now (block .entry))
+    ensures { λ r. ⌜ Hosted (Converted (callOf choice) (now (block .entry))
         (record { slices = record { positions = now (positions .entry); normals = now (normals .entry); colours = now (colours .entry); textures = now (textures .entry); sources = now (sources .entry); indices = now (indices .entry) }; words = now (words .entry); floats = now (floats .entry) })
-        (record { slices = record { positions = now (positions .exit); normals = now (normals .exit); colours = now (colours .exit); textures = now (textures .exit); sources = now (sources .exit); indices = now (indices .exit) }; words = now (words .exit); floats = now (floats .exit) })
+        (record { slices = record { positions = now (positions .exit); normals = now (normals .exit); colours = now (colours .exit); textures = now (textures .exit); sources = now (sources .exit); indices = now (indices .exit) }; words = now (words .exit); floats = now (floats .exit) }))
         (now (result .entry)) (now (result .exit)) r ⌝ }
 {
-    match geometry::convert(
+    let a = geometry::convert(
         call_of(choice),
         block,
         positions,
@@ -100,13 +73,8 @@ pub extern "C" fn sitemesh_convert(
         indices,
         words,
         floats,
-    ) {
-        Answer::Refused(no) => number_of(no),
-        Answer::Made(p) => {
-            put_report(result, p);
-            0
-        }
-    }
+    );
+    answered(a, result)
 }
 
 // Sine and cosine of an angle (FORMAT 16), for whoever fills a block.

@@ -1,11 +1,11 @@
 use Rattle.host.specs.Hosted.{wordsOf}
 use borrow.Author.Needs.{needs}
-use Rattle.host.proofs.put_report.Statement.{statement}
-use Rattle.host.proofs.put_report.Tie as tie
-use Rattle.host.proofs.put_report.Reads as reads
-use Rattle.host.proofs.put_report.Lts as lts
-use Rattle.host.proofs.one_if.Reads as one-if-reads
-use Rattle.host.proofs.put.Reads as put-reads
+use Rattle.host.proofs.answers.put_report.Statement.{statement}
+use Rattle.host.proofs.answers.put_report.Tie as tie
+use Rattle.host.proofs.answers.put_report.Reads as reads
+use Rattle.host.proofs.answers.put_report.Lts as lts
+use Rattle.host.proofs.answers.one_if.Reads as one-if-reads
+use Rattle.host.proofs.answers.put.Reads as put-reads
 
 put-requires : tie.Need-put-requires
 put-requires c κs = search needs

@@ -1,10 +1,10 @@
 use mathlib.Core.Path.{sym}
 use lib.Seq.{set-out}
 use borrow.Author.Needs.{needs}
-use Rattle.host.proofs.put.Statement.{statement}
-use Rattle.host.proofs.put.Tie as tie
-use Rattle.host.proofs.put.Reads as reads
-use Rattle.host.proofs.put.Lts as lts
+use Rattle.host.proofs.answers.put.Statement.{statement}
+use Rattle.host.proofs.answers.put.Tie as tie
+use Rattle.host.proofs.answers.put.Reads as reads
+use Rattle.host.proofs.answers.put.Lts as lts
 
 mul-result : tie.Need-mul-result
 mul-result c = search needs
