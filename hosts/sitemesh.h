@@ -28,7 +28,7 @@
 extern "C" {
 #endif
 
-/* What a call returns: SITEMESH_OK, or why the block is refused (docs/FORMAT.md 3). */
+/* What a call returns: SITEMESH_OK, or why the block (docs/FORMAT.md 3) or the part (17.10) is refused. */
 enum {
     SITEMESH_OK = 0,
     SITEMESH_STUB = 1,
@@ -39,7 +39,8 @@ enum {
     SITEMESH_NO_SHAPE = 6,
     SITEMESH_CORNERS = 7,
     SITEMESH_BUFFER = 8,
-    SITEMESH_ATTRIBUTES = 9
+    SITEMESH_ATTRIBUTES = 9,
+    SITEMESH_PAIRS = 10
 };
 
 /* What `result` holds after success. */
@@ -112,6 +113,172 @@ typedef struct {
  * some 4.1 KiB of stack: the table is laid out there in each call.
  */
 sitemesh_sincos sitemesh_sin_cos(float angle);
+
+/*
+ * Parts (docs/FORMAT.md 17): PointSet, Box, Sphere, Cylinder and Cone of VRML97, of numbers in place of a block. What is
+ * said above of slices, floats and threads holds here too, for what is read as for the block. A call returns SITEMESH_OK
+ * and writes `result` as above; or SITEMESH_CORNERS, SITEMESH_PAIRS or SITEMESH_BUFFER, tried in this order, and then every
+ * lent element is what it was. hosts/part.c is a program that calls them.
+ *
+ * - A part lies round the origin, its axis along Y, and has no colour: place and colour are the host's.
+ * - A size that is not finite or not above 0 is the standard's default: 2 for a side of a box or a height, 1 for a radius;
+ *   one side of a box that is not finite makes all three 2. Slices are held to 3 to 1,024, stacks to 2 to 1,024. A flag is
+ *   off where it is 0, else on.
+ * - `transform`: eight floats or more are a texture transform, of which the first eight count: centre s and t, sine and
+ *   cosine of the rotation, scale s and t, translation s and t. Fewer are none. `textures` is asked for where need_uvs is on.
+ * - `pairs`: a sine and a cosine for each place where the part turns, in an order of its own; sitemesh_fill_sphere and the
+ *   like fill them. Its length is counted in floats. With too few SITEMESH_PAIRS is returned; those beyond are not read.
+ */
+
+/* Of the points the full ones, at most 8,192. `listed` are their colours, of four floats where alpha is on, else three; too
+ * few of them, or has_colors off, and no colours are made. Asked for: positions 3, sources 1 and, where made, colours 4 for
+ * each point. There are no indices. */
+uint32_t sitemesh_point_set(const float *points, size_t points_length,
+                            uint32_t has_colors, uint32_t alpha,
+                            const float *listed, size_t listed_length,
+                            float *positions, size_t positions_length,
+                            float *colours, size_t colours_length,
+                            uint32_t *sources, size_t sources_length,
+                            size_t *result, size_t result_length);
+
+/* Of the other four: positions and normals 3 for each vertex, textures 2, and the indices; sitemesh_sizes has how many. */
+uint32_t sitemesh_box(float x, float y, float z,
+                      uint32_t need_uvs, const float *transform, size_t transform_length,
+                      float *positions, size_t positions_length,
+                      float *normals, size_t normals_length,
+                      float *textures, size_t textures_length,
+                      uint32_t *indices, size_t indices_length,
+                      size_t *result, size_t result_length);
+
+uint32_t sitemesh_sphere(float radius, uint32_t slices, uint32_t stacks,
+                         uint32_t need_uvs, const float *transform, size_t transform_length,
+                         const float *pairs, size_t pairs_length,
+                         float *positions, size_t positions_length,
+                         float *normals, size_t normals_length,
+                         float *textures, size_t textures_length,
+                         uint32_t *indices, size_t indices_length,
+                         size_t *result, size_t result_length);
+
+uint32_t sitemesh_cylinder(float radius, float height, uint32_t side, uint32_t top, uint32_t bottom, uint32_t slices,
+                           uint32_t need_uvs, const float *transform, size_t transform_length,
+                           const float *pairs, size_t pairs_length,
+                           float *positions, size_t positions_length,
+                           float *normals, size_t normals_length,
+                           float *textures, size_t textures_length,
+                           uint32_t *indices, size_t indices_length,
+                           size_t *result, size_t result_length);
+
+uint32_t sitemesh_cone(float bottom_radius, float height, uint32_t side, uint32_t bottom, uint32_t slices,
+                       uint32_t need_uvs, const float *transform, size_t transform_length,
+                       const float *pairs, size_t pairs_length,
+                       float *positions, size_t positions_length,
+                       float *normals, size_t normals_length,
+                       float *textures, size_t textures_length,
+                       uint32_t *indices, size_t indices_length,
+                       size_t *result, size_t result_length);
+
+/* How many vertices and indices a part has, and how many pairs it takes, two floats each. */
+typedef struct {
+    size_t vertices, indices, pairs;
+} sitemesh_sizes;
+
+/* Those of a box; and what serves every cylinder and cone, and every sphere. */
+enum {
+    SITEMESH_BOX_VERTICES = 24,
+    SITEMESH_BOX_INDICES = 36,
+    SITEMESH_MOST_ROUND_VERTICES = 4 * 1025,
+    SITEMESH_MOST_ROUND_INDICES = 12 * 1024,
+    SITEMESH_MOST_ROUND_PAIRS = 6 * 1024,
+    SITEMESH_MOST_SPHERE_VERTICES = 1025 * 1025,
+    SITEMESH_MOST_SPHERE_INDICES = 6 * 1024 * 1023,
+    SITEMESH_MOST_SPHERE_PAIRS = 1025 * 1026
+};
+
+/* Slices are held to 3 to 1,024, stacks to 2 to 1,024. */
+static inline uint32_t sitemesh_held(uint32_t n, uint32_t least) {
+    return n < least ? least : n > 1024 ? 1024 : n;
+}
+
+static inline sitemesh_sizes sitemesh_sphere_sizes(uint32_t slices, uint32_t stacks) {
+    size_t n = sitemesh_held(slices, 3), k = sitemesh_held(stacks, 2);
+    sitemesh_sizes sizes = {(k + 1) * (n + 1), 6 * n * (k - 1), (k + 1) * (n + 2)};
+    return sizes;
+}
+
+static inline sitemesh_sizes sitemesh_cylinder_sizes(uint32_t side, uint32_t top, uint32_t bottom, uint32_t slices) {
+    size_t n = sitemesh_held(slices, 3), sides = side ? 1 : 0, caps = (top ? 1 : 0) + (bottom ? 1 : 0);
+    sitemesh_sizes sizes = {(2 * sides + caps) * (n + 1), (6 * sides + 3 * caps) * n, sides * (n + 1) + caps * n};
+    return sizes;
+}
+
+static inline sitemesh_sizes sitemesh_cone_sizes(uint32_t side, uint32_t bottom, uint32_t slices) {
+    size_t n = sitemesh_held(slices, 3), sides = side ? 1 : 0, caps = bottom ? 1 : 0;
+    sitemesh_sizes sizes = {3 * sides * n + caps * (n + 1), 3 * (sides + caps) * n, (5 * sides + caps) * n};
+    return sizes;
+}
+
+/*
+ * Filling the pairs of a part, in its order (docs/FORMAT.md 17.3). `sin_cos` gives both of an angle from 0 to 2 pi: either
+ * sitemesh_sin_cos, the same on every machine, or a function over the host's sinf and cosf, with which the mesh is that of the
+ * reference on that host, bit for bit. Each function returns how many pairs the part takes, and fills as many as `pairs`
+ * has room for.
+ */
+typedef sitemesh_sincos (*sitemesh_sine)(float angle);
+
+#define SITEMESH_PI 3.14159274f
+#define SITEMESH_TAU 6.28318548f
+
+static inline size_t sitemesh_fill_pair(float *pairs, size_t length, size_t at, float angle, sitemesh_sine sin_cos) {
+    if (2 * at + 1 < length) {
+        sitemesh_sincos pair = sin_cos(angle);
+        pairs[2 * at] = pair.sin;
+        pairs[2 * at + 1] = pair.cos;
+    }
+    return at + 1;
+}
+
+/* So many places of a circle of n slices. */
+static inline size_t sitemesh_fill_ring(float *pairs, size_t length, size_t at, uint32_t places, uint32_t n,
+                                        sitemesh_sine sin_cos) {
+    for (uint32_t i = 0; i < places; i++)
+        at = sitemesh_fill_pair(pairs, length, at, SITEMESH_TAU * ((float)i / (float)n), sin_cos);
+    return at;
+}
+
+static inline size_t sitemesh_fill_sphere(float *pairs, size_t pairs_length, uint32_t slices, uint32_t stacks,
+                                          sitemesh_sine sin_cos) {
+    uint32_t n = sitemesh_held(slices, 3), k = sitemesh_held(stacks, 2);
+    size_t at = 0;
+    for (uint32_t j = 0; j <= k; j++) {
+        at = sitemesh_fill_pair(pairs, pairs_length, at, SITEMESH_PI * ((float)j / (float)k), sin_cos);
+        at = sitemesh_fill_ring(pairs, pairs_length, at, n + 1, n, sin_cos);
+    }
+    return at;
+}
+
+static inline size_t sitemesh_fill_cylinder(float *pairs, size_t pairs_length, uint32_t side, uint32_t top,
+                                            uint32_t bottom, uint32_t slices, sitemesh_sine sin_cos) {
+    uint32_t n = sitemesh_held(slices, 3);
+    size_t at = 0;
+    if (side) at = sitemesh_fill_ring(pairs, pairs_length, at, n + 1, n, sin_cos);
+    if (top) at = sitemesh_fill_ring(pairs, pairs_length, at, n, n, sin_cos);
+    if (bottom) at = sitemesh_fill_ring(pairs, pairs_length, at, n, n, sin_cos);
+    return at;
+}
+
+/* For each slice of the side five: its two ends for the positions, both again and the middle for the normals. */
+static inline size_t sitemesh_fill_cone(float *pairs, size_t pairs_length, uint32_t side, uint32_t bottom, uint32_t slices,
+                                        sitemesh_sine sin_cos) {
+    uint32_t n = sitemesh_held(slices, 3);
+    size_t at = 0;
+    for (uint32_t i = 0; side && i < n; i++) {
+        float s0 = (float)i / (float)n, s1 = (float)(i + 1) / (float)n;
+        float places[5] = {s0, s1, s0, s1, (s0 + s1) / 2.0f};
+        for (int k = 0; k < 5; k++)
+            at = sitemesh_fill_pair(pairs, pairs_length, at, SITEMESH_TAU * places[k], sin_cos);
+    }
+    return bottom ? sitemesh_fill_ring(pairs, pairs_length, at, n, n, sin_cos) : at;
+}
 
 #ifdef __cplusplus
 }

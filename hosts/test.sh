@@ -102,6 +102,57 @@ if have 'sines and cosines' python3; then
     fi
 fi
 
+# Parts: what is made of the stored ones, and what is tried of them from C, C++ and Rust, which print the same.
+cc -std=c99 -O2 -Wall -Wextra -Wpedantic -Werror hosts/part.c "$archive" -o "$out/part"
+tally 'hosts/part.c compiles' $?
+for part in examples/*.part tools/cases/*.part; do
+    "$out/part" "$part" | cmp - "${part%.part}.mesh"
+    tally "$part from C" $?
+done
+for text in 'box 1' 'torus 0' '' 'cylinder 3f800000 40000000 1 1 1 3 0 transform 1'; do
+    printf '%s\n' "$text" > "$out/wrong.part"
+    printed=$("$out/part" "$out/wrong.part" 2> "$out/said")
+    [ $? -eq 2 ] && [ -z "$printed" ] && [ "$(wc -l < "$out/said")" -eq 1 ]
+    tally "no part: '$text'" $?
+done
+cc -std=c99 -O2 -Wall -Wextra -Wpedantic -Werror hosts/parts.c "$archive" -o "$out/parts_c" && "$out/parts_c" > "$out/parts"
+tally 'parts from C' $?
+[ "$(grep -c '^\(box\|sphere\|cylinder\|cone\|transform\|points\) ' "$out/parts")" -eq 151 ]
+tally 'parts from C: how many' $?
+if have 'parts from C++' g++; then
+    g++ -x c++ -Wall -Wextra -Werror -I hosts hosts/parts.c -x none "$archive" -o "$out/parts_cpp" &&
+        "$out/parts_cpp" | cmp - "$out/parts" &&
+        g++ -x c++ -Wall -Wextra -Werror -I hosts hosts/part.c -x none "$archive" -o "$out/part_cpp" &&
+        "$out/part_cpp" examples/drum.part | cmp - examples/drum.mesh
+    tally 'parts from C++' $?
+fi
+if [ "${#callers[@]}" -ne 0 ]; then
+    for edition in 2021 2024; do
+        rustc --edition "$edition" -D warnings -O hosts/parts.rs -C "link-arg=$archive" -o "$out/parts_rs" &&
+            "$out/parts_rs" | cmp - "$out/parts"
+        tally "parts from Rust, edition $edition" $?
+    done
+fi
+# The angles that are filled, worked out from the table of docs/FORMAT.md 17.3 for 3 slices and 2 stacks.
+if have 'the angles of parts' python3; then
+    python3 - > "$out/angles" << 'END'
+import math, struct
+def f32(x):
+    return struct.unpack('>f', struct.pack('>f', x))[0]
+def at(p, s):
+    return struct.pack('>f', f32(p) * s).hex()
+tau, n, k = 2 * math.pi, 3, 2
+s = [f32(i / n) for i in range(n + 1)]
+turns = [at(tau, x) for x in s]
+sphere = [angle for j in range(k + 1) for angle in [at(math.pi, f32(j / k))] + turns]
+cone = [at(tau, x) for a, b in zip(s, s[1:]) for x in (a, b, a, b, f32(f32(a + b) / 2))]
+for name, angles in ('sphere', sphere), ('cylinder', turns + 2 * turns[:n]), ('cone', cone + turns[:n]):
+    print('angles of a', name, *angles)
+END
+    grep '^angles' "$out/parts" | cmp - "$out/angles"
+    tally 'the order in which pairs are filled' $?
+fi
+
 # README's lines, as they stand there: each compiles, and the programs say the same of the duct.
 duct='96 vertices, 372 indices
 first corner at 29.920 12.000 42.620'
@@ -171,5 +222,10 @@ for number in {1..9}; do
         tally "refusal $number by $example" $?
     done
 done
+
+# Refusal 10 is of parts alone.
+name=$(sed -n '/^### 17.10 /,/^### 17.11 /s/^| 10 | \([a-z ]*\) |.*/\1/p' docs/FORMAT.md)
+grep -q "^    SITEMESH_${name^^} = 10$" hosts/sitemesh.h && grep -q "^    ${name^} = 10,$" hosts/sitemesh.rs
+tally 'refusal 10 is named' $?
 
 tell_tally
