@@ -1,8 +1,9 @@
 #!/usr/bin/env python3
-"""Writes a block (docs/FORMAT.md 2) from a text file:
+"""Writes a block (docs/FORMAT.md 2) from a text file, or the numbers of a part (docs/FORMAT.md 17):
 
     python3 tools/block.py examples/duct.txt duct.block
     python3 tools/block.py - - < wall.txt | target/bin/sitemesh > wall.mesh
+    python3 tools/block.py examples/drum.txt drum.part && target/part drum.part > drum.mesh
 
 NOT PROVED: this tool is plain Python for people. Nothing of the converter depends on it.
 
@@ -23,6 +24,17 @@ A list that is named without values is present and empty. Beyond VRML97's names:
 X3D's four sets have no creaseAngle; here they have: 0, flat, where it is not given. Their colorPerVertex and
 normalPerVertex may only be TRUE, and a quad that is not convex begins at its inward corner or the one opposite.
 
+A part is one of PointSet, Box, Sphere, Cylinder and Cone. It has no block, and sitemesh does not read it: the library has
+a call for each, with the numbers that are written here. hosts/part.c reads them, makes the call and prints the mesh; the
+head of examples/make.sh says how it is built. Beyond VRML97's names: slices and stacks say how finely it is cut, 32 and
+16 where they are not given. Where a part stands, and its colour, are not the part's (tools/mesh.py: scenes).
+
+    shape Cylinder
+    radius 0.6
+    height 0.4
+    slices 24
+    bottom FALSE
+
 Commas count as spaces, as in VRML97. But a number with a fraction is written with a point: '0,5' alone between
 spaces is an error where fractions may stand, unless its comma parts two entries, as in '0 0 0,1 0 0'.
 
@@ -32,6 +44,8 @@ Warnings, each a line on standard error with the line of the text; the block is 
   - a run, point or quad that is drawn without its colour, normal or texture point (FORMAT 7); a missing colour is the
     one that the caller chooses: sitemesh passes white, a terminal grey;
   - a shape that draws nothing, a cap that is asked for and not drawn, a list that is not read or is too short;
+  - a size of a part that is not above 0, where the standard's default is taken, and slices or stacks beyond their range
+    (FORMAT 17.2); colours of a PointSet that are too few, which are left out whole (17.5);
   - with --table, an angle above 1024 in size, of an orientation half of it (FORMAT 16).
 Runs, points and values are numbered from 0; an empty run counts and is not warned of. -1 alone ends a run: a value
 below -1 names no point.
@@ -57,7 +71,7 @@ import files
 import losses
 import sine
 from files import Fault, shown
-from losses import DIMENSIONS, PRIMITIVES
+from losses import DIMENSIONS, PRIMITIVES, SIZES
 
 LIST_LIMIT = 8192
 TOO_LARGE = 2.0**128 - 2.0**103  # from here on the nearest f32 is infinite
@@ -65,6 +79,12 @@ NUMBER = re.compile(r'[+-]?(\d+\.?\d*|\.\d+)([eE][+-]?\d+)?', re.ASCII)
 WHOLE = re.compile(r'[+-]?\d+', re.ASCII)
 LONE_COMMA = re.compile(r'[+-]?\d+,\d+([eE][+-]?\d+)?(deg)?', re.ASCII)
 KINDS = ['IndexedFaceSet', 'IndexedLineSet', 'ElevationGrid', 'Extrusion', *PRIMITIVES]
+# The parts, and what the call of each takes first: sizes, flags, slices and stacks (FORMAT 17.1, 17.12).
+PARTS = {
+    'PointSet': ('point_set', ''), 'Box': ('box', 'size'), 'Sphere': ('sphere', 'radius slices stacks'),
+    'Cylinder': ('cylinder', 'radius height side top bottom slices'),
+    'Cone': ('cone', 'bottomRadius height side bottom slices'),
+}
 
 # The fields of each kind.
 FLAGS = {
@@ -73,11 +93,14 @@ FLAGS = {
     'ElevationGrid': 'ccw solid colorPerVertex normalPerVertex texture',
     'Extrusion': 'ccw convex solid texture beginCap endCap',
     **dict.fromkeys(PRIMITIVES, 'ccw solid colorPerVertex normalPerVertex texture'),
+    'PointSet': '', 'Box': 'texture', 'Sphere': 'texture', 'Cylinder': 'side top bottom texture', 'Cone': 'side bottom texture',
 }
+COUNTS = {'slices': 32, 'stacks': 16}  # whole numbers of a part, and the reference's defaults
 SINGLE = {  # how many values, and whether they are angles
     'creaseAngle': (1, True), 'xSpacing': (1, False), 'zSpacing': (1, False),
     'textureCenter': (2, False), 'textureRotation': (1, True),
     'textureScale': (2, False), 'textureTranslation': (2, False),
+    'size': (3, False), 'radius': (1, False), 'bottomRadius': (1, False), 'height': (1, False),
 }
 TRANSFORM = 'textureCenter textureRotation textureScale textureTranslation'
 SINGLES = {
@@ -86,6 +109,8 @@ SINGLES = {
     'ElevationGrid': 'creaseAngle xSpacing zSpacing ' + TRANSFORM,
     'Extrusion': 'creaseAngle ' + TRANSFORM,
     **dict.fromkeys(PRIMITIVES, 'creaseAngle ' + TRANSFORM),
+    'PointSet': '', 'Box': 'size ' + TRANSFORM, 'Sphere': 'radius ' + TRANSFORM,
+    'Cylinder': 'radius height ' + TRANSFORM, 'Cone': 'bottomRadius height ' + TRANSFORM,
 }
 # The eight lists in the order of their counts (FORMAT 2.4); '' is a list without words.
 INDEXED = 'point coordIndex color colorIndex normal normalIndex texCoord texCoordIndex'
@@ -95,6 +120,7 @@ LISTS = {
     'ElevationGrid': 'xDimension zDimension color height normal'.split() + ['', 'texCoord', ''],
     'Extrusion': 'spine crossSection scale orientation'.split() + [''] * 4,
     **dict.fromkeys(PRIMITIVES, ['point', 'index', 'color', '', 'normal', '', 'texCoord', '']),
+    **dict.fromkeys(PARTS, []), 'PointSet': ['point', 'color'],
 }
 # Numbers of an entry; an orientation is given as axis and angle and written as axis, sine and cosine.
 WIDTH = {
@@ -148,14 +174,19 @@ def f32(x):
     return struct.unpack('>f', struct.pack('>f', x))[0]
 
 
-def number(word, line, unit=1.0):
-    """The f32 nearest to the number, times the unit."""
+def real(word, line, unit=1.0):
+    """The number, times the unit; one that an f32 can be near to."""
     if not NUMBER.fullmatch(word):
         raise LineFault(line, f"'{shown(word)}' is not a number")
     value = float(word) * unit
     if abs(value) >= TOO_LARGE:
         raise LineFault(line, f'{shown(word)} is too large for f32')
-    return f32(value)
+    return value
+
+
+def number(word, line, unit=1.0):
+    """The f32 nearest to it."""
+    return f32(real(word, line, unit))
 
 
 def angle(word, line):
@@ -189,10 +220,10 @@ def single(name, line):
     return [(angle if is_angle else number)(w, line) for w in line.words]
 
 
-def dimension(name, line):
+def dimension(name, line, most=LIST_LIMIT):
     if len(line.words) != 1:
         raise LineFault(line, f'{name} has 1 value')
-    return whole(line.words[0], line, 0, LIST_LIMIT)
+    return whole(line.words[0], line, 0, most)
 
 
 def is_index(name):
@@ -250,14 +281,16 @@ class Text:
             self.fields[name] = flag(line)
         elif name in SINGLES[self.kind].split():
             self.fields[name] = single(name, line)
+        elif name in COUNTS and name in PARTS.get(self.kind, ('', ''))[1].split():
+            self.fields[name] = dimension(name, line, 2**32 - 1)
         else:
             self.list(name, line)
 
     def shape(self, line):
         if self.kind is not None:
             raise LineFault(line, 'shape is given twice')
-        if len(line.words) != 1 or line.words[0] not in KINDS:
-            raise LineFault(line, 'shape is one of ' + ', '.join(KINDS))
+        if len(line.words) != 1 or line.words[0] not in [*KINDS, *PARTS]:
+            raise LineFault(line, 'shape is one of ' + ', '.join([*KINDS, *PARTS]))
         self.kind = line.words[0]
         self.line_numbers['shape'] = line.at
 
@@ -317,12 +350,12 @@ class Bits:
 
 def header(text, counts):
     """FORMAT 2.2."""
-    given = text.fields
+    fields = text.fields
     present = [
-        any(name in given for name in TRANSFORM.split()),
-        'color' in given or 'colorRGBA' in given, 'colorRGBA' in given, 'normal' in given, 'texCoord' in given,
+        has_transform(text), 'color' in fields or 'colorRGBA' in fields, 'colorRGBA' in fields, 'normal' in fields,
+        'texCoord' in fields,
     ]
-    of = [given.get(name, name not in FALSE_BY_DEFAULT) for name in
+    of = [fields.get(name, name not in FALSE_BY_DEFAULT) for name in
           'ccw convex solid colorPerVertex normalPerVertex texture beginCap endCap'.split()]
     bits = Bits()
     bits.put(1, 4)
@@ -340,14 +373,27 @@ def host_sine(angle):
     return math.sin(angle), math.cos(angle)
 
 
+def given(text, name):
+    """The values of a single field, or the standard's."""
+    return text.fields.get(name, SIZES.get(name) or DEFAULTS[name])
+
+
+def transform(text, sin_cos):
+    """The eight words of the texture transform."""
+    turn = given(text, 'textureRotation')[0]
+    words = given(text, 'textureCenter') + [*sin_cos(turn)]
+    return words + given(text, 'textureScale') + given(text, 'textureTranslation')
+
+
+def has_transform(text):
+    return any(name in text.fields for name in TRANSFORM.split())
+
+
 def twelve(text, sin_cos):
     """FORMAT 2.3. Sines and cosines are those of the f32 angle."""
-    def of(name):
-        return text.fields.get(name, DEFAULTS[name])
-    crease, turn = of('creaseAngle')[0], of('textureRotation')[0]
-    words = [crease, sin_cos(crease)[1]] + of('xSpacing') + of('zSpacing') + of('textureCenter')
-    words += [*sin_cos(turn)] + of('textureScale') + of('textureTranslation')
-    return struct.pack('>12f', *words)
+    crease = given(text, 'creaseAngle')[0]
+    words = [crease, sin_cos(crease)[1]] + given(text, 'xSpacing') + given(text, 'zSpacing')
+    return struct.pack('>12f', *words, *transform(text, sin_cos))
 
 
 def turned(values, sin_cos):
@@ -391,6 +437,34 @@ def block(text, sin_cos=host_sine):
     return header(text, [count for count, _ in lists]) + twelve(text, sin_cos) + b''.join(part for _, part in lists)
 
 
+def bits(values):
+    """Words of eight hexadecimal digits, each with a space before it."""
+    return ''.join(' ' + struct.pack('>f', value).hex() for value in values)
+
+
+def own_numbers(text):
+    """What the call of a part takes first: sizes as words, flags as 1 or 0, slices and stacks."""
+    for name in PARTS[text.kind][1].split():
+        if name in SINGLE:
+            yield bits(given(text, name))
+        else:
+            yield f' {int(text.fields.get(name, COUNTS.get(name, True)))}'
+
+
+def part(text, sin_cos=host_sine):
+    """The numbers of a part, in the order of its C function (hosts/sitemesh.h), for hosts/part.c."""
+    name = PARTS[text.kind][0]
+    if text.kind == 'PointSet':
+        points, colours = text.values('point'), text.values('color')
+        present, alpha = int(text.name('color') in text.fields), int('colorRGBA' in text.fields)
+        lines = [f'{name} {present} {alpha}', f'points {len(points)}{bits(points)}', f'colours {len(colours)}{bits(colours)}']
+    else:
+        words = transform(text, sin_cos) if has_transform(text) else []
+        wanted = int(text.fields.get('texture', False))
+        lines = [f"{name}{''.join(own_numbers(text))} {wanted}", f'transform {len(words)}{bits(words)}']
+    return ''.join(line + '\n' for line in lines).encode()
+
+
 def accepted(lines):
     """The text of these lines, if its block is not refused for what it says."""
     text = Text(lines)
@@ -402,22 +476,23 @@ def accepted(lines):
 
 def refuse_same_file(source, target):
     if '-' not in (source, target) and os.path.exists(target) and os.path.samefile(source, target):
-        raise Fault(f'{files.source_name(source)}: the block would be written over its own text')
+        raise Fault(f'{files.source_name(source)}: it would be written over its own text')
 
 
 def fields_help():
     """The fields of each kind."""
     def listed(kind):
-        names = ' '.join(FLAGS[kind].split() + SINGLES[kind].split() + [name for name in LISTS[kind] if name])
-        names = names.replace('color ', 'color (or colorRGBA) ')
+        counts = [name for name in COUNTS if name in PARTS.get(kind, ('', ''))[1].split()]
+        names = ' '.join(FLAGS[kind].split() + SINGLES[kind].split() + counts + [name for name in LISTS[kind] if name])
+        names = (names + ' ').replace('color ', 'color (or colorRGBA) ')
         return textwrap.fill(f'{kind}: {names}', 110, initial_indent='  ', subsequent_indent='    ')
-    return '\n'.join(['fields of each shape:'] + [listed(kind) for kind in KINDS])
+    return '\n'.join(['fields of each shape:'] + [listed(kind) for kind in [*KINDS, *PARTS]])
 
 
 def work():
     parser = files.Parser('block.py', __doc__, fields_help())
     parser.add_argument('text', metavar='FILE.txt', help="the text that is read; '-' is standard input")
-    parser.add_argument('block', metavar='OUT.block', help="the block that is written; '-' is standard output")
+    parser.add_argument('block', metavar='OUT.block', help="the block or the part that is written; '-' is standard output")
     parser.add_argument('--strict', action='store_true', help='every warning is an error: nothing is written, status 1')
     parser.add_argument('--table', action='store_true',
                         help="sines and cosines from the converter's own table (FORMAT 16) in place of the host's")
@@ -430,7 +505,8 @@ def work():
         files.tell('block.py', f'{files.source_name(choice.text)}: line {line}: {mark}{what}')
     if found and choice.strict:
         return 1
-    files.write(choice.block, block(text, sine.sin_cos if choice.table else host_sine))
+    make = part if text.kind in PARTS else block
+    files.write(choice.block, make(text, sine.sin_cos if choice.table else host_sine))
     return 0
 
 

@@ -9,6 +9,10 @@ PRIMITIVES = {
     'IndexedTriangleSet': ('triangle', 3), 'IndexedTriangleFanSet': ('fan', 3),
     'IndexedTriangleStripSet': ('strip', 3), 'IndexedQuadSet': ('quad', 4),
 }
+# The sizes of parts with the standard's defaults, what slices and stacks are held to (FORMAT 17.2), and what may be left out.
+SIZES = {'size': [2.0, 2.0, 2.0], 'radius': [1.0], 'bottomRadius': [1.0], 'height': [2.0]}
+RANGES = {'slices': (3, 1024), 'stacks': (2, 1024)}
+SURFACES = {'Box': [], 'Sphere': [], 'Cylinder': ['side', 'top', 'bottom'], 'Cone': ['side', 'bottom']}
 
 
 # ---- refusals 6, 7 and 9 (FORMAT 3); 4 is found while the text is read
@@ -77,8 +81,8 @@ def cap_corners(text):
 
 def warnings(text):
     """What the mesh would lack, by line."""
-    find = {'ElevationGrid': grid_losses, 'Extrusion': extrusion_losses,
-            **dict.fromkeys(PRIMITIVES, primitives_losses)}.get(text.kind, set_losses)
+    find = {'ElevationGrid': grid_losses, 'Extrusion': extrusion_losses, 'PointSet': points_losses,
+            **dict.fromkeys(PRIMITIVES, primitives_losses), **dict.fromkeys(SURFACES, part_losses)}.get(text.kind, set_losses)
     return sorted(find(text), key=lambda found: found[0])
 
 
@@ -306,3 +310,28 @@ def extrusion_losses(text):
     for name in ('beginCap', 'endCap'):
         if text.fields.get(name) and cap_corners(text) == 0:
             yield text.line_number(name), f'{name} is not drawn: crossSection has fewer than 3 corners'
+
+
+def points_losses(text):
+    """Of a PointSet (FORMAT 17.5)."""
+    count, colours = text.count('point'), text.count('color')
+    if count == 0:
+        yield text.line_number('point'), 'nothing is drawn: point has no entries'
+    if text.name('color') in text.fields and colours < count:
+        has = entries_of(text.name('color'), colours)
+        yield text.line_number('color'), f'{has} for {count} points: the colours are left out whole'
+
+
+def part_losses(text):
+    """Of a box, sphere, cylinder or cone (FORMAT 17.2)."""
+    for name, defaults in SIZES.items():
+        for value, default in zip(text.fields.get(name, []), defaults):
+            if not value > 0:
+                yield text.line_number(name), f'{name} has {value:g}, which is not above 0: {default:g} is taken'
+    for name, (least, most) in RANGES.items():
+        value = text.fields.get(name, least)
+        if not least <= value <= most:
+            yield text.line_number(name), f'{name} {value} is held to {least if value < least else most}'
+    surfaces = SURFACES[text.kind]
+    if surfaces and not any(text.fields.get(name, True) for name in surfaces):
+        yield text.line_number('shape'), f"nothing is drawn: {', '.join(surfaces)} are FALSE"

@@ -3,13 +3,24 @@
 
     target/bin/sitemesh < duct.block | python3 tools/mesh.py obj > duct.obj
     python3 tools/mesh.py svg ground.mesh hospital.mesh duct.mesh --turn 60 --tilt 20 > site.svg
+    python3 tools/mesh.py svg examples/site.scene > site.svg
 
 NOT PROVED: this tool is plain Python for people. Nothing of the converter depends on it.
 
 It writes to standard output. Several meshes make one object file or one picture. The picture is seen along parallel
 lines, from --turn degrees round the Y axis and --tilt degrees above the ground; of a solid mesh only triangles that
 face the eye are drawn. An OBJ file has an object for each mesh, named after its file, with colours as three numbers
-more at each point, and without alpha.
+more at each point, and without alpha. The points of a PointSet ('p' lines, which hosts/part.c prints) are dots, and
+points of the OBJ file.
+
+A scene is a text whose first line is 'scene'; after it each line names a mesh and, if need be, turns, moves and colours it:
+
+    scene
+    hospital.mesh
+    drum.mesh    rotation 0 0 1 90deg   translation 8.9 31 43   color 0.9 0.9 0.9
+
+Names are from the scene's own folder, and have no spaces, commas or '#'. As in VRML97's Transform, the rotation is an
+axis and an angle, in radians or with 'deg', and comes before the translation. The colour is for a mesh that has none.
 
 A vertex with a position that is not finite is left out, and so is each triangle or line that uses it; the rest is
 drawn, in a picture and in an OBJ file alike (where the vertices are numbered anew). A normal, colour or texture point
@@ -17,7 +28,7 @@ that is not finite counts as missing (FORMAT 7.2); for such a colour white is ta
 error says how many of each there were; the status is 0.
 
 Errors, each a line on standard error, status 1, nothing written: a file that cannot be read (it is named), something
-that is not a mesh, a refusal ('no N') or 'long' in place of one, and meshes of which no vertex is finite.
+that is not a mesh or a scene, a refusal ('no N') or 'long' in place of a mesh, and meshes of which no vertex is finite.
 """
 import math
 import os
@@ -26,22 +37,24 @@ import sys
 
 sys.dont_write_bytecode = True
 import files
+import scene
 from files import Fault, shown
 
 REFUSALS = ['stub', 'edition', 'zero bits', 'list limit', 'length', 'no shape', 'corners',
-            'buffer: it needs more than sitemesh lends (docs/FORMAT.md 14)', 'attributes']
+            'buffer: it needs more than sitemesh lends (docs/FORMAT.md 14)', 'attributes', 'pairs']
 MISSING = {'n': [0.0] * 3, 'c': [1.0] * 4, 'u': [0.0] * 2}
 
 
 # ---- reading
 
 class Mesh:
-    """A mesh: vertices as lists of floats, triangles or lines as lists of vertex numbers."""
+    """A mesh: vertices as lists of floats, triangles, lines or dots as lists of vertex numbers."""
 
     def __init__(self):
         self.name = ''
         self.solid = self.unlit = False
         self.points, self.parts, self.shapes = [], {'n': [], 'c': [], 'u': []}, []
+        self.colour = None  # that of a scene, for a mesh without colours
         self.lacking = 0  # normals, colours and texture points that are not finite
 
 
@@ -76,16 +89,18 @@ def read_vertex(mesh, words):
 
 
 def read_shape(mesh, words):
-    """A triangle or a line."""
+    """A triangle, a line or a dot."""
     numbers = [whole(word) for word in words[1:]]
-    if len(numbers) != (2 if mesh.unlit else 3) or not all(n < len(mesh.points) for n in numbers):
+    if len(numbers) != {'t': 3, 'l': 2, 'p': 1}[words[0]] or not all(n < len(mesh.points) for n in numbers):
         raise ValueError
     mesh.shapes.append(numbers)
 
 
 def read_head(mesh, words):
-    if words[0] == 'no' and len(words) == 2 and words[1] in list('123456789'):
-        raise Fault(f'no mesh: the block was refused, number {words[1]}, {REFUSALS[int(words[1]) - 1]}')
+    numbers = {str(k): name for k, name in enumerate(REFUSALS, 1)}
+    if words[0] == 'no' and len(words) == 2 and words[1] in numbers:
+        what = 'part' if words[1] == '10' else 'block'
+        raise Fault(f'no mesh: the {what} was refused, number {words[1]}, {numbers[words[1]]}')
     if words == ['long']:
         raise Fault('no mesh: the block was longer than sitemesh reads')
     if words[0] != 'mesh' or len(words) != 6:
@@ -97,7 +112,8 @@ def read_head(mesh, words):
 def check_counts(mesh, vertices, indices):
     lengths = [len(part) for part in mesh.parts.values()]
     is_whole = all(length in (0, vertices) for length in lengths)
-    if len(mesh.points) != vertices or sum(map(len, mesh.shapes)) != indices or not is_whole:
+    found = sum(len(shape) for shape in mesh.shapes if len(shape) > 1)  # a dot is no index
+    if len(mesh.points) != vertices or found != indices or not is_whole:
         raise Fault('the mesh does not have the vertices and indices that its first line says')
 
 
@@ -111,7 +127,7 @@ def read(lines):
         raise Fault('line 1: counts are wanted') from None
     for at, words in enumerate(lines[1:], 2):
         try:
-            {'v': read_vertex, 'l' if mesh.unlit else 't': read_shape}[words[0]](mesh, words)
+            {'v': read_vertex, **dict.fromkeys('lp' if mesh.unlit else 't', read_shape)}[words[0]](mesh, words)
         except (ValueError, KeyError, IndexError):
             raise Fault(f'line {at}: not a line of a mesh') from None
     check_counts(mesh, vertices, indices)
@@ -125,17 +141,21 @@ def finite_part(mesh):
     kept = [v for v, point in enumerate(mesh.points) if is_finite(point)]
     places = {v: place for place, v in enumerate(kept)}
     part = Mesh()
-    part.name, part.solid, part.unlit = mesh.name, mesh.solid, mesh.unlit
+    part.name, part.solid, part.unlit, part.colour = mesh.name, mesh.solid, mesh.unlit, mesh.colour
     part.points = [mesh.points[v] for v in kept]
     part.parts = {mark: [values[v] for v in kept] if values else [] for mark, values in mesh.parts.items()}
     part.shapes = [[places[v] for v in shape] for shape in mesh.shapes if all(v in places for v in shape)]
     return part
 
 
+def is_dots(mesh):
+    return any(len(shape) == 1 for shape in mesh.shapes)
+
+
 def left_out(mesh, part):
     """What is said of the part, line by line."""
     vertices, shapes = len(mesh.points) - len(part.points), len(mesh.shapes) - len(part.shapes)
-    kind = 'lines' if mesh.unlit else 'triangles'
+    kind = 'points' if is_dots(mesh) else 'lines' if mesh.unlit else 'triangles'
     if vertices:
         yield (f'left out {vertices} of {len(mesh.points)} vertices, which are not finite, '
                f'and with them {shapes} of {len(mesh.shapes)} {kind}')
@@ -150,7 +170,7 @@ def numbers(values):
 
 
 def obj_vertices(mesh):
-    colours = mesh.parts['c'] or [[]] * len(mesh.points)
+    colours = mesh.parts['c'] or [mesh.colour or []] * len(mesh.points)
     for point, colour in zip(mesh.points, colours):
         yield f'v {numbers(point + colour[:3])}'
     for s, t in mesh.parts['u']:
@@ -175,7 +195,7 @@ def obj(meshes):
         yield f"o {'_'.join(mesh.name.split())}"
         yield from obj_vertices(mesh)
         for shape in mesh.shapes:
-            yield ('l ' if mesh.unlit else 'f ') + ' '.join(obj_corner(mesh, v, first) for v in shape)
+            yield ' plf'[len(shape)] + ' ' + ' '.join(obj_corner(mesh, v, first) for v in shape)
         first['v'] += len(mesh.points)
         first['u'] += len(mesh.parts['u'])
         first['n'] += len(mesh.parts['n'])
@@ -188,6 +208,7 @@ LIGHT = (-0.50, 0.62, 0.60)
 PAPER = '#f3f5f7'
 PLAIN = [(0.83, 0.62, 0.36), (0.62, 0.68, 0.74), (0.56, 0.70, 0.58), (0.72, 0.60, 0.72)]
 INK = (0.20, 0.24, 0.30)
+DOT = 3  # the radius of a dot
 TRIED = 24  # how many planes are tried at a cut
 
 
@@ -224,7 +245,7 @@ def seen(vector, view):
 
 
 class Piece:
-    """A triangle, a line, or what a cut left of one. An edge is drawn unless a cut made it."""
+    """A triangle, a line, a dot, or what a cut left of one. An edge is drawn unless a cut made it."""
 
     def __init__(self, points, edges, colour, plane=None):
         self.points, self.edges, self.colour, self.plane = points, edges, colour, plane
@@ -255,7 +276,8 @@ def triangle(mesh, shape, points, plain, view):
 
 
 def line(mesh, shape, points):
-    colour = mean([mesh.parts['c'][v][:3] for v in shape]) if mesh.parts['c'] else INK
+    """The piece of a line or a dot."""
+    colour = mean([mesh.parts['c'][v][:3] for v in shape]) if mesh.parts['c'] else mesh.colour or INK
     return Piece([points[v] for v in shape], [True], colour)
 
 
@@ -263,12 +285,13 @@ def pieces(meshes, view):
     found, plain = [], 0
     for mesh in meshes:
         points = [seen(p, view) for p in mesh.points]
+        colour = mesh.colour or PLAIN[plain % len(PLAIN)]
         for shape in mesh.shapes:
             if mesh.unlit:
                 found.append(line(mesh, shape, points))
             else:
-                found.append(triangle(mesh, shape, points, PLAIN[plain % len(PLAIN)], view))
-        plain += not (mesh.unlit or mesh.parts['c'])
+                found.append(triangle(mesh, shape, points, colour, view))
+        plain += not (mesh.unlit or mesh.parts['c'] or mesh.colour)
     return [piece for piece in found if piece]
 
 
@@ -403,6 +426,10 @@ def edge_path(places, edges):
 
 def svg_piece(piece, frame):
     places = [frame.place(p) for p in piece.points]
+    if len(places) == 1:
+        x, y = places[0].split()
+        yield f'<circle cx="{x}" cy="{y}" r="{DOT}" fill="{paint(piece.colour)}"/>'
+        return
     if len(places) == 2:
         yield f'<path class="l" color="{paint(piece.colour)}" d="M{places[0]}L{places[1]}"/>'
         return
@@ -415,7 +442,7 @@ def svg_piece(piece, frame):
 def svg(meshes, turn, tilt):
     group = pieces(meshes, axes(turn, tilt))
     if not group:
-        files.tell('mesh.py', 'the picture is empty: no line, and no triangle that faces the eye')
+        files.tell('mesh.py', 'the picture is empty: no dot, no line, and no triangle that faces the eye')
     frame = Frame(group)
     near = 1e-3 / frame.scale
     size = f'{frame.width:.0f} {frame.height:.0f}'
@@ -434,11 +461,22 @@ def object_name(file):
     return 'mesh' if file == '-' else os.path.splitext(os.path.basename(file))[0]
 
 
+def read_one(name):
+    """The meshes of a file, each with the name of its own: one, or those of a scene."""
+    folder = '' if name == '-' else os.path.dirname(name)
+    found = files.read(name, lambda lines: scene.read(lines, folder) if scene.is_scene(lines) else read(lines))
+    if isinstance(found, Mesh):
+        return [(name, found)]
+    meshes = [(placed.file, files.read(placed.file, read)) for placed in found]
+    for placed, (_, mesh) in zip(found, meshes):
+        placed.place(mesh)
+    return meshes
+
+
 def read_all(names):
     """The meshes of these files, as far as they can be drawn."""
     meshes, parts = [], []
-    for name in names:
-        mesh = files.read(name, read)
+    for name, mesh in [found for name in names for found in read_one(name)]:
         mesh.name = object_name(name)
         part = finite_part(mesh)
         for what in left_out(mesh, part):
@@ -464,7 +502,7 @@ def work():
     parser = files.Parser('mesh.py', __doc__)
     parser.add_argument('form', choices=['obj', 'svg'], help='Wavefront OBJ, or a picture')
     parser.add_argument('files', nargs='*', metavar='MESH',
-                        help="a file with what sitemesh printed; '-', or no file, is standard input")
+                        help="a file with what sitemesh printed, or a scene; '-', or no file, is standard input")
     parser.add_argument('--turn', default='30', metavar='DEGREES', help='where the eye is, round the Y axis (30)')
     parser.add_argument('--tilt', default='30', metavar='DEGREES', help='where the eye is, above the ground (30)')
     choice = parser.parse_intermixed_args()

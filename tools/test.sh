@@ -5,6 +5,7 @@ set -u
 cd "$(dirname "$0")/.." || exit 1
 program=${SITEMESH:-target/bin/sitemesh}
 site=(ground hospital duct mast ambulance paths)
+parts=(drum cabinet beacon dome marks)
 meshes=("${site[@]/#/examples/}")
 meshes=("${meshes[@]/%/.mesh}")
 work=$(mktemp -d)
@@ -12,9 +13,11 @@ trap 'rm -rf "$work"' EXIT
 export PYTHONDONTWRITEBYTECODE=1
 source tests/tally.sh
 
-# The block of a text is the stored one.
+# The block or the part of a text is the stored one.
 stored_block() {
-    python3 tools/block.py "$1.txt" "$work/made.block" 2> "$work/said" && cmp "$work/made.block" "$1.block"
+    local stored=$1.block
+    [ -e "$1.part" ] && stored=$1.part
+    python3 tools/block.py "$1.txt" "$work/made.block" 2> "$work/said" && cmp "$work/made.block" "$stored"
 }
 
 # The text is refused, the message has the line and the words, and nothing is written.
@@ -97,7 +100,7 @@ for text in examples/*.txt tools/cases/*.txt; do
 done
 
 bay=(hall gables roof)
-for name in "${site[@]}" "${bay[@]}"; do
+for name in "${site[@]}" "${bay[@]}" "${parts[@]}"; do
     python3 tools/block.py --strict "examples/$name.txt" "$work/made.block"
     tally "no warning: examples/$name.txt" $?
 done
@@ -112,9 +115,9 @@ for name in "${site[@]}" annex "${bay[@]}"; do
 done
 
 if have 'meshes made again' "$program"; then
-    for mesh in examples/*.mesh tools/cases/*.mesh; do
-        "$program" < "${mesh%.mesh}.block" | cmp - "$mesh"
-        tally "sitemesh prints $mesh" $?
+    for block in examples/*.block tools/cases/*.block; do
+        "$program" < "$block" | cmp - "${block%.block}.mesh"
+        tally "sitemesh prints ${block%.block}.mesh" $?
     done
     python3 tools/drawn.py "$program"
     tally 'sitemesh draws what block.py does not warn of' $?
@@ -126,7 +129,7 @@ python3 tools/mesh.py obj "${meshes[@]}" > "$work/site.obj"
 same_counts v v && same_counts t f && same_counts l l && [ "$(grep -c '^o ' "$work/site.obj")" -eq 6 ]
 tally 'OBJ of the site: counts' $?
 
-python3 tools/mesh.py svg "${meshes[@]}" > "$work/site.svg"
+python3 tools/mesh.py svg examples/site.scene > "$work/site.svg"
 cmp "$work/site.svg" examples/site.svg
 tally 'picture of the site' $?
 python3 tools/mesh.py svg examples/grey/annex.mesh | cmp - examples/annex.svg
@@ -139,13 +142,13 @@ tally 'the annex has grey where sitemesh put white' $?
 well_formed='import sys, xml.etree.ElementTree as tree; tree.parse(sys.argv[1])'
 [ "$(wc -c < examples/site.svg)" -lt 100000 ] && python3 -c "$well_formed" examples/site.svg
 tally 'the picture is well formed and small' $?
-python3 tools/painter.py "${meshes[@]}" && python3 tools/painter.py examples/grey/annex.mesh
+python3 tools/painter.py examples/site.scene && python3 tools/painter.py examples/grey/annex.mesh
 tally "painter's order: what is painted last over a point is the nearest there" $?
 
 faulty 'shape IndexedFaceSet\npoint 0 0 0\n  1 0\n' 3 'has 3 numbers'
 faulty 'shape IndexedFaceSet\nconvex no\n' 2 'TRUE or FALSE'
 faulty '# first\nccw TRUE\n' 2 "the first field is 'shape'"
-faulty 'shape Box\n' 1 'shape is one of'
+faulty 'shape Torus\n' 1 'shape is one of .*, Cone'
 faulty '\n# nothing\n' 2 'no shape is named'
 faulty 'shape Extrusion\ncolor 1 0 0\n' 2 'Extrusion has no field color'
 faulty 'shape IndexedLineSet\ncoordIndex 0 1.5\n' 2 'not a whole number'
@@ -235,8 +238,8 @@ tally 'block.py from standard input to standard output' $?
 python3 tools/mesh.py obj - < examples/mast.mesh > "$work/named"
 python3 tools/mesh.py obj < examples/mast.mesh | cmp - "$work/named" && grep -q '^o mesh' "$work/named"
 tally 'mesh.py from standard input' $?
-helps block.py FILE.txt OUT.block --strict 'standard input' 'standard output' 'python3 tools/block.py' textureScale
-helps mesh.py obj svg MESH --turn --tilt 'standard input' 'standard output' 'python3 tools/mesh.py'
+helps block.py FILE.txt OUT.block --strict 'standard input' 'standard output' 'python3 tools/block.py' textureScale bottomRadius
+helps mesh.py obj svg MESH scene --turn --tilt 'standard input' 'standard output' 'python3 tools/mesh.py'
 python3 tools/block.py one.txt 2> "$work/said"
 [ $? -eq 2 ] && [ "$(wc -l < "$work/said")" -eq 1 ]
 tally 'a wrong command line has status 2' $?
@@ -315,8 +318,104 @@ warned 'shape Extrusion\nspine 0 0 0, 0 1 0, 0 2 0\nscale 1 1, 2 2\n' 3 'scale h
 warned 'shape Extrusion\ncrossSection 0 0, 1 0, 0 0\nendCap TRUE\n' 3 'endCap is not drawn'
 silent 'a ribbon without caps' 'shape Extrusion\ncrossSection 0 0, 1 0\n' 136
 
-# A vertex that is not finite: the rest is drawn.
 zero='00000000 00000000'
+# Parts (FORMAT 17): what is not understood, what is replaced and what is left out. What is written is the call's numbers.
+faulty 'shape Cylinder\nstacks 3\n' 2 'Cylinder has no field stacks'
+faulty 'shape Sphere\nheight 3\n' 2 'Sphere has no field height'
+faulty 'shape Cone\nradius 3\n' 2 'Cone has no field radius'
+faulty 'shape IndexedFaceSet\nslices 3\n' 2 'IndexedFaceSet has no field slices'
+faulty 'shape PointSet\ncoordIndex 0\n' 2 'PointSet has no field coordIndex$'
+faulty 'shape Sphere\nslices 2.5\n' 2 'not a whole number'
+faulty 'shape Sphere\nradius 1\nslices -1\n' 3 'not between 0 and 4294967295'
+faulty 'shape Sphere\nslices 3 4\n' 2 'slices has 1 value'
+faulty 'shape Box\nsize 1 2\n' 2 'size has 3 values'
+faulty 'shape Box\nsize 1,5 2 2\n' 2 'decimal comma'
+faulty 'shape Cylinder\ntop 1\n' 2 'TRUE or FALSE'
+faulty 'shape Cone\nheight 1\nheight 2\n' 3 'height is given twice'
+faulty "shape PointSet\npoint\n$(yes '0 0 0' | head -n 8192 | tr '\n' ',')\n 0 0 0\n" 4 'more than 8192'
+warned 'shape Sphere\nradius 0\n' 2 'radius has 0, which is not above 0: 1 is taken'
+warned 'shape Cylinder\nradius 2\nheight -3\n' 3 'height has -3, which is not above 0: 2 is taken'
+warned 'shape Cone\nbottomRadius 1e-50\n' 2 'bottomRadius has 0, which is not above 0: 1 is taken'
+warned 'shape Box\nsize 1 -0 3\n' 2 'size has -0, which is not above 0: 2 is taken'
+warned 'shape Cone\nslices 2\n' 2 'slices 2 is held to 3'
+warned 'shape Cylinder\nslices 1025\n' 2 'slices 1025 is held to 1024'
+warned 'shape Sphere\nstacks 1\n' 2 'stacks 1 is held to 2'
+warned 'shape Sphere\nstacks 4294967295\n' 2 'stacks 4294967295 is held to 1024'
+warned 'shape Cylinder\nside FALSE\ntop FALSE\nbottom FALSE\n' 1 'nothing is drawn: side, top, bottom are FALSE'
+warned 'shape Cone\nside FALSE\nbottom FALSE\n' 1 'nothing is drawn: side, bottom are FALSE'
+warned 'shape PointSet\npoint 0 0 0, 1 0 0\ncolor 1 0 0\n' 3 'color has 1 entry for 2 points: the colours are left out whole'
+warned 'shape PointSet\npoint 0 0 0, 1 0 0\ncolorRGBA\n' 3 'colorRGBA has no entries for 2 points'
+warned 'shape PointSet\ncolor 1 0 0\n' 1 'nothing is drawn: point has no entries'
+silent 'the least size, and slices and stacks at their ends' 'shape Sphere\nradius 1e-45\nslices 3\nstacks 1024\n' 37
+silent 'more colours than points' 'shape PointSet\npoint 0 0 0\ncolor 1 0 0, 0 1 0\n' 114
+part_of() { # text, and the lines that are written for it
+    printf "$1" | python3 tools/block.py - - | cmp - <(printf "$2")
+    tally "part of $1" $?
+}
+part_of 'shape Sphere\n' 'sphere 3f800000 32 16 0\ntransform 0\n'
+part_of 'shape Box\nsize 1 2 3\ntexture TRUE\n' 'box 3f800000 40000000 40400000 1\ntransform 0\n'
+part_of 'shape Cylinder\ntop FALSE\nslices 7\n' 'cylinder 3f800000 40000000 1 0 1 7 0\ntransform 0\n'
+part_of 'shape Cone\nbottom FALSE\nheight 1\ntextureScale 2 3\n' \
+    "cone 3f800000 3f800000 1 0 32 0\ntransform 8 $zero 00000000 3f800000 40000000 40400000 $zero\n"
+part_of 'shape PointSet\npoint 1 2 3\ncolorRGBA 0 0 1 1\n' \
+    "point_set 1 1\npoints 3 3f800000 40000000 40400000\ncolours 4 $zero 3f800000 3f800000\n"
+printf 'shape Box\ntextureRotation 0.25\n' > "$work/turned.txt"
+python3 tools/block.py --table "$work/turned.txt" - | grep -q "^transform 8 $zero 3e7d5774 3f780aa4 "
+tally 'block.py --table of a part' $?
+
+# Scenes: what is named is read from the scene's folder, turned, then moved, and coloured where it has no colours.
+place() { # name, words of the line, and the point that (1, 2, 3) becomes
+    mkdir -p "$work/scene"
+    printf 'mesh 1 0 1 1 0\nv 0 3f800000 40000000 40400000\np 0\n' > "$work/scene/one.mesh"
+    printf 'scene\n# a comment\n\none.mesh %s\n' "$2" > "$work/scene/all.scene"
+    printf 'o one\nv %s\np 1\n' "$3" > "$work/placed"
+    python3 tools/mesh.py obj "$work/scene/all.scene" | sed 's/[0-9.-]*e-[0-9]*/0/g' | cmp - "$work/placed"
+    tally "scene: $1" $?
+}
+place 'as it is' '' '1 2 3'
+place 'moved' 'translation 1 -2 0.5' '2 0 3.5'
+place 'turned about X' 'rotation 2 0 0 90deg' '1 -3 2'
+place 'turned about Y' 'rotation 0 1 0 90deg' '3 2 -1'
+place 'turned about Z, then moved' 'translation 10 0 0, rotation 0 0 1 90deg' '8 1 3'
+place 'turned about a diagonal' 'rotation 1 1 1 120deg' '3 1 2'
+place 'coloured' 'color 1 0.5 0' '1 2 3 1 0.5 0'
+misplaced() { # words of the line, and words of the fault
+    printf 'scene\n\none.mesh %s\n' "$1" > "$work/scene/bad.scene"
+    fails "scene: $2" "$2" python3 tools/mesh.py svg "$work/scene/bad.scene"
+}
+misplaced 'scale 1 1 1' "bad.scene: line 3: 'scale' is not one of rotation, translation, color"
+misplaced 'translation 1 1' 'bad.scene: line 3: translation has 3 values'
+misplaced 'translation 1 1 x' "bad.scene: line 3: 'x' is not a number"
+misplaced 'rotation 0 0 0 1' 'bad.scene: line 3: rotation has no axis'
+misplaced 'color 1 1 1 color 1 1 1' 'bad.scene: line 3: color is given twice'
+printf 'scene\nnone.mesh\n' > "$work/scene/bad.scene"
+fails 'a scene of no mesh' 'scene/none.mesh: No such file' python3 tools/mesh.py obj "$work/scene/bad.scene"
+printf 'scene\nbad.scene\n' > "$work/scene/bad.scene"
+fails 'a scene in a scene' 'bad.scene: this is not what sitemesh prints' python3 tools/mesh.py obj "$work/scene/bad.scene"
+(cd examples && python3 ../tools/mesh.py svg - < site.scene) | cmp - examples/site.svg
+tally 'a scene from standard input' $?
+python3 tools/mesh.py obj examples/site.scene > "$work/site.obj"
+[ "$(grep -c '^o ' "$work/site.obj")" -eq 13 ] && [ "$(grep -c '^o drum$' "$work/site.obj")" -eq 2 ] &&
+    [ "$(grep -c '^p ' "$work/site.obj")" -eq 10 ]
+tally 'OBJ of the scene: objects and points' $?
+
+# Points are dots, each with its colour; one that is not finite is left out.
+python3 tools/mesh.py svg tools/cases/dots.mesh > "$work/dots.svg"
+[ "$(grep -o '<circle .* fill="#[0-9a-f]*"/>' "$work/dots.svg" | grep -o '#[0-9a-f]*' | sort | tr -d '\n')" = '#0000ff#00ff00#ff0000' ]
+tally 'dots of a PointSet' $?
+printf 'o dots\nv 0 0 0 1 0 0\nv 1 0.5 0 0 1 0\nv 9.9999461e-41 -0 3 0 0 1\np 1\np 2\np 3\n' > "$work/dots.obj"
+python3 tools/mesh.py obj tools/cases/dots.mesh | cmp - "$work/dots.obj"
+tally 'OBJ of a PointSet' $?
+sed '3s/v 1 3f800000/v 1 7f800000/' tools/cases/dots.mesh > "$work/torn.mesh"
+python3 tools/mesh.py svg "$work/torn.mesh" 2> "$work/said" | grep -c '<circle' | grep -qx 2 &&
+    grep -q 'left out 1 of 3 vertices, .* and with them 1 of 3 points' "$work/said"
+tally 'a point that is not finite' $?
+# A line set without a line has vertices and no dots.
+printf 'mesh 1 0 1 1 0\nv 0 00000000 00000000 00000000\n' | python3 tools/mesh.py svg > "$work/dots.svg" 2> "$work/said"
+! grep -q '<circle' "$work/dots.svg" && grep -q 'the picture is empty' "$work/said"
+tally 'vertices without dots' $?
+
+# A vertex that is not finite: the rest is drawn.
 printf 'mesh 5 6 0 0 1\n' > "$work/torn.mesh"
 for x in 00000000 7fc00000 3f800000 40000000 ff800000; do
     printf 'v 0 %s 00000000 %s c 3f800000 %s 3f800000\n' "$x" "$x" "$zero" >> "$work/torn.mesh"
@@ -342,7 +441,10 @@ tally 'picture of a thin triangle' $?
 
 no_mesh 'no 6\n' 'refused, number 6, no shape'
 no_mesh 'no 9\n' 'refused, number 9, attributes'
+no_mesh 'no 10\n' 'the part was refused, number 10, pairs'
 no_mesh 'no 12\n' 'not what sitemesh prints'
+no_mesh 'mesh 1 0 1 0 0\nv 0 00000000 00000000 00000000\np 0\n' 'line 3'
+no_mesh 'mesh 1 0 1 1 0\nv 0 00000000 00000000 00000000\np 1\n' 'line 3'
 no_mesh '' 'not what sitemesh prints'
 no_mesh "mesh $nines 0 1 0 0\n" 'counts are wanted'
 no_mesh 'long\n' 'longer than sitemesh reads'
