@@ -22,7 +22,7 @@ static const char *const kinds[] = {"box", "sphere", "cylinder", "cone"};
 static uint32_t room[SLICES][GUARD + MOST + GUARD];
 static size_t lengths[SLICES], result[SITEMESH_RESULT];
 static float pairs[2 * 4096];
-static size_t pairs_length;
+static size_t pairs_length, result_length = SITEMESH_RESULT;
 
 static void require(int holds, const char *what) {
     if (holds) return;
@@ -77,18 +77,18 @@ static uint32_t call(part p, uint32_t need_uvs, const float *transform, size_t t
     if (p.kind == BOX)
         return sitemesh_box(p.size[0], p.size[1], p.size[2], need_uvs, transform, transform_length, positions,
                             n[POSITIONS], normals, n[NORMALS], textures, n[TEXTURES], indices, n[INDICES], result,
-                            SITEMESH_RESULT);
+                            result_length);
     if (p.kind == SPHERE)
         return sitemesh_sphere(p.size[0], p.slices, p.stacks, need_uvs, transform, transform_length, pairs,
                                pairs_length, positions, n[POSITIONS], normals, n[NORMALS], textures, n[TEXTURES],
-                               indices, n[INDICES], result, SITEMESH_RESULT);
+                               indices, n[INDICES], result, result_length);
     if (p.kind == CYLINDER)
         return sitemesh_cylinder(p.size[0], p.size[1], p.side, p.top, p.bottom, p.slices, need_uvs, transform,
                                  transform_length, pairs, pairs_length, positions, n[POSITIONS], normals, n[NORMALS],
-                                 textures, n[TEXTURES], indices, n[INDICES], result, SITEMESH_RESULT);
+                                 textures, n[TEXTURES], indices, n[INDICES], result, result_length);
     return sitemesh_cone(p.size[0], p.size[1], p.side, p.bottom, p.slices, need_uvs, transform, transform_length, pairs,
                          pairs_length, positions, n[POSITIONS], normals, n[NORMALS], textures, n[TEXTURES], indices,
-                         n[INDICES], result, SITEMESH_RESULT);
+                         n[INDICES], result, result_length);
 }
 
 /* What a part asks for, and not an element more. */
@@ -160,6 +160,42 @@ static uint32_t try_part(part p, uint32_t need_uvs) {
     uint32_t whole = sum_of_all();
     try_lengths(p, need_uvs, whole);
     return whole;
+}
+
+/* The sum of the words of a part without texture. */
+static uint32_t sum_of(part p) {
+    lend(p, 0);
+    fill(p, sitemesh_sin_cos);
+    require(call(p, 0, NULL, 0) == SITEMESH_OK, "0 is wanted");
+    return sum_of_all();
+}
+
+/* Sizes that are replaced: one that is not finite or not above 0, but of a box with one that is not finite all three. */
+static void try_sizes(void) {
+    static const uint32_t bits[] = {0x7fc00000, 0xffa00001, 0x7f800000, 0xff800000, 0, 0x80000000, 0xbf800000};
+    part box = {BOX, {2, 2, 2}, 0, 0, 0, 0, 0}, sides = {BOX, {3, 2, 5}, 0, 0, 0, 0, 0};
+    part sphere = {SPHERE, {1, 0, 0}, 0, 0, 0, 5, 4}, cone = {CONE, {1, 2, 0}, 1, 0, 1, 5, 0};
+    part cylinder = {CYLINDER, {1, 2, 0}, 1, 1, 1, 5, 0};
+    const uint32_t whole[] = {sum_of(box), sum_of(sides), sum_of(sphere), sum_of(cylinder), sum_of(cone)};
+    for (size_t k = 0; k < sizeof bits / sizeof *bits; k++) {
+        memcpy(sides.size + 1, bits + k, 4);
+        memcpy(sphere.size, bits + k, 4);
+        memcpy(cylinder.size, bits + k, 4);
+        memcpy(cylinder.size + 1, bits + k, 4);
+        memcpy(cone.size, bits + k, 4);
+        memcpy(cone.size + 1, bits + k, 4);
+        require(sum_of(sides) == whole[k < 4 ? 0 : 1], "the sides of a box");
+        require(sum_of(sphere) == whole[2] && sum_of(cylinder) == whole[3] && sum_of(cone) == whole[4], "sizes");
+    }
+}
+
+/* A result slice that is shorter gets what it has room for. */
+static void try_result(void) {
+    part box = {BOX, {2, 2, 2}, 0, 0, 0, 0, 0};
+    result_length = 2;
+    sum_of(box);
+    require(result[0] == 24 && result[1] == 36 && result[2] == FILLER, "a result of two");
+    result_length = SITEMESH_RESULT;
 }
 
 /* Eight floats are a transform, the ninth is not read, seven are none; and where texture is not wanted it does nothing. */
@@ -298,6 +334,8 @@ int main(void) {
     part replaced = {CYLINDER, {-1, 0, 0}, 1, 1, 1, 8, 0}, defaults = {CYLINDER, {1, 2, 0}, 1, 1, 1, 8, 0};
     require(try_part(replaced, 0) == try_part(defaults, 0), "sizes that are not above 0");
     try_most();
+    try_sizes();
+    try_result();
     try_transform();
     for (size_t m = 11; m < 14; m++)
         for (uint32_t k = 0; k < 4; k++) try_points(12, m, k % 2, k / 2);

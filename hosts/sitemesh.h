@@ -206,13 +206,14 @@ static inline sitemesh_sizes sitemesh_sphere_sizes(uint32_t slices, uint32_t sta
 }
 
 static inline sitemesh_sizes sitemesh_cylinder_sizes(uint32_t side, uint32_t top, uint32_t bottom, uint32_t slices) {
-    size_t n = sitemesh_held(slices, 3), sides = side ? 1 : 0, caps = (top ? 1 : 0) + (bottom ? 1 : 0);
+    size_t n = sitemesh_held(slices, 3), sides = side != 0, caps = top != 0;
+    if (bottom) caps++;
     sitemesh_sizes sizes = {(2 * sides + caps) * (n + 1), (6 * sides + 3 * caps) * n, sides * (n + 1) + caps * n};
     return sizes;
 }
 
 static inline sitemesh_sizes sitemesh_cone_sizes(uint32_t side, uint32_t bottom, uint32_t slices) {
-    size_t n = sitemesh_held(slices, 3), sides = side ? 1 : 0, caps = bottom ? 1 : 0;
+    size_t n = sitemesh_held(slices, 3), sides = side != 0, caps = bottom != 0;
     sitemesh_sizes sizes = {3 * sides * n + caps * (n + 1), 3 * (sides + caps) * n, (5 * sides + caps) * n};
     return sizes;
 }

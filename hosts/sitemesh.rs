@@ -269,7 +269,7 @@ pub struct Colors<'a> {
 pub fn point_set(points: &[f32], colors: Option<Colors>, lent: LentPoints) -> Result<Mesh, Refusal> {
     let listed = colors.map_or(&[][..], |c| c.values);
     let mut result = [0usize; 5];
-    // SAFETY: the slices are of distinct borrows, so none that is written overlaps another; so below.
+    // SAFETY: the slices are of distinct borrows, so none that is written overlaps another.
     let number = unsafe {
         sitemesh_point_set(
             points.as_ptr(), points.len(),
@@ -288,6 +288,7 @@ pub fn point_set(points: &[f32], colors: Option<Colors>, lent: LentPoints) -> Re
 pub fn box_prim(size: [f32; 3], texture: Texture, lent: LentPart) -> Result<Mesh, Refusal> {
     let transform = texture.transform.as_ref().map_or(&[][..], |t| t);
     let mut result = [0usize; 5];
+    // SAFETY: as in point_set.
     let number = unsafe {
         sitemesh_box(
             size[0], size[1], size[2],
@@ -365,6 +366,7 @@ impl Sphere {
     pub fn convert(&self, texture: Texture, pairs: &[f32], lent: LentPart) -> Result<Mesh, Refusal> {
         let transform = texture.transform.as_ref().map_or(&[][..], |t| t);
         let mut result = [0usize; 5];
+        // SAFETY: as in point_set.
         let number = unsafe {
             sitemesh_sphere(
                 self.radius, self.slices, self.stacks,
@@ -414,6 +416,7 @@ impl Cylinder {
     pub fn convert(&self, texture: Texture, pairs: &[f32], lent: LentPart) -> Result<Mesh, Refusal> {
         let transform = texture.transform.as_ref().map_or(&[][..], |t| t);
         let mut result = [0usize; 5];
+        // SAFETY: as in point_set.
         let number = unsafe {
             sitemesh_cylinder(
                 self.radius, self.height, self.side as u32, self.top as u32, self.bottom as u32, self.slices,
@@ -467,6 +470,7 @@ impl Cone {
     pub fn convert(&self, texture: Texture, pairs: &[f32], lent: LentPart) -> Result<Mesh, Refusal> {
         let transform = texture.transform.as_ref().map_or(&[][..], |t| t);
         let mut result = [0usize; 5];
+        // SAFETY: as in point_set.
         let number = unsafe {
             sitemesh_cone(
                 self.bottom_radius, self.height, self.side as u32, self.bottom as u32, self.slices,

@@ -25,9 +25,9 @@ X3D's four sets have no creaseAngle; here they have: 0, flat, where it is not gi
 normalPerVertex may only be TRUE, and a quad that is not convex begins at its inward corner or the one opposite.
 
 A part is one of PointSet, Box, Sphere, Cylinder and Cone. It has no block, and sitemesh does not read it: the library has
-a call for each, with the numbers that are written here. hosts/part.c reads them, makes the call and prints the mesh; the
-head of examples/make.sh says how it is built. Beyond VRML97's names: slices and stacks say how finely it is cut, 32 and
-16 where they are not given. Where a part stands, and its colour, are not the part's (tools/mesh.py: scenes).
+a call for each, with the numbers that are written here. hosts/part.c reads them, makes the call and prints the mesh;
+README says how it is built. Beyond VRML97's names: slices and stacks say how finely it is cut, 32 and 16 where they are
+not given. Where a part stands, and its colour, are not the part's: mesh.py --help, scenes.
 
     shape Cylinder
     radius 0.6
