@@ -47,7 +47,7 @@ static void clear(void) {
 /* Nothing is written but the first so many words of a slice, and all of these are. */
 static void require_made(int k, size_t made) {
     for (size_t i = 0; i < MOST + 2 * GUARD; i++)
-        require((room[k][i] != FILLER) == (GUARD <= i && i < GUARD + made), "written where it should not be, or not where it should");
+        require((room[k][i] != FILLER) == (GUARD <= i && i < GUARD + made), "written where nothing is made, or not where it is");
 }
 
 static void require_nothing_written(void) {
