@@ -120,7 +120,7 @@ sitemesh_sincos sitemesh_sin_cos(float angle);
  * and writes `result` as above; or SITEMESH_CORNERS, SITEMESH_PAIRS or SITEMESH_BUFFER, tried in this order, and then every
  * lent element is what it was. hosts/part.c is a program that calls them.
  *
- * - A part lies round the origin, its axis along Y, and has no colour: place and colour are the host's.
+ * - All but a PointSet lie round the origin, the axis along Y, and have no colour: place and colour are the host's.
  * - A size that is not finite or not above 0 is the standard's default: 2 for a side of a box or a height, 1 for a radius;
  *   one side of a box that is not finite makes all three 2. Slices are held to 3 to 1,024, stacks to 2 to 1,024. A flag is
  *   off where it is 0, else on.
@@ -141,7 +141,7 @@ uint32_t sitemesh_point_set(const float *points, size_t points_length,
                             uint32_t *sources, size_t sources_length,
                             size_t *result, size_t result_length);
 
-/* Of the other four: positions and normals 3 for each vertex, textures 2, and the indices; sitemesh_sizes has how many. */
+/* Of the other four: positions and normals 3 for each vertex, textures 2, and the indices. How many they are is said below. */
 uint32_t sitemesh_box(float x, float y, float z,
                       uint32_t need_uvs, const float *transform, size_t transform_length,
                       float *positions, size_t positions_length,

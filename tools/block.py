@@ -27,7 +27,7 @@ normalPerVertex may only be TRUE, and a quad that is not convex begins at its in
 A part is one of PointSet, Box, Sphere, Cylinder and Cone. It has no block, and sitemesh does not read it: the library has
 a call for each, with the numbers that are written here. hosts/part.c reads them, makes the call and prints the mesh;
 README says how it is built. Beyond VRML97's names: slices and stacks say how finely it is cut, 32 and 16 where they are
-not given. Where a part stands, and its colour, are not the part's: mesh.py --help, scenes.
+not given. All but a PointSet lie round the origin and have no colour: a scene gives them both (mesh.py --help).
 
     shape Cylinder
     radius 0.6
