@@ -6,7 +6,7 @@ use crate::convert::geometry::{GeomCtx, GeomOut, Tessellation, TexTransform, con
 /// The fields of one shape as its block has them. Lists are flat.
 #[derive(Clone, Debug, Default)]
 pub struct Given {
-    /// 0 face set, 1 line set, 2 elevation grid, 3 extrusion.
+    /// 0 face set, 1 line set, 2 elevation grid, 3 extrusion, 4 PointSet, 5 box, 6 sphere, 7 cylinder, 8 cone.
     pub kind: u32,
     pub ccw: bool,
     pub convex: bool,
@@ -39,6 +39,12 @@ pub struct Given {
     pub scales: Vec<f32>,
     /// Axis (3) and angle.
     pub orientations: Vec<f32>,
+    /// A box's size; radius and height of a round part.
+    pub size: [f32; 3],
+    /// Whether a round part has side, top and bottom.
+    pub sides_shown: [bool; 3],
+    /// Slices and stacks.
+    pub tessellation: [u32; 2],
 }
 
 /// A mesh as words, lists flat; what is not made is `None`.
@@ -87,8 +93,7 @@ fn transform_of(t: [f32; 7]) -> TexTransform {
     TexTransform::from_node(&node)
 }
 
-/// Fields that several kinds have.
-fn attributes(doc: &mut Document, node: &mut Node, g: &mut Given) {
+fn colours(doc: &mut Document, node: &mut Node, g: &mut Given) {
     if let Some((words, list)) = g.colours.take() {
         let (name, of) = match words {
             4 => ("ColorRGBA", FieldType::MFColorRGBA),
@@ -98,6 +103,17 @@ fn attributes(doc: &mut Document, node: &mut Node, g: &mut Given) {
         floats(&mut colour, "color", of, list);
         child(doc, node, "color", colour);
     }
+}
+
+fn coordinates(doc: &mut Document, node: &mut Node, g: &mut Given) {
+    let mut points = Node::new("Coordinate");
+    floats(&mut points, "point", FieldType::MFVec3f, std::mem::take(&mut g.points));
+    child(doc, node, "coord", points);
+}
+
+/// Fields that several kinds have.
+fn attributes(doc: &mut Document, node: &mut Node, g: &mut Given) {
+    colours(doc, node, g);
     if let Some(list) = g.normals.take() {
         let mut normal = Node::new("Normal");
         floats(&mut normal, "vector", FieldType::MFVec3f, list);
@@ -113,9 +129,7 @@ fn attributes(doc: &mut Document, node: &mut Node, g: &mut Given) {
 }
 
 fn indexed(doc: &mut Document, node: &mut Node, g: &mut Given) {
-    let mut points = Node::new("Coordinate");
-    floats(&mut points, "point", FieldType::MFVec3f, std::mem::take(&mut g.points));
-    child(doc, node, "coord", points);
+    coordinates(doc, node, g);
     let lists = [
         ("coordIndex", &mut g.coord_index),
         ("colorIndex", &mut g.colour_index),
@@ -144,26 +158,57 @@ fn extrusion(node: &mut Node, g: &mut Given) {
     flag(node, "endCap", g.end_cap);
 }
 
+fn point_set(doc: &mut Document, node: &mut Node, g: &mut Given) {
+    coordinates(doc, node, g);
+    colours(doc, node, g);
+}
+
+/// A box, a sphere, a cylinder or a cone.
+fn solid(node: &mut Node, g: &Given) {
+    if g.kind == 5 {
+        floats(node, "size", FieldType::SFVec3f, g.size.to_vec());
+        return;
+    }
+    let radius = if g.kind == 8 { "bottomRadius" } else { "radius" };
+    node.set_field(radius, FieldValue::sf_float(g.size[0]));
+    node.set_field("height", FieldValue::sf_float(g.size[1]));
+    for (name, shown) in ["side", "top", "bottom"].into_iter().zip(g.sides_shown) {
+        flag(node, name, shown);
+    }
+}
+
+/// The fields of what is no part.
+fn shape(doc: &mut Document, node: &mut Node, g: &mut Given) {
+    flag(node, "ccw", g.ccw);
+    flag(node, "convex", g.convex);
+    flag(node, "solid", g.solid);
+    node.set_field("creaseAngle", FieldValue::sf_float(g.crease));
+    attributes(doc, node, g);
+    match g.kind {
+        0 | 1 => indexed(doc, node, g),
+        2 => grid(node, g),
+        _ => extrusion(node, g),
+    }
+}
+
+const NAMES: [&str; 9] =
+    ["IndexedFaceSet", "IndexedLineSet", "ElevationGrid", "Extrusion", "PointSet", "Box", "Sphere", "Cylinder", "Cone"];
+
 impl Scene {
     pub fn new(mut g: Given) -> Self {
-        let names = ["IndexedFaceSet", "IndexedLineSet", "ElevationGrid", "Extrusion"];
         let mut document = Document::new();
-        let mut node = Node::new(names[g.kind as usize]);
-        flag(&mut node, "ccw", g.ccw);
-        flag(&mut node, "convex", g.convex);
-        flag(&mut node, "solid", g.solid);
-        node.set_field("creaseAngle", FieldValue::sf_float(g.crease));
-        attributes(&mut document, &mut node, &mut g);
+        let mut node = Node::new(NAMES[g.kind as usize]);
         match g.kind {
-            0 | 1 => indexed(&mut document, &mut node, &mut g),
-            2 => grid(&mut node, &mut g),
-            _ => extrusion(&mut node, &mut g),
+            0..=3 => shape(&mut document, &mut node, &mut g),
+            4 => point_set(&mut document, &mut node, &mut g),
+            _ => solid(&mut node, &g),
         }
         let node = document.add_node(node);
+        let [slices, stacks] = g.tessellation;
         let context = GeomCtx {
             need_uvs: g.texture_wanted,
             tex_transform: g.transform.map(transform_of),
-            tess: Tessellation::default(),
+            tess: Tessellation::default().with_slices(slices).with_stacks(stacks),
             max_generated: 1 << 24,
         };
         Self { document, node, context }

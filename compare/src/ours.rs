@@ -37,7 +37,7 @@ pub struct Lent {
 
 impl Lent {
     /// Makes a slice of so many bytes; all its pages are filled by the salt, and what it is to hold is put into it.
-    fn lend(&mut self, bytes: usize, salt: u32, at_end: bool, held: &[u8]) {
+    pub fn lend(&mut self, bytes: usize, salt: u32, at_end: bool, held: &[u8]) {
         self.pages.fit(bytes);
         self.bytes = bytes;
         self.nowhere = bytes == 0 && !at_end;
@@ -58,8 +58,13 @@ impl Lent {
         &self.pages.words()[self.first / 4..][..self.len()]
     }
 
+    pub fn elements_mut(&mut self) -> &mut [u32] {
+        let (first, len) = (self.first / 4, self.len());
+        &mut self.pages.words_mut()[first..][..len]
+    }
+
     #[cfg(ours)]
-    fn pointer<T>(&self) -> *mut T {
+    pub fn pointer<T>(&self) -> *mut T {
         if self.nowhere { std::ptr::null_mut() } else { self.pages.start().wrapping_add(self.first).cast() }
     }
 
@@ -67,6 +72,11 @@ impl Lent {
     pub fn changed(&self, from: usize) -> Option<usize> {
         let before = &self.before[self.first / 4..];
         (from..self.len()).find(|&k| self.elements()[k] != before[k])
+    }
+
+    /// Whether all its pages are what they were.
+    pub fn stays(&self) -> bool {
+        self.pages.words() == self.before
     }
 
     /// Whether something of the pages beside the slice changed.
@@ -93,7 +103,7 @@ impl Slices {
 
     /// Whether the block is what it was.
     pub fn block_stays(&self) -> bool {
-        self.1.pages.words() == self.1.before
+        self.1.stays()
     }
 }
 

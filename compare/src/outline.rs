@@ -40,7 +40,7 @@ pub fn no(condition: bool, say: impl FnOnce() -> String) -> Verdict {
     if condition { Err(say()) } else { Ok(()) }
 }
 
-fn untouched(name: &str, slice: &Lent, from: usize) -> Verdict {
+pub fn untouched(name: &str, slice: &Lent, from: usize) -> Verdict {
     match slice.changed(from) {
         Some(k) => Err(format!("{name}: element {k} is {:08x} and should be as lent", slice.elements()[k])),
         None => Ok(()),
@@ -58,10 +58,13 @@ pub fn holds(name: &str, slice: &Lent, made: &[u32]) -> Verdict {
 }
 
 /// The result as far as it goes: vertices, indices and the three bits, each two words.
-pub fn told(slices: &Slices, head: [u32; 5]) -> Verdict {
-    let slice = &slices.0[RESULT];
+pub fn told_in(slice: &Lent, head: [u32; 5]) -> Verdict {
     let words = head.map(|n| [n, 0]);
     holds(NAMES[RESULT], slice, &words.as_flattened()[..slice.len().min(10)])
+}
+
+pub fn told(slices: &Slices, head: [u32; 5]) -> Verdict {
+    told_in(&slices.0[RESULT], head)
 }
 
 pub fn zeros(slices: &Slices) -> Verdict {
