@@ -1,6 +1,6 @@
 //! Fuzzes the project's converter, without the reference: blocks of all kinds and sizes, good, damaged and random, each
-//! with slices that are exact, longer and one short, next to pages that may not be touched. README.md beside says how to
-//! run it.
+//! with slices that are exact, longer and one short, next to pages that may not be touched; and the calls for parts likewise.
+//! README.md beside says how to run it.
 
 // The modules are those of the comparison, which uses more of them.
 #![allow(dead_code)]
@@ -15,6 +15,11 @@ mod ours;
 mod outline;
 mod outlines;
 mod pages;
+mod part;
+mod partcall;
+mod partfuzz;
+mod partjudge;
+mod partmaker;
 mod rng;
 mod shape;
 mod solids;
@@ -200,7 +205,6 @@ impl Run {
 /// Fuzzes; the answer is whether nothing was wrong.
 fn fuzz(count: u64, seed: u64, first: u64, folder: &str) -> bool {
     let start = Instant::now();
-    stack::tell_faults();
     let mut run = Run::new(seed, folder);
     let mut maker = Maker { rng: Rng::new(seed, u64::MAX), angles: Default::default() };
     if first == 0 {
@@ -226,6 +230,8 @@ fn main() -> ExitCode {
     let words: Vec<String> = std::env::args().skip(1).collect();
     let number = |k: usize, otherwise| words.get(k).and_then(|w| w.parse().ok()).unwrap_or(otherwise);
     let folder = words.first().expect("the folder for what goes wrong");
-    let right = fuzz(number(1, 2000), number(2, 1), number(3, 0), folder);
-    if right { ExitCode::SUCCESS } else { ExitCode::FAILURE }
+    let (count, seed, first) = (number(1, 2000), number(2, 1), number(3, 0));
+    stack::tell_faults();
+    let right = [partfuzz::fuzz(count, seed, first), fuzz(count, seed, first, folder)];
+    if right == [true; 2] { ExitCode::SUCCESS } else { ExitCode::FAILURE }
 }
