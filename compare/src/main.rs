@@ -19,6 +19,15 @@ mod ours;
 mod outline;
 mod outlines;
 mod pages;
+// The next four are those of the program `parts`, which uses more of them.
+#[allow(dead_code)]
+mod part;
+mod partcall;
+mod partfollow;
+#[allow(dead_code)]
+mod partjudge;
+#[path = "../../bench/parts.rs"]
+mod parts;
 mod record;
 mod rng;
 #[path = "../../bench/search.rs"]
@@ -49,7 +58,11 @@ fn main() -> ExitCode {
         }
         ("record", Some(file)) => record::record(number(words.get(1), 600), number(words.get(2), 1), file),
         ("again", _) if words.len() == 2 => record::again(&words[1]),
-        ("bench", _) => bench::bench(words.get(1).map_or("", String::as_str)),
+        ("bench", _) => {
+            let part = words.get(1).map_or("", String::as_str);
+            let agreed = [bench::bench(part), parts::bench(part)];
+            agreed == [true; 2]
+        }
         ("search", _) => search::search(number(words.get(1), 900), number(words.get(2), 1)),
         _ => {
             println!("{USAGE}");
