@@ -1,7 +1,11 @@
 // FORMAT 17.9, cone (side): a triangle a slice, with vertices of its own.
 ghost use mathlib.Core.Path.{_≡_};
-ghost use Prim.Native.Nat.{_+_, _*_, _≤_, _<_};
+ghost use mathlib.Core.List.{List};
+ghost use Prim.Native.Nat.{ℕ, _+_, _*_, _≤_, _<_};
 ghost use lib.ListN.{length};
+ghost use lib.Ieee.{Float};
+ghost use Rattle.math.specs.Vector.{yAxis, unitOf};
+ghost use Rattle.mesh.specs.Normals.{orElse};
 ghost use Rattle.lists.specs.Lists.{flat};
 ghost use Rattle.lists.specs.Loops.{tab};
 ghost use Rattle.lists.specs.Parts.{spliced};
@@ -19,20 +23,24 @@ use parts::put_vert;
 use parts::ring_at;
 use parts::share;
 
-// The normal at pair p.
-fn cone_normal(pairs: &[f32], r: f32, height: f32, p: usize) -> V3
+// What is scaled to length 1 for the normal at pair p.
+fn cone_slope(pairs: &[f32], r: f32, height: f32, p: usize) -> V3
     requires { ⌜ p < 65536 ⌝ }
-    ensures { λ v. ⌜ v ≡ coneNormal (now (pairs .entry)) r height p ⌝ }
+    ensures { λ v. ⌜ orElse (unitOf v) yAxis ≡ coneNormal (now (pairs .entry)) r height p ⌝ }
 {
     let q = ring_at(pairs, p);
-    let v = V3 {
+    V3 {
         x: q.x * height,
         y: r,
         z: q.z * height,
-    };
-    let unit = math::normalize(v);
-    match unit {
-        Unit::Of(u) => u,
+    }
+}
+
+fn or_up(u: Unit) -> V3
+    ensures { λ v. ⌜ v ≡ orElse u yAxis ⌝ }
+{
+    match u {
+        Unit::Of(v) => v,
         Unit::Nothing => V3 {
             x: 0.0,
             y: 1.0,
@@ -41,10 +49,38 @@ fn cone_normal(pairs: &[f32], r: f32, height: f32, p: usize) -> V3
     }
 }
 
-// A vertex of the foot, its position from pair p and its normal from pair q.
-fn cone_foot(pairs: &[f32], r: f32, height: f32, p: usize, q: usize, s: f32) -> Vert
-    requires { ⌜ (p < 65536) × (q < 65536) ⌝ }
-    ensures { λ v. ⌜ v ≡ coneFoot (now (pairs .entry)) r height p q s ⌝ }
+// The normals of a slice: at its two places of the foot, and at the apex.
+pub struct SliceNormals {
+    pub from: V3,
+    pub to: V3,
+    pub apex: V3,
+}
+
+// Those of the slice whose pairs begin at p. Their roots are taken together; the fourth stands for nothing.
+fn slice_normals(pairs: &[f32], r: f32, height: f32, p: usize) -> SliceNormals
+    requires { ⌜ p + 5 < 65536 ⌝ }
+    ensures { λ k. ⌜ (k .from ≡ coneNormal (now (pairs .entry)) r height (p + 2))
+        × (k .to ≡ coneNormal (now (pairs .entry)) r height (p + 3))
+        × (k .apex ≡ coneNormal (now (pairs .entry)) r height (p + 4)) ⌝ }
+{
+    let a = cone_slope(pairs, r, height, p + 2);
+    let b = cone_slope(pairs, r, height, p + 3);
+    let c = cone_slope(pairs, r, height, p + 4);
+    let k = math::normalize_four(a, b, c, a);
+    let ua = k.a;
+    let ub = k.b;
+    let uc = k.c;
+    SliceNormals {
+        from: or_up(ua),
+        to: or_up(ub),
+        apex: or_up(uc),
+    }
+}
+
+// A vertex of the foot, its position from pair p.
+fn cone_foot(pairs: &[f32], r: f32, height: f32, p: usize, normal: V3, s: f32) -> Vert
+    requires { ⌜ p < 65536 ⌝ }
+    ensures { λ v. ⌜ ((q : ℕ) → normal ≡ coneNormal (now (pairs .entry)) r height q → v ≡ coneFoot (now (pairs .entry)) r height p q s) ⌝ }
 {
     let x = ring_at(pairs, p);
     let position = V3 {
@@ -52,7 +88,6 @@ fn cone_foot(pairs: &[f32], r: f32, height: f32, p: usize, q: usize, s: f32) -> 
         y: -(height / 2.0),
         z: x.z * r,
     };
-    let normal = cone_normal(pairs, r, height, q);
     let st = Pair { s, t: 0.0 };
     Vert {
         position,
@@ -61,16 +96,14 @@ fn cone_foot(pairs: &[f32], r: f32, height: f32, p: usize, q: usize, s: f32) -> 
     }
 }
 
-fn cone_apex(pairs: &[f32], r: f32, height: f32, q: usize, s: f32) -> Vert
-    requires { ⌜ q < 65536 ⌝ }
-    ensures { λ v. ⌜ v ≡ coneApex (now (pairs .entry)) r height q s ⌝ }
+fn cone_apex(height: f32, normal: V3, s: f32) -> Vert
+    ensures { λ v. ⌜ ((ps : List Float) (r : Float) (q : ℕ) → normal ≡ coneNormal ps r height q → v ≡ coneApex ps r height q s) ⌝ }
 {
     let position = V3 {
         x: 0.0,
         y: height / 2.0,
         z: 0.0,
     };
-    let normal = cone_normal(pairs, r, height, q);
     let st = Pair { s, t: 1.0 };
     Vert {
         position,
@@ -99,11 +132,15 @@ fn put_slice(
     let s1 = share(i + 1, n);
     let sm = (s0 + s1) / 2.0;
     let p = 5 * i;
-    let a = cone_foot(pairs, r, height, p, p + 2, s0);
+    let k = slice_normals(pairs, r, height, p);
+    let from = k.from;
+    let to = k.to;
+    let up = k.apex;
+    let a = cone_foot(pairs, r, height, p, from, s0);
     put_vert(c, i * 3, a, positions, normals, textures);
-    let b = cone_foot(pairs, r, height, p + 1, p + 3, s1);
+    let b = cone_foot(pairs, r, height, p + 1, to, s1);
     put_vert(c, i * 3 + 1, b, positions, normals, textures);
-    let apex = cone_apex(pairs, r, height, p + 4, sm);
+    let apex = cone_apex(height, up, sm);
     put_vert(c, i * 3 + 2, apex, positions, normals, textures);
 }
 

@@ -6,17 +6,13 @@ use Rattle.cone.proofs.side.cone_foot.Tie as tie
 ring-at-requires : tie.Need-ring-at-requires
 ring-at-requires c κs = search needs
 
-cone-normal-requires : tie.Need-cone-normal-requires
-cone-normal-requires c κs = search needs
-
 returns : tie.Need-returns
 unfolding coneFoot
-returns c = rw (c .cone-normal .ensures, c .before .before .before .ring-at .ensures)
+returns c q e = rw (e, c .before .before .ring-at .ensures)
 
 pub cone-foot-spec : {M : Type 1} → statement M
 cone-foot-spec =
     tie.close
     (tie.spec
     ring-at-requires
-    cone-normal-requires
     returns)
