@@ -116,9 +116,10 @@ sitemesh_sincos sitemesh_sin_cos(float angle);
 
 /*
  * Parts (docs/FORMAT.md 17): PointSet, Box, Sphere, Cylinder and Cone of VRML97, of numbers in place of a block. What is
- * said above of slices, floats and threads holds here too, for what is read as for the block. A call returns SITEMESH_OK
- * and writes `result` as above; or SITEMESH_CORNERS, SITEMESH_PAIRS or SITEMESH_BUFFER, tried in this order, and then every
- * lent element is what it was. hosts/part.c is a program that calls them.
+ * said above of slices, floats, stack and threads holds here too, for what is read as for the block; filling pairs by
+ * sitemesh_sin_cos takes its 4.1 KiB of stack. A call returns SITEMESH_OK and writes `result` as above; or
+ * SITEMESH_CORNERS, SITEMESH_PAIRS or SITEMESH_BUFFER, tried in this order, and then every lent element is what it was.
+ * hosts/part.c is a program that calls them.
  *
  * - All but a PointSet lie round the origin, the axis along Y, and have no colour: place and colour are the host's.
  * - A size that is not finite or not above 0 is the standard's default: 2 for a side of a box or a height, 1 for a radius;
@@ -126,8 +127,9 @@ sitemesh_sincos sitemesh_sin_cos(float angle);
  *   off where it is 0, else on.
  * - `transform`: eight floats or more are a texture transform, of which the first eight count: centre s and t, sine and
  *   cosine of the rotation, scale s and t, translation s and t. Fewer are none. `textures` is asked for where need_uvs is on.
- * - `pairs`: a sine and a cosine for each place where the part turns, in an order of its own; sitemesh_fill_sphere and the
- *   like fill them. Its length is counted in floats. With too few SITEMESH_PAIRS is returned; those beyond are not read.
+ * - `pairs`: a sine and then a cosine for each place where the part turns, in an order of its own (docs/FORMAT.md 17.3);
+ *   sitemesh_fill_sphere and the like fill them. Its length is counted in floats. With too few SITEMESH_PAIRS is returned;
+ *   those beyond are not read.
  */
 
 /* Of the points the full ones, at most 8,192. `listed` are their colours, of four floats where alpha is on, else three; too

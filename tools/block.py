@@ -57,7 +57,8 @@ A window in a wall is no face of its own: an outline that goes in to it and back
 slit between the two ways, or lay several faces round it (docs/DIFFERENCES.md, 12).
 
 Errors, each a line on standard error, status 1, nothing written: a text that is not understood, and a block that
-would be refused for what it says (FORMAT 3, rows 4, 6, 7 and 9: list limit, no shape, corners, attributes).
+would be refused for what it says (FORMAT 3, rows 4, 6, 7 and 9: list limit, no shape, corners, attributes), or a PointSet
+of more than 8,192 points.
 """
 import math
 import os
@@ -313,7 +314,8 @@ class Text:
         values = self.fields[name]
         values.extend(entries(name, line))
         self.entry_lines[name].extend([line.at] * len(line.words))
-        if len(values) > LIST_LIMIT * WIDTH.get(name, 1):
+        limited = self.kind != 'PointSet' or name == 'point'
+        if limited and len(values) > LIST_LIMIT * WIDTH.get(name, 1):
             raise LineFault(line, f'{name} has more than {LIST_LIMIT} entries')
 
     def name(self, name):

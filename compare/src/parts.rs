@@ -212,7 +212,7 @@ fn compare(count: u64, seed: u64, first: u64) -> bool {
     );
     let seconds = start.elapsed().as_secs_f32();
     println!("{} parts, {} calls, {} differ, {seconds:.1} s", run.parts, run.calls, run.differ);
-    run.differ == 0 && (first > 0 || run.met_all())
+    run.differ == 0 && run.other_nan == 0 && (first > 0 || run.met_all())
 }
 
 fn main() -> ExitCode {

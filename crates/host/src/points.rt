@@ -5,6 +5,7 @@ ghost use Rattle.host.specs.Hosted.{Hosted};
 use crate::answers::answered;
 use crate::context::is_on;
 
+// The mesh of a PointSet, into the lent slices, and 0; or the number of the refusal, and every lent element as it was.
 #[no_mangle]
 pub extern "C" fn sitemesh_point_set(
     points: &[u32],

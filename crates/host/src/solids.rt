@@ -13,7 +13,7 @@ use crate::context::ctx_of;
 use crate::context::is_on;
 use math::V3;
 
-// A Box of a size.
+// The mesh of a Box of a size, into the lent slices, and 0; or the number of the refusal, and every lent element as it was.
 #[no_mangle]
 pub extern "C" fn sitemesh_box(
     x: f32,
