@@ -1,4 +1,5 @@
 -- Laws of a cone, and rows of it worked out.
+pub mod Scaling
 pub mod Sides
 pub mod Rows
 pub mod Within

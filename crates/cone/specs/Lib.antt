@@ -1,2 +1,3 @@
 -- A cone.
 pub mod Cone
+pub mod Roots

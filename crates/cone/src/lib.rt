@@ -1,4 +1,5 @@
 // FORMAT 17.9, cone.
+mod lengths;
 mod side;
 mod whole;
 

@@ -11,7 +11,12 @@ ghost use Rattle.lists.specs.Loops.{tab};
 ghost use Rattle.lists.specs.Parts.{spliced};
 ghost use Rattle.parts.specs.Pushed.{RoomFor, pushed};
 ghost use Rattle.parts.specs.Written.{Written, Roomy};
+ghost use Rattle.cone.specs.Roots.{Roots};
 ghost use Rattle.cone.specs.Cone.{coneNormal, coneFoot, coneApex, coneVerts, coneTri, coneSide};
+use crate::lengths::Lengths;
+use crate::lengths::is_known;
+use crate::lengths::known_unit;
+use crate::lengths::lengths_near;
 use block::Pair;
 use lists::put_three;
 use math::Unit;
@@ -56,16 +61,10 @@ pub struct SliceNormals {
     pub apex: V3,
 }
 
-// Those of the slice whose pairs begin at p. Their roots are taken together; the fourth stands for nothing.
-fn slice_normals(pairs: &[f32], r: f32, height: f32, p: usize) -> SliceNormals
-    requires { ⌜ p + 5 < 65536 ⌝ }
-    ensures { λ k. ⌜ (k .from ≡ coneNormal (now (pairs .entry)) r height (p + 2))
-        × (k .to ≡ coneNormal (now (pairs .entry)) r height (p + 3))
-        × (k .apex ≡ coneNormal (now (pairs .entry)) r height (p + 4)) ⌝ }
+// The roots taken together; the fourth stands for nothing.
+fn three_normals(a: V3, b: V3, c: V3) -> SliceNormals
+    ensures { λ k. ⌜ (k .from ≡ orElse (unitOf a) yAxis) × (k .to ≡ orElse (unitOf b) yAxis) × (k .apex ≡ orElse (unitOf c) yAxis) ⌝ }
 {
-    let a = cone_slope(pairs, r, height, p + 2);
-    let b = cone_slope(pairs, r, height, p + 3);
-    let c = cone_slope(pairs, r, height, p + 4);
     let k = math::normalize_four(a, b, c, a);
     let ua = k.a;
     let ub = k.b;
@@ -75,6 +74,41 @@ fn slice_normals(pairs: &[f32], r: f32, height: f32, p: usize) -> SliceNormals
         to: or_up(ub),
         apex: or_up(uc),
     }
+}
+
+// No root where the three are known.
+fn scaled(known: Lengths, a: V3, b: V3, c: V3) -> SliceNormals
+    requires { ⌜ Roots known ⌝ }
+    ensures { λ k. ⌜ (k .from ≡ orElse (unitOf a) yAxis) × (k .to ≡ orElse (unitOf b) yAxis) × (k .apex ≡ orElse (unitOf c) yAxis) ⌝ }
+{
+    let x = math::bits_of(math::dot(a, a));
+    let y = math::bits_of(math::dot(b, b));
+    let z = math::bits_of(math::dot(c, c));
+    if is_known(known, x) {
+        if is_known(known, y) {
+            if is_known(known, z) {
+                return SliceNormals {
+                    from: or_up(known_unit(known, a, x)),
+                    to: or_up(known_unit(known, b, y)),
+                    apex: or_up(known_unit(known, c, z)),
+                };
+            }
+        }
+    }
+    three_normals(a, b, c)
+}
+
+// Those of the slice whose pairs begin at p.
+fn slice_normals(pairs: &[f32], known: Lengths, r: f32, height: f32, p: usize) -> SliceNormals
+    requires { ⌜ (p + 5 < 65536) × Roots known ⌝ }
+    ensures { λ k. ⌜ (k .from ≡ coneNormal (now (pairs .entry)) r height (p + 2))
+        × (k .to ≡ coneNormal (now (pairs .entry)) r height (p + 3))
+        × (k .apex ≡ coneNormal (now (pairs .entry)) r height (p + 4)) ⌝ }
+{
+    let a = cone_slope(pairs, r, height, p + 2);
+    let b = cone_slope(pairs, r, height, p + 3);
+    let c = cone_slope(pairs, r, height, p + 4);
+    scaled(known, a, b, c)
 }
 
 // A vertex of the foot, its position from pair p.
@@ -116,6 +150,7 @@ fn cone_apex(height: f32, normal: V3, s: f32) -> Vert
 fn put_slice(
     c: GeomCtx,
     pairs: &[f32],
+    known: Lengths,
     r: f32,
     height: f32,
     n: usize,
@@ -124,7 +159,7 @@ fn put_slice(
     normals: &mut [u32],
     textures: &mut [u32],
 )
-    requires { ⌜ (n ≤ 1024) × (i < n) × RoomFor c (i * 3 + 3) (record { positions = now positions; normals = now normals; textures = now textures }) ⌝ }
+    requires { ⌜ (n ≤ 1024) × (i < n) × Roots known × RoomFor c (i * 3 + 3) (record { positions = now positions; normals = now normals; textures = now textures }) ⌝ }
     ensures { λ _. ⌜ record { positions = now (positions .exit); normals = now (normals .exit); textures = now (textures .exit) }
         ≡ pushed c (i * 3) (coneVerts (now (pairs .entry)) r height n i) (record { positions = now (positions .entry); normals = now (normals .entry); textures = now (textures .entry) }) ⌝ }
 {
@@ -132,7 +167,7 @@ fn put_slice(
     let s1 = share(i + 1, n);
     let sm = (s0 + s1) / 2.0;
     let p = 5 * i;
-    let k = slice_normals(pairs, r, height, p);
+    let k = slice_normals(pairs, known, r, height, p);
     let from = k.from;
     let to = k.to;
     let up = k.apex;
@@ -158,9 +193,21 @@ fn put_slices(
     ensures { λ _. ⌜ record { positions = now (positions .exit); normals = now (normals .exit); textures = now (textures .exit) }
         ≡ pushed c 0 (flat (tab (coneVerts (now (pairs .entry)) r height n) n 0)) (record { positions = now (positions .entry); normals = now (normals .entry); textures = now (textures .entry) }) ⌝ }
 {
+    let known = lengths_near(r, height);
     let mut i = 0;
     while i < n {
-        put_slice(c, pairs, r, height, n, i, positions, normals, textures);
+        put_slice(
+            c,
+            pairs,
+            known,
+            r,
+            height,
+            n,
+            i,
+            positions,
+            normals,
+            textures,
+        );
         i += 1;
     }
 }

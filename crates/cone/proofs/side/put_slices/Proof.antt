@@ -9,20 +9,23 @@ use Rattle.cone.proofs.side.put_slices.Statement.{statement}
 use Rattle.cone.proofs.side.put_slices.Tie as tie
 
 abbrev Inv-loop : tie.InvT-loop
-Inv-loop c pairs r height n positions₀ normals₀ textures₀ i₀ positions normals textures i = Filling c 0 (coneVerts pairs r height n) 3 n (record { positions = positions₀; normals = normals₀; textures = textures₀ }) i (record { positions = positions; normals = normals; textures = textures })
+Inv-loop c pairs r height n positions₀ normals₀ textures₀ known i₀ positions normals textures i = Filling c 0 (coneVerts pairs r height n) 3 n (record { positions = positions₀; normals = normals₀; textures = textures₀ }) i (record { positions = positions; normals = normals; textures = textures })
 
 abbrev μ-loop : tie.MeasureT-loop
-μ-loop c pairs r height n positions₀ normals₀ textures₀ i₀ positions normals textures i = n - i
+μ-loop c pairs r height n positions₀ normals₀ textures₀ known i₀ positions normals textures i = n - i
 
 loop-holds : tie.Need-loop-holds Inv-loop μ-loop
 unfolding coneVerts
-loop-holds c = filling-none (λ t. refl) (c .before .before .before .before .pre .1)
+loop-holds c = filling-none (λ t. refl) (c .before .before .before .before .before .pre .1)
+
+lengths-near-requires : tie.Need-lengths-near-requires Inv-loop μ-loop
+lengths-near-requires c κs = search needs
 
 put-slice-requires : tie.Need-put-slice-requires Inv-loop μ-loop
-put-slice-requires c κs = (c .before .before .before .before .before .before .before .before .before .pre .0, c .before .before .before .loop-test .taken, room-less _ (omega (arith, c .before .before .before .loop-test .taken)) (c .before .before .before .before .loop .inv .room))
+put-slice-requires c κs = (c .before .before .before .before .before .before .before .before .before .before .pre .0, c .before .before .before .loop-test .taken, c .before .before .before .before .before .lengths-near .ensures, room-less _ (omega (arith, c .before .before .before .loop-test .taken)) (c .before .before .before .before .loop .inv .room))
 
 add-i : tie.Need-add-i Inv-loop μ-loop
-add-i c = omega (arith, c .before .before .before .before .before .before .before .before .before .before .loop-test .taken, c .before .before .before .before .before .before .before .before .before .before .before .before .before .before .before .before .pre .0)
+add-i c = omega (arith, c .before .before .before .before .before .before .before .before .before .before .loop-test .taken, c .before .before .before .before .before .before .before .before .before .before .before .before .before .before .before .before .before .pre .0)
 
 loop-less : tie.Need-loop-less Inv-loop μ-loop
 loop-less c = search needs
@@ -53,6 +56,7 @@ put-slices-spec =
     (tie.spec
     Inv-loop
     μ-loop
+    lengths-near-requires
     loop-holds
     put-slice-requires
     add-i
