@@ -3,3 +3,4 @@ pub mod Scaling
 pub mod Sides
 pub mod Rows
 pub mod Within
+pub mod Read

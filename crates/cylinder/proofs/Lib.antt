@@ -2,3 +2,4 @@
 pub mod Sides
 pub mod Rows
 pub mod Within
+pub mod Read

@@ -4,3 +4,4 @@ pub mod Capping
 pub mod Parting
 pub mod Holding
 pub mod Naming
+pub mod Taking

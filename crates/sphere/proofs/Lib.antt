@@ -4,5 +4,4 @@ pub mod Sized
 pub mod Calling
 pub mod SphereRows
 pub mod Within
-pub mod Taking
 pub mod Read
