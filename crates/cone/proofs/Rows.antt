@@ -75,6 +75,10 @@ indices-no-side : made false true .indices ≡ 0 ∷ 2 ∷ 1 ∷ 0 ∷ 3 ∷ 2 �
 unfolding coneOf conePart followed coneSideAt coneSide coneVerts coneTri capAt capPart capVerts capIndices capTri heldTo flat tab
 indices-no-side = refl
 
+indices-no-bottom : made true false .indices ≡ 0 ∷ 1 ∷ 2 ∷ 3 ∷ 4 ∷ 5 ∷ 6 ∷ 7 ∷ 8 ∷ []
+unfolding coneOf conePart followed coneSideAt coneSide coneVerts coneTri capAt capPart capVerts capIndices capTri heldTo flat tab
+indices-no-bottom = refl
+
 -- ---- the vertices: the bits of 0, -0, 2, -2, 3 and -3
 
 abbrev o : ℕ
@@ -102,6 +106,11 @@ positions : positionsOf (made true true .verts)
     ≡ (at z down back) ∷ (at back down z) ∷ (at o up o) ∷ (at z down back) ∷ (at back down z) ∷ (at o up o) ∷ (at z down back) ∷ (at back down z) ∷ (at o up o) ∷ (at o down o) ∷ (at z down back) ∷ (at back down z) ∷ (at z down out) ∷ []
 unfolding positionsOf coneOf conePart followed coneSideAt coneSide coneVerts coneFoot coneApex capAt capPart capVerts capVert capCentre dimOf heldTo sineAt cosineAt ringAt flat tab ofBits toBits add sub mul div neg lt
 positions = refl
+
+-- the bottom alone takes the first pairs
+positions-no-side : positionsOf (made false true .verts) ≡ (at o down o) ∷ (at z down back) ∷ (at back down z) ∷ (at back down z) ∷ []
+unfolding positionsOf coneOf conePart followed coneSideAt coneSide coneVerts coneFoot coneApex capAt capPart capVerts capVert capCentre dimOf heldTo sineAt cosineAt ringAt flat tab ofBits toBits add sub mul div neg lt
+positions-no-side = refl
 
 -- 0.6, 0.8 and -0.8: a slope of 3, 4 and 5
 abbrev rise : ℕ

@@ -61,6 +61,14 @@ no-side : sizes (made false true true) ≡ by 8 18 6
 unfolding cylinderOf cylinderPart followed sideAt sidePart sideVerts sideTris capAt capPart capVerts capIndices capTri heldTo flat tab
 no-side = refl
 
+top-only : sizes (made false true false) ≡ by 4 9 3
+unfolding cylinderOf cylinderPart followed sideAt sidePart sideVerts sideTris capAt capPart capVerts capIndices capTri heldTo flat tab
+top-only = refl
+
+bottom-only : sizes (made false false true) ≡ by 4 9 3
+unfolding cylinderOf cylinderPart followed sideAt sidePart sideVerts sideTris capAt capPart capVerts capIndices capTri heldTo flat tab
+bottom-only = refl
+
 none-there : sizes (made false false false) ≡ by 0 0 0
 unfolding cylinderOf cylinderPart followed sideAt sidePart sideVerts sideTris capAt capPart capVerts capIndices capTri heldTo flat tab
 none-there = refl
@@ -82,6 +90,23 @@ indices-no-top = refl
 indices-no-side : made false true true .indices ≡ 0 ∷ 1 ∷ 2 ∷ 0 ∷ 2 ∷ 3 ∷ 0 ∷ 3 ∷ 1 ∷ 4 ∷ 6 ∷ 5 ∷ 4 ∷ 7 ∷ 6 ∷ 4 ∷ 5 ∷ 7 ∷ []
 unfolding cylinderOf cylinderPart followed sideAt sidePart sideVerts sideTris capAt capPart capVerts capIndices capTri heldTo flat tab
 indices-no-side = refl
+
+indices-no-bottom : made true true false .indices ≡ side ++ (8 ∷ 9 ∷ 10 ∷ 8 ∷ 10 ∷ 11 ∷ 8 ∷ 11 ∷ 9 ∷ [])
+unfolding cylinderOf cylinderPart followed sideAt sidePart sideVerts sideTris capAt capPart capVerts capIndices capTri heldTo flat tab
+indices-no-bottom = refl
+
+indices-side-only : made true false false .indices ≡ side
+unfolding cylinderOf cylinderPart followed sideAt sidePart sideVerts sideTris capAt capPart capVerts capIndices capTri heldTo flat tab
+indices-side-only = refl
+
+-- a cap alone begins at 0
+indices-top-only : made false true false .indices ≡ 0 ∷ 1 ∷ 2 ∷ 0 ∷ 2 ∷ 3 ∷ 0 ∷ 3 ∷ 1 ∷ []
+unfolding cylinderOf cylinderPart followed sideAt sidePart sideVerts sideTris capAt capPart capVerts capIndices capTri heldTo flat tab
+indices-top-only = refl
+
+indices-bottom-only : made false false true .indices ≡ 0 ∷ 2 ∷ 1 ∷ 0 ∷ 3 ∷ 2 ∷ 0 ∷ 1 ∷ 3 ∷ []
+unfolding cylinderOf cylinderPart followed sideAt sidePart sideVerts sideTris capAt capPart capVerts capIndices capTri heldTo flat tab
+indices-bottom-only = refl
 
 -- ---- the vertices: the bits of 0, -0, 1, -1, 2 and -2
 
@@ -111,7 +136,24 @@ positions : positionsOf (made true true true .verts)
 unfolding positionsOf cylinderOf cylinderPart followed sideAt sidePart sideVerts sideVert capAt capPart capVerts capVert capCentre capNormal capTexture dimOf heldTo sineAt cosineAt ringAt shareOf flat tab ofBits toBits add sub mul div lt
 positions = refl
 
+-- and takes the first pairs
+positions-top-only : positionsOf (made false true false .verts) ≡ (at o up o) ∷ (at z up down) ∷ (at down up z) ∷ (at z up up) ∷ []
+unfolding positionsOf cylinderOf cylinderPart followed sideAt sidePart sideVerts sideVert capAt capPart capVerts capVert capCentre capNormal capTexture dimOf heldTo sineAt cosineAt ringAt shareOf flat tab ofBits toBits add sub mul div lt
+positions-top-only = refl
+
+positions-bottom-only : positionsOf (made false false true .verts) ≡ (at o down o) ∷ (at z down down) ∷ (at down down z) ∷ (at z down up) ∷ []
+unfolding positionsOf cylinderOf cylinderPart followed sideAt sidePart sideVerts sideVert capAt capPart capVerts capVert capCentre capNormal capTexture dimOf heldTo sineAt cosineAt ringAt shareOf flat tab ofBits toBits add sub mul div lt
+positions-bottom-only = refl
+
 normals : normalsOf (made true true true .verts)
     ≡ (at z o minus) ∷ (at z o minus) ∷ (at minus o z) ∷ (at minus o z) ∷ (at z o one) ∷ (at z o one) ∷ (at z o minus) ∷ (at z o minus) ∷ (at o one o) ∷ (at o one o) ∷ (at o one o) ∷ (at o one o) ∷ (at o minus o) ∷ (at o minus o) ∷ (at o minus o) ∷ (at o minus o) ∷ []
 unfolding normalsOf cylinderOf cylinderPart followed sideAt sidePart sideVerts sideVert capAt capPart capVerts capVert capCentre capNormal capTexture dimOf heldTo sineAt cosineAt ringAt shareOf flat tab ofBits toBits add sub mul div lt
 normals = refl
+
+normals-top-only : normalsOf (made false true false .verts) ≡ (at o one o) ∷ (at o one o) ∷ (at o one o) ∷ (at o one o) ∷ []
+unfolding normalsOf cylinderOf cylinderPart followed sideAt sidePart sideVerts sideVert capAt capPart capVerts capVert capCentre capNormal capTexture dimOf heldTo sineAt cosineAt ringAt shareOf flat tab ofBits toBits add sub mul div lt
+normals-top-only = refl
+
+normals-bottom-only : normalsOf (made false false true .verts) ≡ (at o minus o) ∷ (at o minus o) ∷ (at o minus o) ∷ (at o minus o) ∷ []
+unfolding normalsOf cylinderOf cylinderPart followed sideAt sidePart sideVerts sideVert capAt capPart capVerts capVert capCentre capNormal capTexture dimOf heldTo sineAt cosineAt ringAt shareOf flat tab ofBits toBits add sub mul div lt
+normals-bottom-only = refl
