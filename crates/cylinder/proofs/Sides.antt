@@ -91,87 +91,93 @@ cap-small n h = record { vertices = omega arith; indices = omega arith; pairs = 
 
 -- ---- the side and the caps
 
-module _ (ps : List Float) (r h : Float) (n : ℕ) (side top bottom : Bool) {m : Marks} (low : n ≤ 1024) (em : m ≡ marksOf n side top bottom) where
-  abbrev S : Part
-  S = sideAt ps side r h n
+module _ (ps : List Float) (r h : Float) (n : ℕ) where
+  abbrev S : Bool → Part
+  S side = sideAt ps side r h n
 
-  abbrev U : ℕ → ℕ → Part
-  U = capAt ps top h r n true
+  abbrev U : Bool → ℕ → ℕ → Part
+  U top = capAt ps top h r n true
 
-  abbrev D : ℕ → ℕ → Part
-  D = capAt ps bottom (neg h) r n false
+  abbrev D : Bool → ℕ → ℕ → Part
+  D bottom = capAt ps bottom (neg h) r n false
 
-  abbrev a : PartSizes
-  a = sizesWhere side (sideSizes n)
-
-  abbrev b : PartSizes
-  b = sumOf a (sizesWhere top (capSizes n))
-
-  top-is : m .top ≡ a
-  unfolding marksOf
-  top-is = λ t. em t .top
-
-  bottom-is : m .bottom ≡ b
-  unfolding marksOf
-  bottom-is = λ t. em t .bottom
-
-  all-is : m .all ≡ sumOf b (sizesWhere bottom (capSizes n))
-  unfolding marksOf
-  all-is = λ t. em t .all
-
-  abbrev pub capOf : Float → Bool → PartSizes → Cap
+  abbrev capOf : Float → Bool → PartSizes → Cap
   capOf y up z = record { y = y; r = r; slices = n; top = up; first = z .vertices; pair = z .pairs }
 
-  Z₁ : Sized S (m .top)
-  unfolding sideAt
-  Z₁ = rw top-is (where-sized (sidePart ps r h n) side (side-sized ps r h n))
+  abbrev a : Bool → PartSizes
+  a side = sizesWhere side (sideSizes n)
 
-  Z₂ : Sized (followed S U) (m .bottom)
-  Z₂ = rw bottom-is (sized-followed U (rw top-is at Z₁) (cap-sized ps top (capOf h true a)))
+  abbrev b : Bool → Bool → PartSizes
+  b side top = sumOf (a side) (sizesWhere top (capSizes n))
 
-  pub all-sized : Sized (cylinderPart ps r h n side top bottom) (m .all)
-  unfolding cylinderPart
-  all-sized = rw all-is (sized-followed D (rw bottom-is at Z₂) (cap-sized ps bottom (capOf (neg h) false b)))
+  -- the side and the top
+  module _ (side top : Bool) {z : PartSizes} (low : n ≤ 1024) (ez : z ≡ a side) where
+    Z₁ : Sized (S side) z
+    unfolding sideAt
+    Z₁ = rw ez (where-sized (sidePart ps r h n) side (side-sized ps r h n))
 
-  small-a : Small 8192 (m .top)
-  small-a = rw top-is (where-small 8192 side (sideSizes n) (side-small n low))
+    small-a : Small 8192 z
+    small-a = rw ez (where-small 8192 side (sideSizes n) (side-small n low))
 
-  small-b : Small (8192 + 8192) (m .bottom)
-  small-b = rw bottom-is (sum-small 8192 8192 a (sizesWhere top (capSizes n)) (rw top-is at small-a) (where-small 8192 top (capSizes n) (cap-small n low)))
+    pub upper-numbered : Numbered (capOf h true z)
+    upper-numbered = record { few = low; first-low = omega (arith, small-a .vertices); pair-low = omega (arith, small-a .pairs) }
 
-  pub all-low : m .all .vertices < 2 ^ 32
-  all-low = omega (arith, ap (λ (z : PartSizes). z .vertices) all-is, rw bottom-is at (small-b .vertices), where-small 8192 bottom (capSizes n) (cap-small n low) .vertices)
+    module _ {c : GeomCtx} {s : Streams} {i : List ℕ} (R : Roomy c (followed (S side) (U top)) 0 0 s i) where
+      pub one-room : Roomy c (S side) 0 0 s i
+      one-room = roomy-first (U top) Z₁ R
 
-  pub upper-numbered : Numbered (capOf h true (m .top))
-  upper-numbered = record { few = low; first-low = omega (arith, small-a .vertices); pair-low = omega (arith, small-a .pairs) }
+      module _ {s₁ : Streams} {i₁ : List ℕ} (W₁ : Written c (S side) 0 0 s s₁ i i₁) where
+        pub upper-room : Roomy c (U top (z .vertices) (z .pairs)) (z .vertices) (z .indices) s₁ i₁
+        upper-room = roomy-next (U top) Z₁ R W₁
 
-  pub lower-numbered : Numbered (capOf (neg h) false (m .bottom))
-  lower-numbered = record { few = low; first-low = omega (arith, small-b .vertices); pair-low = omega (arith, small-b .pairs) }
+        pub two-written : {s₂ : Streams} {i₂ : List ℕ} → Written c (U top (z .vertices) (z .pairs)) (z .vertices) (z .indices) s₁ s₂ i₁ i₂
+            → Written c (followed (S side) (U top)) 0 0 s s₂ i i₂
+        two-written W₂ = written-followed (U top) Z₁ R W₁ W₂
 
-  module _ {c : GeomCtx} {s : Streams} {i : List ℕ} (R : Roomy c (cylinderPart ps r h n side top bottom) 0 0 s i) where
-    two-room : Roomy c (followed S U) 0 0 s i
+  -- and the bottom
+  module _ (side top bottom : Bool) {m : Marks} (low : n ≤ 1024) (em : m ≡ marksOf n side top bottom) where
+    pub top-is : m .top ≡ a side
+    unfolding marksOf
+    top-is = λ t. em t .top
+
+    bottom-is : m .bottom ≡ b side top
+    unfolding marksOf
+    bottom-is = λ t. em t .bottom
+
+    all-is : m .all ≡ sumOf (b side top) (sizesWhere bottom (capSizes n))
+    unfolding marksOf
+    all-is = λ t. em t .all
+
+    Z₂ : Sized (followed (S side) (U top)) (m .bottom)
+    Z₂ = rw bottom-is (sized-followed (U top) (Z₁ side top {z = a side} low refl) (cap-sized ps top (capOf h true (a side))))
+
+    pub all-sized : Sized (cylinderPart ps r h n side top bottom) (m .all)
     unfolding cylinderPart
-    two-room = roomy-first D Z₂ R
+    all-sized = rw all-is (sized-followed (D bottom) (rw bottom-is at Z₂) (cap-sized ps bottom (capOf (neg h) false (b side top))))
 
-    pub one-room : Roomy c S 0 0 s i
-    one-room = roomy-first U Z₁ two-room
+    small-b : Small (8192 + 8192) (m .bottom)
+    small-b = rw bottom-is (sum-small 8192 8192 (a side) (sizesWhere top (capSizes n)) (small-a side top {z = a side} low refl) (where-small 8192 top (capSizes n) (cap-small n low)))
 
-    module _ {s₁ : Streams} {i₁ : List ℕ} (W₁ : Written c S 0 0 s s₁ i i₁) where
-      pub upper-room : Roomy c (U (m .top .vertices) (m .top .pairs)) (m .top .vertices) (m .top .indices) s₁ i₁
-      upper-room = roomy-next U Z₁ two-room W₁
+    pub all-low : m .all .vertices < 2 ^ 32
+    all-low = omega (arith, ap (λ (z : PartSizes). z .vertices) all-is, rw bottom-is at (small-b .vertices), where-small 8192 bottom (capSizes n) (cap-small n low) .vertices)
 
-      module _ {s₂ : Streams} {i₂ : List ℕ} (W₂ : Written c (U (m .top .vertices) (m .top .pairs)) (m .top .vertices) (m .top .indices) s₁ s₂ i₁ i₂) where
-        two-written : Written c (followed S U) 0 0 s s₂ i i₂
-        two-written = written-followed U Z₁ two-room W₁ W₂
+    pub lower-numbered : Numbered (capOf (neg h) false (m .bottom))
+    lower-numbered = record { few = low; first-low = omega (arith, small-b .vertices); pair-low = omega (arith, small-b .pairs) }
 
-        pub lower-room : Roomy c (D (m .bottom .vertices) (m .bottom .pairs)) (m .bottom .vertices) (m .bottom .indices) s₂ i₂
+    module _ {c : GeomCtx} {s : Streams} {i : List ℕ} (R : Roomy c (cylinderPart ps r h n side top bottom) 0 0 s i) where
+      pub two-room : Roomy c (followed (S side) (U top)) 0 0 s i
+      unfolding cylinderPart
+      two-room = roomy-first (D bottom) Z₂ R
+
+      module _ {s₂ : Streams} {i₂ : List ℕ} (W₂ : Written c (followed (S side) (U top)) 0 0 s s₂ i i₂) where
+        pub lower-room : Roomy c (D bottom (m .bottom .vertices) (m .bottom .pairs)) (m .bottom .vertices) (m .bottom .indices) s₂ i₂
         unfolding cylinderPart
-        lower-room = roomy-next D Z₂ R two-written
+        lower-room = roomy-next (D bottom) Z₂ R W₂
 
-        pub all-written : {s₃ : Streams} {i₃ : List ℕ} → Written c (D (m .bottom .vertices) (m .bottom .pairs)) (m .bottom .vertices) (m .bottom .indices) s₂ s₃ i₂ i₃
+        pub all-written : {s₃ : Streams} {i₃ : List ℕ} → Written c (D bottom (m .bottom .vertices) (m .bottom .pairs)) (m .bottom .vertices) (m .bottom .indices) s₂ s₃ i₂ i₃
             → Written c (cylinderPart ps r h n side top bottom) 0 0 s s₃ i i₃
         unfolding cylinderPart
-        all-written W₃ = written-followed D Z₂ R two-written W₃
+        all-written W₃ = written-followed (D bottom) Z₂ R W₂ W₃
 
 -- ---- the call
 

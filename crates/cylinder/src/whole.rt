@@ -1,6 +1,10 @@
 // FORMAT 17.8, 17.10: the call of a cylinder.
 ghost use Prim.Native.Nat.{_≤_};
 ghost use mathlib.Core.Path.{_≡_};
+ghost use mathlib.Core.Bool.{true};
+ghost use Rattle.parts.specs.Sizes.{sizesWhere};
+ghost use Rattle.parts.specs.Part.{followed};
+ghost use Rattle.parts.specs.Cap.{capAt};
 ghost use Rattle.parts.specs.Parted.{Parted, lentTo};
 ghost use Rattle.parts.specs.Written.{Written, Roomy};
 ghost use Rattle.cylinder.specs.Cylinder.{sideSizes, sideAt, marksOf, cylinderPart, cylinderOf};
@@ -78,6 +82,60 @@ fn put_side_where(
     }
 }
 
+// The side, and then the top, before which there is a.
+fn put_side_and_top(
+    c: GeomCtx,
+    pairs: &[f32],
+    r: f32,
+    h: f32,
+    n: usize,
+    side: bool,
+    top: bool,
+    a: PartSizes,
+    positions: &mut [u32],
+    normals: &mut [u32],
+    textures: &mut [u32],
+    indices: &mut [u32],
+)
+    requires { ⌜ (n ≤ 1024) × (a ≡ sizesWhere side (sideSizes n)) × Roomy c (followed (sideAt (now pairs) side r h n) (capAt (now pairs) top h r n true)) 0 0 (record { positions = now positions; normals = now normals; textures = now textures }) (now indices) ⌝ }
+    ensures { λ _. ⌜ Written c (followed (sideAt (now (pairs .entry)) side r h n) (capAt (now (pairs .entry)) top h r n true)) 0 0
+        (record { positions = now (positions .entry); normals = now (normals .entry); textures = now (textures .entry) })
+        (record { positions = now (positions .exit); normals = now (normals .exit); textures = now (textures .exit) })
+        (now (indices .entry)) (now (indices .exit)) ⌝ }
+{
+    put_side_where(
+        side,
+        c,
+        pairs,
+        r,
+        h,
+        n,
+        positions,
+        normals,
+        textures,
+        indices,
+    );
+    let upper = Cap {
+        y: h,
+        r,
+        slices: n,
+        top: true,
+        first: a.vertices,
+        pair: a.pairs,
+    };
+    put_cap_at(
+        top,
+        c,
+        pairs,
+        upper,
+        a.indices,
+        positions,
+        normals,
+        textures,
+        indices,
+    );
+}
+
 // The three, one after the other.
 fn put_cylinder(
     c: GeomCtx,
@@ -100,33 +158,16 @@ fn put_cylinder(
         (record { positions = now (positions .exit); normals = now (normals .exit); textures = now (textures .exit) })
         (now (indices .entry)) (now (indices .exit)) ⌝ }
 {
-    put_side_where(
-        side,
+    let a = m.top;
+    put_side_and_top(
         c,
         pairs,
         r,
         h,
         n,
-        positions,
-        normals,
-        textures,
-        indices,
-    );
-    let a = m.top;
-    let upper = Cap {
-        y: h,
-        r,
-        slices: n,
-        top: true,
-        first: a.vertices,
-        pair: a.pairs,
-    };
-    put_cap_at(
+        side,
         top,
-        c,
-        pairs,
-        upper,
-        a.indices,
+        a,
         positions,
         normals,
         textures,

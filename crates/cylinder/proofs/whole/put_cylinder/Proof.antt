@@ -1,25 +1,18 @@
-use Rattle.cylinder.proofs.Sides.{one-room, upper-numbered, upper-room, lower-numbered, lower-room, all-written}
+use Rattle.cylinder.proofs.Sides.{top-is, two-room, lower-numbered, lower-room, all-written}
 use borrow.Author.Needs.{needs}
 use Rattle.cylinder.proofs.whole.put_cylinder.Statement.{statement}
 use Rattle.cylinder.proofs.whole.put_cylinder.Tie as tie
 
-put-side-where-requires : tie.Need-put-side-where-requires
-put-side-where-requires c κs =
-    let c9 = c .before .before .before .before .before .before .before .before .before in
-    (c9 .pre .0, one-room (c9 .args .pairs .now) (c9 .args .r) (c9 .args .h) (c9 .args .n) (c9 .args .side) (c9 .args .top) (c9 .args .bottom) (c9 .pre .0) (c9 .pre .1) (c9 .pre .2))
+put-side-and-top-requires : tie.Need-put-side-and-top-requires
+put-side-and-top-requires c κs =
+    let c10 = c .before .before .before .before .before .before .before .before .before .before in
+    (c10 .pre .0, top-is (c10 .args .pairs .now) (c10 .args .r) (c10 .args .h) (c10 .args .n) (c10 .args .side) (c10 .args .top) (c10 .args .bottom) (c10 .pre .0) (c10 .pre .1), two-room (c10 .args .pairs .now) (c10 .args .r) (c10 .args .h) (c10 .args .n) (c10 .args .side) (c10 .args .top) (c10 .args .bottom) (c10 .pre .0) (c10 .pre .1) (c10 .pre .2))
 
 put-cap-at-requires : tie.Need-put-cap-at-requires
 put-cap-at-requires c κs =
     let c13 = c .before .before .before .before .before .before .before .before .before .before .before .before .before in
-    let c23 = c13 .before .before .before .before .before .before .before .before .before .before in
-    (upper-numbered (c23 .args .pairs .now) (c23 .args .r) (c23 .args .h) (c23 .args .n) (c23 .args .side) (c23 .args .top) (c23 .args .bottom) (c23 .pre .0) (c23 .pre .1), upper-room (c23 .args .pairs .now) (c23 .args .r) (c23 .args .h) (c23 .args .n) (c23 .args .side) (c23 .args .top) (c23 .args .bottom) (c23 .pre .0) (c23 .pre .1) (c23 .pre .2) (c13 .put-side-where .ensures))
-
-put-cap-at-requires-2 : tie.Need-put-cap-at-requires-2
-put-cap-at-requires-2 c κs =
-    let c13 = c .before .before .before .before .before .before .before .before .before .before .before .before .before in
-    let c27 = c13 .before .before .before .before .before .before .before .before .before .before .before .before .before .before in
-    let c37 = c27 .before .before .before .before .before .before .before .before .before .before in
-    (lower-numbered (c37 .args .pairs .now) (c37 .args .r) (c37 .args .h) (c37 .args .n) (c37 .args .side) (c37 .args .top) (c37 .args .bottom) (c37 .pre .0) (c37 .pre .1), lower-room (c37 .args .pairs .now) (c37 .args .r) (c37 .args .h) (c37 .args .n) (c37 .args .side) (c37 .args .top) (c37 .args .bottom) (c37 .pre .0) (c37 .pre .1) (c37 .pre .2) (c27 .put-side-where .ensures) (c13 .put-cap-at .ensures))
+    let c24 = c13 .before .before .before .before .before .before .before .before .before .before .before in
+    (lower-numbered (c24 .args .pairs .now) (c24 .args .r) (c24 .args .h) (c24 .args .n) (c24 .args .side) (c24 .args .top) (c24 .args .bottom) (c24 .pre .0) (c24 .pre .1), lower-room (c24 .args .pairs .now) (c24 .args .r) (c24 .args .h) (c24 .args .n) (c24 .args .side) (c24 .args .top) (c24 .args .bottom) (c24 .pre .0) (c24 .pre .1) (c24 .pre .2) (c13 .put-side-and-top .ensures))
 
 same-length : tie.Need-same-length
 same-length c = search needs
@@ -37,17 +30,15 @@ returns : tie.Need-returns
 returns c =
     let c8 = c .before .before .before .before .before .before .before .before in
     let c22 = c8 .before .before .before .before .before .before .before .before .before .before .before .before .before .before in
-    let c36 = c22 .before .before .before .before .before .before .before .before .before .before .before .before .before .before in
-    let c46 = c36 .before .before .before .before .before .before .before .before .before .before in
-    all-written (c46 .args .pairs .now) (c46 .args .r) (c46 .args .h) (c46 .args .n) (c46 .args .side) (c46 .args .top) (c46 .args .bottom) (c46 .pre .0) (c46 .pre .1) (c46 .pre .2) (c36 .put-side-where .ensures) (c22 .put-cap-at .ensures) (c8 .put-cap-at2 .ensures)
+    let c33 = c22 .before .before .before .before .before .before .before .before .before .before .before in
+    all-written (c33 .args .pairs .now) (c33 .args .r) (c33 .args .h) (c33 .args .n) (c33 .args .side) (c33 .args .top) (c33 .args .bottom) (c33 .pre .0) (c33 .pre .1) (c33 .pre .2) (c22 .put-side-and-top .ensures) (c8 .put-cap-at .ensures)
 
 pub put-cylinder-spec : {M : Type 1} → statement M
 put-cylinder-spec =
     tie.close
     (tie.spec
-    put-side-where-requires
+    put-side-and-top-requires
     put-cap-at-requires
-    put-cap-at-requires-2
     same-length
     same-length-2
     same-length-3
