@@ -1,5 +1,5 @@
 -- The side of a cone, and then its bottom: what is written, how large it is, and the call.
-use mathlib.Core.Path.{_≡_, refl, sym, ap, _∙_, subst}
+use mathlib.Core.Path.{_≡_, refl, ap, _∙_}
 use mathlib.Core.Bool.{Bool, true, false}
 use mathlib.Core.List.{List, [], _∷_}
 use Prim.Native.Nat.{ℕ, _+_, _*_, _≤_, _<_, _^_}
@@ -25,7 +25,7 @@ use Rattle.parts.specs.Written.{Sized, Written, Roomy}
 use Rattle.parts.proofs.Pushing.{SameSizes, room-less, pushed-next, pushed-sizes}
 use Rattle.parts.proofs.Capping.{cap-sized}
 use Rattle.parts.proofs.Holding.{held-between}
-use Rattle.parts.proofs.Parting.{where-sized, where-room, where-written, where-absent, Small, where-small, sum-small, sized-followed, roomy-first, roomy-next, written-followed}
+use Rattle.parts.proofs.Parting.{where-sized, where-room, where-written, where-absent, Small, where-small, cap-small, sum-small, sized-followed, roomy-first, roomy-next, written-followed}
 use Rattle.cone.specs.declared.whole.ConeMarks.{ConeMarks}
 use Rattle.cone.specs.Cone.{coneFoot, coneApex, coneVerts, coneTri, coneSide, coneSideAt, coneSideSizes, coneMarksOf, conePart, coneOf}
 
@@ -96,10 +96,6 @@ pub side-small : (n : ℕ) → n ≤ 1024 → Small 8192 (coneSideSizes n)
 unfolding coneSideSizes
 side-small n h = record { vertices = omega arith; indices = omega arith; pairs = omega arith }
 
-pub cap-small : (n : ℕ) → n ≤ 1024 → Small 8192 (capSizes n)
-unfolding capSizes
-cap-small n h = record { vertices = omega arith; indices = omega arith; pairs = omega arith }
-
 -- ---- the side and the bottom
 
 module _ (ps : List Float) (r h : Float) (n : ℕ) (side bottom : Bool) {m : ConeMarks} (low : n ≤ 1024) (em : m ≡ coneMarksOf n side bottom) where
@@ -164,12 +160,3 @@ module _ (radius height : Float) (side bottom : Bool) (slices : ℕ) (ps : List 
   pub read-call : conePart ps r k n side bottom ≡ coneOf radius height side bottom slices ps
   unfolding coneOf
   read-call = λ t. conePart ps (er t) (ek t) (en t) side bottom
-
-  pub sized-call : {z : PartSizes} → Sized (conePart ps r k n side bottom) z → Sized (coneOf radius height side bottom slices ps) z
-  sized-call {z} Z = subst (λ (p : Part). Sized p z) read-call Z
-
-  pub roomy-call : {c : GeomCtx} {s : Streams} {i : List ℕ} → Roomy c (coneOf radius height side bottom slices ps) 0 0 s i → Roomy c (conePart ps r k n side bottom) 0 0 s i
-  roomy-call {c} {s} {i} R = subst (λ (p : Part). Roomy c p 0 0 s i) (sym read-call) R
-
-  pub written-call : {c : GeomCtx} {s s′ : Streams} {i i′ : List ℕ} → Written c (conePart ps r k n side bottom) 0 0 s s′ i i′ → Written c (coneOf radius height side bottom slices ps) 0 0 s s′ i i′
-  written-call {c} {s} {s′} {i} {i′} W = subst (λ (p : Part). Written c p 0 0 s s′ i i′) read-call W

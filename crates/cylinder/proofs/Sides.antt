@@ -1,5 +1,5 @@
 -- The side of a cylinder, and then its caps: what is written, how large it is, and the call.
-use mathlib.Core.Path.{_≡_, refl, sym, ap, _∙_, subst}
+use mathlib.Core.Path.{_≡_, refl, ap, _∙_}
 use mathlib.Core.Bool.{Bool, true, false}
 use mathlib.Core.List.{List, [], _∷_}
 use Prim.Native.Nat.{ℕ, _+_, _*_, _≤_, _<_, _^_}
@@ -24,7 +24,7 @@ use Rattle.parts.specs.Written.{Sized, Written, Roomy}
 use Rattle.parts.proofs.Pushing.{room-less, next-room, pushed-next}
 use Rattle.parts.proofs.Capping.{cap-sized}
 use Rattle.parts.proofs.Holding.{held-between}
-use Rattle.parts.proofs.Parting.{where-sized, where-room, where-written, where-absent, Small, where-small, sum-small, sized-followed, roomy-first, roomy-next, written-followed}
+use Rattle.parts.proofs.Parting.{where-sized, where-room, where-written, where-absent, Small, where-small, cap-small, sum-small, sized-followed, roomy-first, roomy-next, written-followed}
 use Rattle.cylinder.specs.declared.whole.Marks.{Marks}
 use Rattle.cylinder.specs.Cylinder.{sideVert, sideVerts, sideTris, sidePart, sideAt, sideSizes, marksOf, cylinderPart, cylinderOf}
 
@@ -84,10 +84,6 @@ module _ (ps : List Float) (r h : Float) (n : ℕ) where
 pub side-small : (n : ℕ) → n ≤ 1024 → Small 8192 (sideSizes n)
 unfolding sideSizes
 side-small n h = record { vertices = omega arith; indices = omega arith; pairs = omega arith }
-
-pub cap-small : (n : ℕ) → n ≤ 1024 → Small 8192 (capSizes n)
-unfolding capSizes
-cap-small n h = record { vertices = omega arith; indices = omega arith; pairs = omega arith }
 
 -- ---- the side and the caps
 
@@ -188,12 +184,3 @@ module _ (radius height : Float) (side top bottom : Bool) (slices : ℕ) (ps : L
   pub read-call : cylinderPart ps r (div binary32 k twoF) n side top bottom ≡ cylinderOf radius height side top bottom slices ps
   unfolding cylinderOf
   read-call = λ t. cylinderPart ps (er t) (div binary32 (ek t) twoF) (en t) side top bottom
-
-  pub sized-call : {z : PartSizes} → Sized (cylinderPart ps r (div binary32 k twoF) n side top bottom) z → Sized (cylinderOf radius height side top bottom slices ps) z
-  sized-call {z} Z = subst (λ (p : Part). Sized p z) read-call Z
-
-  pub roomy-call : {c : GeomCtx} {s : Streams} {i : List ℕ} → Roomy c (cylinderOf radius height side top bottom slices ps) 0 0 s i → Roomy c (cylinderPart ps r (div binary32 k twoF) n side top bottom) 0 0 s i
-  roomy-call {c} {s} {i} R = subst (λ (p : Part). Roomy c p 0 0 s i) (sym read-call) R
-
-  pub written-call : {c : GeomCtx} {s s′ : Streams} {i i′ : List ℕ} → Written c (cylinderPart ps r (div binary32 k twoF) n side top bottom) 0 0 s s′ i i′ → Written c (cylinderOf radius height side top bottom slices ps) 0 0 s s′ i i′
-  written-call {c} {s} {s′} {i} {i′} W = subst (λ (p : Part). Written c p 0 0 s s′ i i′) read-call W

@@ -26,6 +26,7 @@ use Rattle.parts.specs.declared.vert.GeomCtx.{GeomCtx}
 use Rattle.parts.specs.Sizes.{isShortTexture, isShortPart, reportOf, sumOf, sizesWhere}
 use Rattle.parts.specs.Part.{Part, noPart, followed, finiteCtx, positionsOf, normalsOf, texturesOf, partMesh}
 use Rattle.parts.specs.Pushed.{Streams, positionWords, normalWords, textureWords, textureWidth, pushed, RoomFor}
+use Rattle.parts.specs.Cap.{capSizes}
 use Rattle.parts.specs.Written.{Sized, Written, Roomy}
 use Rattle.parts.specs.Parted.{isShortFor, madeFor, partRows, partNumber, partResult, Parted, lentTo}
 use Rattle.parts.proofs.Pushing.{positions-length, normals-length, textures-length, room-less, pushed-none, pushed-more, pushed-sizes}
@@ -68,11 +69,28 @@ where-small m false z S = record { vertices = omega arith; indices = omega arith
 pub sum-small : (m n : ℕ) (y z : PartSizes) → Small m y → Small n z → Small (m + n) (sumOf y z)
 sum-small m n y z S T = record { vertices = omega (arith, S .vertices, T .vertices); indices = omega (arith, S .indices, T .indices); pairs = omega (arith, S .pairs, T .pairs) }
 
+pub cap-small : (n : ℕ) → n ≤ 1024 → Small 8192 (capSizes n)
+unfolding capSizes
+cap-small n h = record { vertices = omega arith; indices = omega arith; pairs = omega arith }
+
 -- what `sum_sizes` asks
 pub sum-low : (m n : ℕ) {y z : PartSizes} → Small m y → Small n z → m < 2 ^ 32 → n < 2 ^ 32
     → (y .vertices < 2 ^ 32) × (y .indices < 2 ^ 32) × (y .pairs < 2 ^ 32) × (z .vertices < 2 ^ 32) × (z .indices < 2 ^ 32) × (z .pairs < 2 ^ 32)
 sum-low m n S T a b =
     (omega (arith, S .vertices), omega (arith, S .indices), omega (arith, S .pairs), omega (arith, T .vertices), omega (arith, T .indices), omega (arith, T .pairs))
+
+-- ---- the same part, by another name
+
+module _ {p q : Part} (e : p ≡ q) where
+  pub sized-as : {z : PartSizes} → Sized p z → Sized q z
+  sized-as {z} Z = subst (λ (x : Part). Sized x z) e Z
+
+  module _ {c : GeomCtx} {k a : ℕ} {s : Streams} {i : List ℕ} where
+    pub roomy-as : Roomy c q k a s i → Roomy c p k a s i
+    roomy-as R = subst (λ (x : Part). Roomy c x k a s i) (sym e) R
+
+    pub written-as : {s′ : Streams} {i′ : List ℕ} → Written c p k a s s′ i i′ → Written c q k a s s′ i i′
+    written-as {s′} {i′} W = subst (λ (x : Part). Written c x k a s s′ i i′) e W
 
 -- ---- a part and the next
 

@@ -1,5 +1,5 @@
-use Rattle.cone.proofs.Sides.{all-sized, all-low, low-call, sized-call, roomy-call, written-call}
-use Rattle.parts.proofs.Parting.{call-refused, call-roomy, call-made}
+use Rattle.cone.proofs.Sides.{all-sized, all-low, low-call, read-call}
+use Rattle.parts.proofs.Parting.{sized-as, roomy-as, written-as, call-refused, call-roomy, call-made}
 use borrow.Author.Needs.{needs}
 use Rattle.cone.proofs.whole.cone.Statement.{statement}
 use Rattle.cone.proofs.whole.cone.Tie as tie
@@ -40,7 +40,7 @@ returns c =
     let c7 = c6 .before in
     let c8 = c7 .before in
     let c14 = c8 .before .before .before .before .before .before in
-    call-refused (c14 .args .ctx) (c14 .args .pairs .now) _ (record { positions = c14 .args .positions .now; normals = c14 .args .normals .now; textures = c14 .args .textures .now }) (c14 .args .indices .now) (sized-call (c14 .args .radius) (c14 .args .height) (c14 .args .side) (c14 .args .bottom) (c14 .args .slices) (c14 .args .pairs .now) (c8 .dim .ensures) (c7 .dim2 .ensures) (c6 .held .ensures) (all-sized (c14 .args .pairs .now) _ _ _ (c14 .args .side) (c14 .args .bottom) (low-call (c14 .args .radius) (c14 .args .height) (c14 .args .side) (c14 .args .bottom) (c14 .args .slices) (c14 .args .pairs .now) (c8 .dim .ensures) (c7 .dim2 .ensures) (c6 .held .ensures)) (c4 .marks-of .ensures))) (c4 .before .finite-ctx .ensures) (c2 .part-refusal .result) (c2 .part-refusal .ensures) (c .before .is-taken .ensures) (c .if1 .left)
+    call-refused (c14 .args .ctx) (c14 .args .pairs .now) _ (record { positions = c14 .args .positions .now; normals = c14 .args .normals .now; textures = c14 .args .textures .now }) (c14 .args .indices .now) (sized-as (read-call (c14 .args .radius) (c14 .args .height) (c14 .args .side) (c14 .args .bottom) (c14 .args .slices) (c14 .args .pairs .now) (c8 .dim .ensures) (c7 .dim2 .ensures) (c6 .held .ensures)) (all-sized (c14 .args .pairs .now) _ _ _ (c14 .args .side) (c14 .args .bottom) (low-call (c14 .args .radius) (c14 .args .height) (c14 .args .side) (c14 .args .bottom) (c14 .args .slices) (c14 .args .pairs .now) (c8 .dim .ensures) (c7 .dim2 .ensures) (c6 .held .ensures)) (c4 .marks-of .ensures))) (c4 .before .finite-ctx .ensures) (c2 .part-refusal .result) (c2 .part-refusal .ensures) (c .before .is-taken .ensures) (c .if1 .left)
 
 put-cone-requires : tie.Need-put-cone-requires
 put-cone-requires c κs =
@@ -51,7 +51,7 @@ put-cone-requires c κs =
     let c11 = c10 .before in
     let c12 = c11 .before in
     let c18 = c12 .before .before .before .before .before .before in
-    (low-call (c18 .args .radius) (c18 .args .height) (c18 .args .side) (c18 .args .bottom) (c18 .args .slices) (c18 .args .pairs .now) (c12 .dim .ensures) (c11 .dim2 .ensures) (c10 .held .ensures), c8 .marks-of .ensures, roomy-call (c18 .args .radius) (c18 .args .height) (c18 .args .side) (c18 .args .bottom) (c18 .args .slices) (c18 .args .pairs .now) (c12 .dim .ensures) (c11 .dim2 .ensures) (c10 .held .ensures) (call-roomy (c18 .args .ctx) (c18 .args .pairs .now) _ (record { positions = c18 .args .positions .now; normals = c18 .args .normals .now; textures = c18 .args .textures .now }) (c18 .args .indices .now) (sized-call (c18 .args .radius) (c18 .args .height) (c18 .args .side) (c18 .args .bottom) (c18 .args .slices) (c18 .args .pairs .now) (c12 .dim .ensures) (c11 .dim2 .ensures) (c10 .held .ensures) (all-sized (c18 .args .pairs .now) _ _ _ (c18 .args .side) (c18 .args .bottom) (low-call (c18 .args .radius) (c18 .args .height) (c18 .args .side) (c18 .args .bottom) (c18 .args .slices) (c18 .args .pairs .now) (c12 .dim .ensures) (c11 .dim2 .ensures) (c10 .held .ensures)) (c8 .marks-of .ensures))) (c8 .before .finite-ctx .ensures) (c6 .part-refusal .result) (c6 .part-refusal .ensures) (c4 .before .is-taken .ensures) (c4 .if1 .taken)))
+    (low-call (c18 .args .radius) (c18 .args .height) (c18 .args .side) (c18 .args .bottom) (c18 .args .slices) (c18 .args .pairs .now) (c12 .dim .ensures) (c11 .dim2 .ensures) (c10 .held .ensures), c8 .marks-of .ensures, roomy-as (read-call (c18 .args .radius) (c18 .args .height) (c18 .args .side) (c18 .args .bottom) (c18 .args .slices) (c18 .args .pairs .now) (c12 .dim .ensures) (c11 .dim2 .ensures) (c10 .held .ensures)) (call-roomy (c18 .args .ctx) (c18 .args .pairs .now) _ (record { positions = c18 .args .positions .now; normals = c18 .args .normals .now; textures = c18 .args .textures .now }) (c18 .args .indices .now) (sized-as (read-call (c18 .args .radius) (c18 .args .height) (c18 .args .side) (c18 .args .bottom) (c18 .args .slices) (c18 .args .pairs .now) (c12 .dim .ensures) (c11 .dim2 .ensures) (c10 .held .ensures)) (all-sized (c18 .args .pairs .now) _ _ _ (c18 .args .side) (c18 .args .bottom) (low-call (c18 .args .radius) (c18 .args .height) (c18 .args .side) (c18 .args .bottom) (c18 .args .slices) (c18 .args .pairs .now) (c12 .dim .ensures) (c11 .dim2 .ensures) (c10 .held .ensures)) (c8 .marks-of .ensures))) (c8 .before .finite-ctx .ensures) (c6 .part-refusal .result) (c6 .part-refusal .ensures) (c4 .before .is-taken .ensures) (c4 .if1 .taken)))
 
 part-report-requires : tie.Need-part-report-requires
 part-report-requires c κs = search needs
@@ -78,7 +78,7 @@ returns-2 c =
     let c21 = c20 .before in
     let c22 = c21 .before in
     let c28 = c22 .before .before .before .before .before .before in
-    call-made (c28 .args .ctx) (c28 .args .pairs .now) _ (record { positions = c28 .args .positions .now; normals = c28 .args .normals .now; textures = c28 .args .textures .now }) (c28 .args .indices .now) (sized-call (c28 .args .radius) (c28 .args .height) (c28 .args .side) (c28 .args .bottom) (c28 .args .slices) (c28 .args .pairs .now) (c22 .dim .ensures) (c21 .dim2 .ensures) (c20 .held .ensures) (all-sized (c28 .args .pairs .now) _ _ _ (c28 .args .side) (c28 .args .bottom) (low-call (c28 .args .radius) (c28 .args .height) (c28 .args .side) (c28 .args .bottom) (c28 .args .slices) (c28 .args .pairs .now) (c22 .dim .ensures) (c21 .dim2 .ensures) (c20 .held .ensures)) (c18 .marks-of .ensures))) (c18 .before .finite-ctx .ensures) (c16 .part-refusal .result) (c16 .part-refusal .ensures) (c14 .before .is-taken .ensures) (c14 .if1 .taken) (written-call (c28 .args .radius) (c28 .args .height) (c28 .args .side) (c28 .args .bottom) (c28 .args .slices) (c28 .args .pairs .now) (c22 .dim .ensures) (c21 .dim2 .ensures) (c20 .held .ensures) (c9 .put-cone .ensures)) (c .part-report .ensures)
+    call-made (c28 .args .ctx) (c28 .args .pairs .now) _ (record { positions = c28 .args .positions .now; normals = c28 .args .normals .now; textures = c28 .args .textures .now }) (c28 .args .indices .now) (sized-as (read-call (c28 .args .radius) (c28 .args .height) (c28 .args .side) (c28 .args .bottom) (c28 .args .slices) (c28 .args .pairs .now) (c22 .dim .ensures) (c21 .dim2 .ensures) (c20 .held .ensures)) (all-sized (c28 .args .pairs .now) _ _ _ (c28 .args .side) (c28 .args .bottom) (low-call (c28 .args .radius) (c28 .args .height) (c28 .args .side) (c28 .args .bottom) (c28 .args .slices) (c28 .args .pairs .now) (c22 .dim .ensures) (c21 .dim2 .ensures) (c20 .held .ensures)) (c18 .marks-of .ensures))) (c18 .before .finite-ctx .ensures) (c16 .part-refusal .result) (c16 .part-refusal .ensures) (c14 .before .is-taken .ensures) (c14 .if1 .taken) (written-as (read-call (c28 .args .radius) (c28 .args .height) (c28 .args .side) (c28 .args .bottom) (c28 .args .slices) (c28 .args .pairs .now) (c22 .dim .ensures) (c21 .dim2 .ensures) (c20 .held .ensures)) (c9 .put-cone .ensures)) (c .part-report .ensures)
 
 pub cone-spec : {M : Type 1} → statement M
 cone-spec =

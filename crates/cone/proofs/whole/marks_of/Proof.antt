@@ -1,6 +1,6 @@
 use native.Mathlib.Omega.{arith}
-use Rattle.cone.proofs.Sides.{side-small, cap-small}
-use Rattle.parts.proofs.Parting.{where-small, sum-low}
+use Rattle.cone.proofs.Sides.{side-small}
+use Rattle.parts.proofs.Parting.{where-small, cap-small, sum-low}
 use Rattle.cone.specs.Cone.{coneMarksOf}
 use borrow.Author.Needs.{needs}
 use Rattle.cone.proofs.whole.marks_of.Statement.{statement}

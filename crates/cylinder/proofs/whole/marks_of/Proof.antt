@@ -1,6 +1,6 @@
 use native.Mathlib.Omega.{arith}
-use Rattle.cylinder.proofs.Sides.{side-small, cap-small}
-use Rattle.parts.proofs.Parting.{where-small, sum-small, sum-low}
+use Rattle.cylinder.proofs.Sides.{side-small}
+use Rattle.parts.proofs.Parting.{where-small, cap-small, sum-small, sum-low}
 use Rattle.cylinder.specs.Cylinder.{marksOf}
 use borrow.Author.Needs.{needs}
 use Rattle.cylinder.proofs.whole.marks_of.Statement.{statement}
