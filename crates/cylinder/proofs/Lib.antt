@@ -3,3 +3,4 @@ pub mod Sides
 pub mod Rows
 pub mod Within
 pub mod Read
+pub mod Closed

@@ -2,7 +2,8 @@
 use mathlib.Core.Path.{_≡_, refl}
 use mathlib.Core.Bool.{Bool, true, false}
 use mathlib.Core.List.{List, [], _∷_, _++_}
-use Prim.Native.Nat.{ℕ}
+use Prim.Native.Nat.{ℕ, zero, suc, _+_, _<_}
+use native.Mathlib.Omega.{arith}
 use lib.ListN.{length}
 use lib.Ieee.{Float, binary32, ofBits, toBits, add, sub, mul, div, lt}
 use Rattle.bits.specs.declared.Words3.{Words3}
@@ -13,7 +14,9 @@ use Rattle.parts.specs.declared.sizes.PartSizes.{PartSizes}
 use Rattle.parts.specs.Ring.{sineAt, cosineAt, ringAt, shareOf}
 use Rattle.parts.specs.Sizes.{dimOf, heldTo}
 use Rattle.parts.specs.Part.{Part, followed, positionsOf, normalsOf}
+use Rattle.parts.specs.Edges.{Closed}
 use Rattle.parts.specs.Cap.{capNormal, capTexture, capCentre, capVert, capVerts, capTri, capIndices, capPart, capAt}
+use Rattle.cylinder.proofs.Closed.{Repeats, cylinder-closed}
 use Rattle.cylinder.specs.Cylinder.{sideVert, sideVerts, sideTris, sidePart, sideAt, cylinderPart, cylinderOf}
 
 abbrev minusF : Float
@@ -157,3 +160,19 @@ normals-top-only = refl
 normals-bottom-only : normalsOf (made false false true .verts) ≡ (at o minus o) ∷ (at o minus o) ∷ (at o minus o) ∷ (at o minus o) ∷ []
 unfolding normalsOf cylinderOf cylinderPart followed sideAt sidePart sideVerts sideVert capAt capPart capVerts capVert capCentre capNormal capTexture dimOf heldTo sineAt cosineAt ringAt shareOf flat tab ofBits toBits add sub mul div lt
 normals-bottom-only = refl
+
+-- ---- these pairs come round, so that each edge of the whole cylinder has its way back
+
+repeated : (a : ℕ) → ringAt pairs (a + 0) ≡ ringAt pairs 0 → ringAt pairs (a + 1) ≡ ringAt pairs 1 → ringAt pairs (a + 2) ≡ ringAt pairs 2 → (i : ℕ) → i < 3 → ringAt pairs (a + i) ≡ ringAt pairs i
+repeated a p q r zero h = p
+repeated a p q r (suc zero) h = q
+repeated a p q r (suc (suc zero)) h = r
+repeated a p q r (suc (suc (suc i))) h = absurd (omega arith)
+
+repeats : Repeats pairs 3
+unfolding ringAt sineAt cosineAt
+repeats = record { round = refl; top = repeated 4 refl refl refl; bottom = repeated 7 refl refl refl }
+
+closed : Closed (made true true true .verts) (made true true true .indices)
+unfolding heldTo
+closed = cylinder-closed twoF fourF 3 pairs repeats

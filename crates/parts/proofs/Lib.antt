@@ -5,3 +5,4 @@ pub mod Parting
 pub mod Holding
 pub mod Naming
 pub mod Taking
+pub mod Edges

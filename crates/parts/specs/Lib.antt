@@ -6,3 +6,4 @@ pub mod Pushed
 pub mod Cap
 pub mod Written
 pub mod Parted
+pub mod Edges
