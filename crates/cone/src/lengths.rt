@@ -1,5 +1,5 @@
-// FORMAT 17.9, 9.3: the lengths by which the normals of a cone are scaled. The squares of most are one number but for some
-// roundings, so the roots of four numbers that follow each other serve for them.
+// FORMAT 17.9, 9.3: the lengths by which the normals of a cone are scaled. Their squares are nearly
+// all one number but for some roundings, so the roots of four numbers in a row serve for them.
 ghost use mathlib.Core.Path.{_≡_};
 ghost use mathlib.Core.Bool.{true};
 ghost use Prim.Native.Nat.{_+_, _≤_, _<_, _^_};
@@ -85,7 +85,8 @@ fn known_length(k: Lengths, w: u32) -> f32
 
 // v scaled to length 1, where w, the bits of the square of its length, is known.
 pub fn known_unit(k: Lengths, v: V3, w: u32) -> Unit
-    requires { ⌜ Roots k × (k .first ≤ w) × (w < k .first + 4) × (w ≡ toBits binary32 (vdot v v)) ⌝ }
+    requires { ⌜ Roots k × (k .first ≤ w) × (w < k .first + 4)
+        × (w ≡ toBits binary32 (vdot v v)) ⌝ }
     ensures { λ u. ⌜ u ≡ unitOf v ⌝ }
 {
     math::unit_by(v, known_length(k, w))

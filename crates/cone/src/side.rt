@@ -63,7 +63,9 @@ pub struct SliceNormals {
 
 // The roots taken together; the fourth stands for nothing.
 fn three_normals(a: V3, b: V3, c: V3) -> SliceNormals
-    ensures { λ k. ⌜ (k .from ≡ orElse (unitOf a) yAxis) × (k .to ≡ orElse (unitOf b) yAxis) × (k .apex ≡ orElse (unitOf c) yAxis) ⌝ }
+    ensures { λ k. ⌜ (k .from ≡ orElse (unitOf a) yAxis)
+        × (k .to ≡ orElse (unitOf b) yAxis)
+        × (k .apex ≡ orElse (unitOf c) yAxis) ⌝ }
 {
     let k = math::normalize_four(a, b, c, a);
     let ua = k.a;
@@ -79,7 +81,9 @@ fn three_normals(a: V3, b: V3, c: V3) -> SliceNormals
 // No root where the three are known.
 fn scaled(known: Lengths, a: V3, b: V3, c: V3) -> SliceNormals
     requires { ⌜ Roots known ⌝ }
-    ensures { λ k. ⌜ (k .from ≡ orElse (unitOf a) yAxis) × (k .to ≡ orElse (unitOf b) yAxis) × (k .apex ≡ orElse (unitOf c) yAxis) ⌝ }
+    ensures { λ k. ⌜ (k .from ≡ orElse (unitOf a) yAxis)
+        × (k .to ≡ orElse (unitOf b) yAxis)
+        × (k .apex ≡ orElse (unitOf c) yAxis) ⌝ }
 {
     let x = math::bits_of(math::dot(a, a));
     let y = math::bits_of(math::dot(b, b));
@@ -114,7 +118,8 @@ fn slice_normals(pairs: &[f32], known: Lengths, r: f32, height: f32, p: usize) -
 // A vertex of the foot, its position from pair p.
 fn cone_foot(pairs: &[f32], r: f32, height: f32, p: usize, normal: V3, s: f32) -> Vert
     requires { ⌜ p < 65536 ⌝ }
-    ensures { λ v. ⌜ ((q : ℕ) → normal ≡ coneNormal (now (pairs .entry)) r height q → v ≡ coneFoot (now (pairs .entry)) r height p q s) ⌝ }
+    ensures { λ v. ⌜ ((q : ℕ) → normal ≡ coneNormal (now (pairs .entry)) r height q
+        → v ≡ coneFoot (now (pairs .entry)) r height p q s) ⌝ }
 {
     let x = ring_at(pairs, p);
     let position = V3 {
@@ -131,7 +136,8 @@ fn cone_foot(pairs: &[f32], r: f32, height: f32, p: usize, normal: V3, s: f32) -
 }
 
 fn cone_apex(height: f32, normal: V3, s: f32) -> Vert
-    ensures { λ v. ⌜ ((ps : List Float) (r : Float) (q : ℕ) → normal ≡ coneNormal ps r height q → v ≡ coneApex ps r height q s) ⌝ }
+    ensures { λ v. ⌜ ((ps : List Float) (r : Float) (q : ℕ) → normal ≡ coneNormal ps r height q
+        → v ≡ coneApex ps r height q s) ⌝ }
 {
     let position = V3 {
         x: 0.0,

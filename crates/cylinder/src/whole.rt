@@ -97,7 +97,9 @@ fn put_side_and_top(
     textures: &mut [u32],
     indices: &mut [u32],
 )
-    requires { ⌜ (n ≤ 1024) × (a ≡ sizesWhere side (sideSizes n)) × Roomy c (followed (sideAt (now pairs) side r h n) (capAt (now pairs) top h r n true)) 0 0 (record { positions = now positions; normals = now normals; textures = now textures }) (now indices) ⌝ }
+    requires { ⌜ (n ≤ 1024) × (a ≡ sizesWhere side (sideSizes n))
+        × Roomy c (followed (sideAt (now pairs) side r h n) (capAt (now pairs) top h r n true)) 0 0
+        (record { positions = now positions; normals = now normals; textures = now textures }) (now indices) ⌝ }
     ensures { λ _. ⌜ Written c (followed (sideAt (now (pairs .entry)) side r h n) (capAt (now (pairs .entry)) top h r n true)) 0 0
         (record { positions = now (positions .entry); normals = now (normals .entry); textures = now (textures .entry) })
         (record { positions = now (positions .exit); normals = now (normals .exit); textures = now (textures .exit) })

@@ -18,6 +18,8 @@ edgeSum f [] = 0
 abbrev pub placeIn : List Vert → Vert → ℕ → V3
 placeIn vs d i = getD vs i d .position
 
--- each edge has its way back, as often: whatever g counts of the edges, it counts of their ways back
+-- each edge has its way back, as often: what g counts of the edges, it counts of their ways back
 abbrev pub Closed : List Vert → List ℕ → Type 0
-Closed vs l = (d : Vert) (g : V3 → V3 → ℕ) → edgeSum (λ i j. g (placeIn vs d i) (placeIn vs d j)) l ≡ edgeSum (λ i j. g (placeIn vs d j) (placeIn vs d i)) l
+Closed vs l =
+    (d : Vert) (g : V3 → V3 → ℕ)
+    → edgeSum (λ i j. g (placeIn vs d i) (placeIn vs d j)) l ≡ edgeSum (λ i j. g (placeIn vs d j) (placeIn vs d i)) l
