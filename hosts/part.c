@@ -1,7 +1,9 @@
-/* part FILE: reads a part as tools/block.py writes it, makes its mesh with the library's own sine and cosine, and prints it
- * as sitemesh prints one (docs/FORMAT.md 14), or `no` and the number of the refusal. Of all but a PointSet no vertex has a
- * source: its own number stands there. Of a PointSet a line for each point follows, `p` and its number. */
+/* part FILE: reads a part as tools/block.py writes it ('-' is standard input), makes its mesh with the library's own sine and
+ * cosine, and prints it as sitemesh prints one (docs/FORMAT.md 14), or `no` and the number of the refusal. Of all but a
+ * PointSet no vertex has a source: its own number stands there. Of a PointSet a line for each point follows, `p` and its
+ * number. */
 #include "sitemesh.h"
+#include <errno.h>
 #include <inttypes.h>
 #include <stdio.h>
 #include <stdlib.h>
@@ -164,8 +166,12 @@ static void print_mesh(const lent *s) {
 int main(int argc, char **argv) {
     static const char *const names[] = {"point_set", "box", "sphere", "cylinder", "cone"};
     static uint32_t (*const makers[])(FILE *, lent *) = {point_set, box, sphere, cylinder, cone};
-    FILE *file = argc == 2 ? fopen(argv[1], "r") : NULL;
-    if (!file) fail("the file of a part is wanted");
+    if (argc != 2) fail("usage: part FILE, a part as tools/block.py writes it ('-' is standard input)");
+    FILE *file = strcmp(argv[1], "-") == 0 ? stdin : fopen(argv[1], "r");
+    if (!file) {
+        fprintf(stderr, "part: %s: %s\n", argv[1], strerror(errno));
+        return 2;
+    }
     char name[16] = "";
     if (fscanf(file, "%15s", name) != 1) fail("this is not a part");
     for (size_t k = 0; k < sizeof names / sizeof *names; k++) {

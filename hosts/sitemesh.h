@@ -129,7 +129,7 @@ sitemesh_sincos sitemesh_sin_cos(float angle);
  *   cosine of the rotation, scale s and t, translation s and t. Fewer are none. `textures` is asked for where need_uvs is on.
  * - `pairs`: a sine and then a cosine for each place where the part turns, in an order of its own (docs/FORMAT.md 17.3);
  *   sitemesh_fill_sphere and the like fill them. Its length is counted in floats. With too few SITEMESH_PAIRS is returned;
- *   those beyond are not read.
+ *   those beyond are not read, so a list that was filled for more slices makes another shape and is not told.
  */
 
 /* Of the points the full ones, at most 8,192. `listed` are their colours, of four floats where alpha is on, else three; too
