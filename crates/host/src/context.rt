@@ -1,10 +1,9 @@
 // The flags and the texture transform of a part, as a host gives them (FORMAT 17.12).
 ghost use mathlib.Core.Path.{_≡_};
-ghost use lib.ListN.{getD};
-ghost use lib.Ieee.{nan};
 ghost use Rattle.host.specs.Context.{isOn, ctxOf};
 use block::TexTransform;
 use parts::GeomCtx;
+use parts::float_at;
 
 pub fn is_on(flag: u32) -> bool
     ensures { λ r. ⌜ r ≡ isOn flag ⌝ }
@@ -13,16 +12,6 @@ pub fn is_on(flag: u32) -> bool
         return false;
     }
     true
-}
-
-// A read past the end is NaN.
-fn float_at(floats: &[f32], k: usize) -> f32
-    ensures { λ r. ⌜ r ≡ getD (now (floats .entry)) k nan ⌝ }
-{
-    if k < floats.len() {
-        return floats[k];
-    }
-    0.0 / 0.0
 }
 
 // Whether texture is wanted, and the transform: eight floats or more, of which the first eight count.

@@ -9,6 +9,7 @@ pub use cap::cap_sizes;
 pub use cap::put_cap_at;
 pub use ring::Ring;
 pub use ring::cosine_at;
+pub use ring::float_at;
 pub use ring::ring_at;
 pub use ring::share;
 pub use ring::sine_at;

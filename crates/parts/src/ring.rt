@@ -12,7 +12,7 @@ pub struct Ring {
 }
 
 // A read past the end is NaN.
-fn float_at(floats: &[f32], k: usize) -> f32
+pub fn float_at(floats: &[f32], k: usize) -> f32
     ensures { λ r. ⌜ r ≡ getD (now (floats .entry)) k nan ⌝ }
 {
     if k < floats.len() {
