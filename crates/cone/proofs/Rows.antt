@@ -4,8 +4,11 @@ use mathlib.Core.Bool.{Bool, true, false}
 use mathlib.Core.List.{List, [], _∷_, _++_}
 use Prim.Native.Nat.{ℕ}
 use lib.ListN.{length}
-use lib.Ieee.{Float, binary32, ofBits, toBits, add, sub, mul, div, neg, lt}
+use lib.Ieee.{Float, binary32, ofBits, toBits, ofInt, add, sub, mul, div, neg, lt}
+use Rattle.bits.specs.declared.Words2.{Words2}
 use Rattle.bits.specs.declared.Words3.{Words3}
+use Rattle.block.specs.declared.texture.TexTransform.{TexTransform}
+use Rattle.block.specs.Texture.{uvWords}
 use Rattle.lists.specs.Lists.{flat}
 use Rattle.lists.specs.Loops.{tab}
 use Rattle.math.specs.SquareRoot.{rootOf}
@@ -14,7 +17,7 @@ use Rattle.mesh.specs.Normals.{orElse}
 use Rattle.parts.specs.declared.sizes.PartSizes.{PartSizes}
 use Rattle.parts.specs.Ring.{sineAt, cosineAt, ringAt, shareOf}
 use Rattle.parts.specs.Sizes.{dimOf, heldTo}
-use Rattle.parts.specs.Part.{Part, followed, positionsOf, normalsOf}
+use Rattle.parts.specs.Part.{Part, followed, positionsOf, normalsOf, uvOf, texturesOf}
 use Rattle.parts.specs.Cap.{capNormal, capTexture, capCentre, capVert, capVerts, capTri, capIndices, capPart, capAt}
 use Rattle.cone.specs.Cone.{coneNormal, coneFoot, coneApex, coneVerts, coneTri, coneSide, coneSideAt, conePart, coneOf}
 
@@ -125,3 +128,21 @@ thin = 0xbf4c_cccd
 normals : normalsOf (coneVerts pairs threeF fourF 3 0) ≡ (at thin rise z) ∷ (at z rise wide) ∷ (at z rise thin) ∷ []
 unfolding normalsOf coneVerts coneFoot coneApex coneNormal orElse unitOf vlen rootOf sineAt cosineAt ringAt ofBits toBits add sub mul div neg lt
 normals = refl
+
+-- ---- the texture points, t as 1 - t: 0, 1/3, 2/3 and 1 round the foot, the apex between; the bottom is of the circle with radius 1
+
+-- 0.5 and 1
+abbrev half : ℕ
+half = 0x3f00_0000
+
+abbrev one : ℕ
+one = 0x3f80_0000
+
+abbrev uv : ℕ → ℕ → Words2
+uv s t = record { s = s; t = t }
+
+-- where there is no transform
+textures : (x : TexTransform) → texturesOf (record { «need_uvs» = true; «has_transform» = false; transform = x }) (made true true .verts)
+    ≡ (uv o one) ∷ (uv 0x3eaa_aaab one) ∷ (uv 0x3e2a_aaab o) ∷ (uv 0x3eaa_aaab one) ∷ (uv 0x3f2a_aaab one) ∷ (uv half o) ∷ (uv 0x3f2a_aaab one) ∷ (uv one one) ∷ (uv 0x3f55_5556 o) ∷ (uv half half) ∷ (uv half one) ∷ (uv o half) ∷ (uv half o) ∷ []
+unfolding texturesOf uvOf uvWords coneOf conePart followed coneSideAt coneSide coneVerts coneFoot coneApex capAt capPart capVerts capVert capCentre capTexture heldTo sineAt cosineAt ringAt shareOf flat tab ofBits toBits ofInt add sub div
+textures x = refl

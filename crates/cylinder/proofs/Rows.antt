@@ -5,15 +5,18 @@ use mathlib.Core.List.{List, [], _∷_, _++_}
 use Prim.Native.Nat.{ℕ, zero, suc, _+_, _<_}
 use native.Mathlib.Omega.{arith}
 use lib.ListN.{length}
-use lib.Ieee.{Float, binary32, ofBits, toBits, add, sub, mul, div, lt}
+use lib.Ieee.{Float, binary32, ofBits, toBits, ofInt, add, sub, mul, div, lt}
+use Rattle.bits.specs.declared.Words2.{Words2}
 use Rattle.bits.specs.declared.Words3.{Words3}
+use Rattle.block.specs.declared.texture.TexTransform.{TexTransform}
+use Rattle.block.specs.Texture.{uvWords}
 use Rattle.lists.specs.Lists.{flat}
 use Rattle.lists.specs.Loops.{tab}
 use Rattle.math.specs.Vector.{zeroF, oneF, twoF}
 use Rattle.parts.specs.declared.sizes.PartSizes.{PartSizes}
 use Rattle.parts.specs.Ring.{sineAt, cosineAt, ringAt, shareOf}
 use Rattle.parts.specs.Sizes.{dimOf, heldTo}
-use Rattle.parts.specs.Part.{Part, followed, positionsOf, normalsOf}
+use Rattle.parts.specs.Part.{Part, followed, positionsOf, normalsOf, uvOf, texturesOf}
 use Rattle.parts.specs.Edges.{Closed}
 use Rattle.parts.specs.Cap.{capNormal, capTexture, capCentre, capVert, capVerts, capTri, capIndices, capPart, capAt}
 use Rattle.cylinder.proofs.Closed.{Repeats, cylinder-closed}
@@ -160,6 +163,21 @@ normals-top-only = refl
 normals-bottom-only : normalsOf (made false false true .verts) ≡ (at o minus o) ∷ (at o minus o) ∷ (at o minus o) ∷ (at o minus o) ∷ []
 unfolding normalsOf cylinderOf cylinderPart followed sideAt sidePart sideVerts sideVert capAt capPart capVerts capVert capCentre capNormal capTexture dimOf heldTo sineAt cosineAt ringAt shareOf flat tab ofBits toBits add sub mul div lt
 normals-bottom-only = refl
+
+-- ---- the texture points, t as 1 - t: 0, 1/3, 2/3 and 1 round the side; the caps are of the circle with radius 1
+
+-- 0.5
+abbrev half : ℕ
+half = 0x3f00_0000
+
+abbrev uv : ℕ → ℕ → Words2
+uv s t = record { s = s; t = t }
+
+-- where there is no transform
+textures : (x : TexTransform) → texturesOf (record { «need_uvs» = true; «has_transform» = false; transform = x }) (made true true true .verts)
+    ≡ (uv o one) ∷ (uv o o) ∷ (uv 0x3eaa_aaab one) ∷ (uv 0x3eaa_aaab o) ∷ (uv 0x3f2a_aaab one) ∷ (uv 0x3f2a_aaab o) ∷ (uv one one) ∷ (uv one o) ∷ (uv half half) ∷ (uv half o) ∷ (uv o half) ∷ (uv half one) ∷ (uv half half) ∷ (uv half one) ∷ (uv o half) ∷ (uv half o) ∷ []
+unfolding texturesOf uvOf uvWords cylinderOf cylinderPart followed sideAt sidePart sideVerts sideVert capAt capPart capVerts capVert capCentre capTexture heldTo sineAt cosineAt ringAt shareOf flat tab ofBits toBits ofInt add sub div
+textures x = refl
 
 -- ---- these pairs come round, so that each edge of the whole cylinder has its way back
 

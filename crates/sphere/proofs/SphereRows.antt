@@ -1,15 +1,19 @@
--- FORMAT 17.7, worked out: a sphere of 3 slices and 2 stacks with radius 2, whole.
+-- FORMAT 17.7, worked out: all positions, normals, texture points and indices of a sphere of 3 slices and 2 stacks with radius 2, and how many pairs it takes.
 use mathlib.Core.Path.{_≡_, refl}
+use mathlib.Core.Bool.{true, false}
 use mathlib.Core.List.{List, [], _∷_, _++_}
 use Prim.Native.Nat.{ℕ}
-use lib.Ieee.{Float, binary32, ofBits, toBits, add, sub, mul, div, neg, lt}
+use lib.Ieee.{Float, binary32, ofBits, toBits, ofInt, add, sub, mul, div, neg, lt}
+use Rattle.bits.specs.declared.Words2.{Words2}
 use Rattle.bits.specs.declared.Words3.{Words3}
+use Rattle.block.specs.declared.texture.TexTransform.{TexTransform}
+use Rattle.block.specs.Texture.{uvWords}
 use Rattle.lists.specs.Lists.{flat}
 use Rattle.lists.specs.Loops.{tab}
 use Rattle.math.specs.Vector.{zeroF, oneF, twoF}
 use Rattle.parts.specs.Ring.{sineAt, cosineAt, ringAt, shareOf}
 use Rattle.parts.specs.Sizes.{dimOf, heldTo}
-use Rattle.parts.specs.Part.{Part, positionsOf, normalsOf}
+use Rattle.parts.specs.Part.{Part, positionsOf, normalsOf, uvOf, texturesOf}
 use Rattle.sphere.specs.Sphere.{sphereVert, sphereRow, sphereQuad, sphereBand, spherePart, sphereOf}
 
 abbrev minusF : Float
@@ -66,3 +70,14 @@ normals : normalsOf (whole .verts)
     ≡ (at z minus z) ∷ (at z minus z) ∷ (at z minus o) ∷ (at z minus z) ∷ (at z z minus) ∷ (at minus z z) ∷ (at z z one) ∷ (at z z minus) ∷ (at z one z) ∷ (at z one z) ∷ (at z one o) ∷ (at z one z) ∷ []
 unfolding normalsOf sphereOf spherePart sphereRow sphereVert dimOf heldTo sineAt cosineAt ringAt shareOf flat tab ofBits toBits add sub mul div lt
 normals = refl
+
+-- ---- the texture points, t as 1 - t
+
+-- 0, 1/3, 2/3 and 1 round
+abbrev row : ℕ → List Words2
+row t = record { s = o; t = t } ∷ record { s = 0x3eaa_aaab; t = t } ∷ record { s = 0x3f2a_aaab; t = t } ∷ record { s = one; t = t } ∷ []
+
+-- where there is no transform
+textures : (x : TexTransform) → texturesOf (record { «need_uvs» = true; «has_transform» = false; transform = x }) (whole .verts) ≡ row one ++ (row 0x3f00_0000 ++ row o)
+unfolding texturesOf uvOf uvWords sphereOf spherePart sphereRow sphereVert heldTo shareOf flat tab ofBits toBits ofInt sub div
+textures x = refl
