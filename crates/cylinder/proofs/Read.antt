@@ -20,7 +20,7 @@ use Rattle.cylinder.specs.Cylinder.{sideVert, sideVerts, sideTris, sideP
 
 module _ (r h : Float) (n : ℕ) where
   module _ (ps qs : List Float) (m : ℕ) (g : n + 1 ≤ m) (A : Agree m ps qs) (i : ℕ) (b : i < n + 1) where
-    vert-same : (y v : Float) → sideVert ps r h n i y v ≡ sideVert qs r h n i y v
+    vert-same : (y v : Float) → sideVert ps r n i y v ≡ sideVert qs r n i y v
     unfolding sideVert
     vert-same y v =
         let q = ring-same m ps qs A i (omega (arith, g, b)) in

@@ -30,7 +30,7 @@ use Rattle.cylinder.specs.Cylinder.{sideVert, sideVerts, sideTris, sideP
 
 -- ---- the side
 
-pub two-pushed : (c : GeomCtx) (ps : List Float) (r h : Float) (n i : ℕ) {v w : Vert} {s s′ s″ : Streams} → RoomFor c (i * 2 + 2) s → v ≡ sideVert ps r h n i (neg h) zeroF → w ≡ sideVert ps r h n i h oneF
+pub two-pushed : (c : GeomCtx) (ps : List Float) (r h : Float) (n i : ℕ) {v w : Vert} {s s′ s″ : Streams} → RoomFor c (i * 2 + 2) s → v ≡ sideVert ps r n i (neg h) zeroF → w ≡ sideVert ps r n i h oneF
     → s′ ≡ pushed c (i * 2) (v ∷ []) s → s″ ≡ pushed c (i * 2 + 1) (w ∷ []) s′ → s″ ≡ pushed c (i * 2) (sideVerts ps r h n i) s
 unfolding sideVerts
 two-pushed c ps r h n i {v} {w} {s} R ev ew e₁ e₂ = pushed-next c (i * 2) (v ∷ []) w (room-less c (omega arith) R) e₁ e₂ ∙ (λ t. pushed c (i * 2) (ev t ∷ ew t ∷ []) s)

@@ -14,14 +14,15 @@ use Rattle.parts.specs.Part.{Part, noPart, followed}
 use Rattle.cylinder.specs.declared.whole.Marks.{Marks}
 use Rattle.parts.specs.Cap.{capAt, capSizes}
 
--- FORMAT 17.8, cylinder (side): of n slices, at pair i: below at -h, above at h
-unfoldable pub sideVert : List Float → Float → Float → ℕ → ℕ → Float → Float → Vert
-sideVert ps r h n i y t =
+-- FORMAT 17.8, cylinder (side): of n slices, at pair i: the vertex at height y
+unfoldable pub sideVert : List Float → Float → ℕ → ℕ → Float → Float → Vert
+sideVert ps r n i y t =
     let q = ringAt ps i in
     record { position = v3 (mul binary32 (q .x) r) y (mul binary32 (q .z) r); normal = v3 (q .x) zeroF (q .z); st = record { s = shareOf i n; t = t } }
 
+-- FORMAT 17.8, cylinder (side): below at -h, above at h
 unfoldable pub sideVerts : List Float → Float → Float → ℕ → ℕ → List Vert
-sideVerts ps r h n i = sideVert ps r h n i (neg h) zeroF ∷ sideVert ps r h n i h oneF ∷ []
+sideVerts ps r h n i = sideVert ps r n i (neg h) zeroF ∷ sideVert ps r n i h oneF ∷ []
 
 -- FORMAT 17.8, cylinder (tri): the two triangles of slice i
 unfoldable pub sideTris : ℕ → List ℕ

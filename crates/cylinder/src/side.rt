@@ -19,9 +19,9 @@ use parts::ring_at;
 use parts::share;
 
 // The vertex at pair i, at height y, with t.
-fn side_vert(pairs: &[f32], r: f32, h: f32, n: usize, i: usize, y: f32, t: f32) -> Vert
+fn side_vert(pairs: &[f32], r: f32, n: usize, i: usize, y: f32, t: f32) -> Vert
     requires { ⌜ (n ≤ 1024) × (i ≤ n) ⌝ }
-    ensures { λ v. ⌜ v ≡ sideVert (now (pairs .entry)) r h n i y t ⌝ }
+    ensures { λ v. ⌜ v ≡ sideVert (now (pairs .entry)) r n i y t ⌝ }
 {
     let q = ring_at(pairs, i);
     let position = V3 {
@@ -59,9 +59,9 @@ fn put_two_verts(
     ensures { λ _. ⌜ record { positions = now (positions .exit); normals = now (normals .exit); textures = now (textures .exit) }
         ≡ pushed c (i * 2) (sideVerts (now (pairs .entry)) r h n i) (record { positions = now (positions .entry); normals = now (normals .entry); textures = now (textures .entry) }) ⌝ }
 {
-    let below = side_vert(pairs, r, h, n, i, -h, 0.0);
+    let below = side_vert(pairs, r, n, i, -h, 0.0);
     put_vert(c, i * 2, below, positions, normals, textures);
-    let above = side_vert(pairs, r, h, n, i, h, 1.0);
+    let above = side_vert(pairs, r, n, i, h, 1.0);
     put_vert(c, i * 2 + 1, above, positions, normals, textures);
 }
 
