@@ -3,6 +3,7 @@ pub mod Refusing
 mod ByKind
 pub mod Calls
 pub mod Colours
+pub mod Made
 pub mod Apart
 pub mod ApartRows
 pub mod Bench
