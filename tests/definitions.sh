@@ -23,7 +23,8 @@ reached() {
 }
 
 listed=$(sed -n '/^## The definitions to believe/,/^For the program/s/^| \([a-z]*\/specs\/[A-Za-z]*\.antt\) .*/crates\/\1/p' docs/PROMISES.md | sort)
-demands=(crates/geometry/specs/{Converted,Apart}.antt crates/mesh/specs/OneRun.antt crates/math/specs/Nearest.antt)
+demands=(crates/geometry/specs/{Converted,Apart}.antt crates/mesh/specs/OneRun.antt crates/math/specs/Nearest.antt
+    crates/closed/specs/Closed.antt)
 diff <(reached "${demands[@]}") <(printf '%s\n' "$listed")
 tally 'the definitions to believe are those that the demands name' $?
 
