@@ -5,3 +5,4 @@ pub mod Outlines
 pub mod Gaps
 pub mod Closed
 pub mod Rows
+pub mod MeshRows

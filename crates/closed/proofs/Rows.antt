@@ -34,14 +34,14 @@ use Rattle.closed.proofs.Closed.{closed-stays, closed-was}
 -- ---- blocks
 
 -- -1, and the bits of 1.0
-abbrev end : ℕ
+abbrev pub end : ℕ
 end = 0xffff_ffff
 
-abbrev w1 : ℕ
+abbrev pub w1 : ℕ
 w1 = 0x3f80_0000
 
 -- the first three words of a header, and, after the twelve words, the lists
-abbrev block : ℕ → ℕ → ℕ → List ℕ → List ℕ
+abbrev pub block : ℕ → ℕ → ℕ → List ℕ → List ℕ
 block a b c lists = bytesOf ((a ∷ b ∷ c ∷ 0 ∷ 0 ∷ []) ++ (replicate 12 0 ++ lists))
 
 -- four points, and four faces; the last of them is put in where it is wanted
