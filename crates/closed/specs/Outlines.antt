@@ -24,7 +24,8 @@ keptRuns p (r ∷ rs) = let more = keptRuns p rs in cond (kept p (r .items)) (r 
 
 -- FORMAT 8.3: the quads, row by row; the point (i, j) has the number i + j × xDimension
 unfoldable pub gridOutlines : Header → List Outline
-gridOutlines h = tabs (λ j i. quad (λ i j. i + j * xDimension h) i j) (zDimension h - 1) (xDimension h - 1)
+gridOutlines h =
+    tabs (λ j i. quad (λ i j. i + j * xDimension h) i j) (zDimension h - 1) (xDimension h - 1)
 
 -- FORMAT 8.4: the first k points of row i, of rows of m
 unfoldable pub rowOutline : ℕ → ℕ → ℕ → Outline
