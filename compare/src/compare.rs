@@ -5,12 +5,14 @@ use std::collections::BTreeMap;
 use std::time::Instant;
 
 use crate::cases;
+use crate::edges;
 use crate::expected::{Expected, expected};
 use crate::fixed;
-use crate::format::{Block, accept, lengths};
+use crate::format::{Block, LINES, accept, lengths};
 use crate::judge::judge;
 use crate::maker::Maker;
 use crate::ours::{self, Colour, GREY, Slices, WHITE};
+use crate::outline::Verdict;
 use crate::rng::Rng;
 
 const MOST_SHOWN: usize = 10;
@@ -30,7 +32,10 @@ struct Run {
     calls: usize,
     counts: BTreeMap<String, usize>,
     differ: usize,
-    /// Where blocks that differ are written.
+    /// Meshes whose edges were counted (edges.rs), and those that are not closed as their faces are.
+    edged: usize,
+    exceptions: usize,
+    /// Where blocks that differ, and exceptions, are written.
     folder: String,
     /// Name each call before it is made, for one that does not come back.
     trace: bool,
@@ -43,8 +48,9 @@ impl Run {
 
     fn call(&mut self, name: &str, block: &[u8], lent: &[usize; 8], result: usize, colour: Colour, base: &Expected) {
         self.calls += 1;
+        let accepted = accept(block, lent);
         let refused;
-        let want = match accept(block, lent) {
+        let want = match accepted {
             Err(n) => {
                 self.count(format!("calls refused by {n}"));
                 refused = Expected::Refused(n);
@@ -52,19 +58,40 @@ impl Run {
             }
             Ok(_) => base,
         };
+        let given = || format!("lent {lent:?}, result {result}, colour {colour:x?}");
         if self.trace {
-            println!("{name}, {} bytes, lent {lent:?}, result {result}, colour {colour:x?}", block.len());
+            println!("{name}, {} bytes, {}", block.len(), given());
         }
         self.slices.lend(block, lent, result, self.calls as u32);
         let number = ours::convert(colour, &mut self.slices);
         if let Err(what) = judge(want, number, &self.slices) {
             self.differ += 1;
-            if self.differ <= MOST_SHOWN {
-                let file = format!("{}/differs-{}.block", self.folder, self.differ);
-                let given = format!("lent {lent:?}, result {result}, colour {colour:x?}");
-                println!("{name}, {given}: {what} ({} bytes in {file})", block.len());
-                let _ = std::fs::write(file, block);
-            }
+            self.show("differs", self.differ, block, format!("{name}, {}: {what}", given()));
+        }
+        if let (Ok((read, sizes)), 0) = (accepted, number)
+            && read.kind != LINES
+            && let Err(what) = self.count_edges(&read, sizes.indices)
+        {
+            self.exceptions += 1;
+            self.show("exception", self.exceptions, block, format!("{name}, {}: {what}", given()));
+        }
+    }
+
+    fn count_edges(&mut self, block: &Block, indices: usize) -> Verdict {
+        self.edged += 1;
+        let met = edges::look(block, indices, &self.slices)?;
+        for (what, _) in edges::MET.iter().zip(met).filter(|(_, is_met)| *is_met) {
+            self.count(what.to_string());
+        }
+        Ok(())
+    }
+
+    /// Tells what is wrong with a call, and writes its block, as long as there are few.
+    fn show(&self, kind: &str, n: usize, block: &[u8], what: String) {
+        if n <= MOST_SHOWN {
+            let file = format!("{}/{kind}-{n}.block", self.folder);
+            println!("{what} ({} bytes in {file})", block.len());
+            let _ = std::fs::write(file, block);
         }
     }
 
@@ -193,7 +220,8 @@ pub fn compare(count: u64, seed: u64, first: u64, folder: &str) -> bool {
         println!("{n:>9} {what}");
     }
     let seconds = start.elapsed().as_secs_f32();
+    println!("edges of {} meshes counted, {} exceptions", run.edged, run.exceptions);
     println!("{} blocks, {} calls, {} differ, {seconds:.1} s", run.blocks, run.calls, run.differ);
-    let met = [FEWER, MORE, BELOW].iter().all(|&what| run.counts.contains_key(what));
-    run.differ == 0 && (first > 0 || met)
+    let met = [FEWER, MORE, BELOW].iter().chain(&edges::MET).all(|&what| run.counts.contains_key(what));
+    run.differ == 0 && run.exceptions == 0 && (first > 0 || met)
 }

@@ -218,14 +218,19 @@ impl<'a> Block<'a> {
         Ok(Sizes { points: x * z, corners: 4 * quads, indices: 6 * quads })
     }
 
+    /// Corners of a cap: the cross-section of 2 points or more without its closing point (FORMAT 8.4).
+    pub fn cap(&self) -> usize {
+        let (m, section) = (self.counts[1], self.floats(1));
+        let closes = m > 2 && section[..2] == section[2 * m - 2..];
+        if closes { m - 1 } else { m }
+    }
+
     fn extrusion_sizes(&self) -> Result<Sizes, u32> {
         let (n, m) = (self.counts[0], self.counts[1]);
         if n < 2 || m < 2 {
             return Err(6);
         }
-        let section = self.floats(1);
-        let closes = m > 2 && section[..2] == section[2 * m - 2..];
-        let cap = if closes { m - 1 } else { m };
+        let cap = self.cap();
         let caps = [flag::BEGIN_CAP, flag::END_CAP].iter().filter(|&&k| self.flag(k)).count();
         let caps = if cap >= 3 { caps } else { 0 };
         let quads = (n - 1) * (m - 1);

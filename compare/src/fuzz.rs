@@ -7,6 +7,7 @@
 
 mod angles;
 mod cases;
+mod edges;
 mod faces;
 mod fixed;
 mod format;
@@ -30,7 +31,7 @@ use std::collections::BTreeMap;
 use std::process::ExitCode;
 use std::time::Instant;
 
-use format::{Block, LIMIT, Sizes, accept, lengths};
+use format::{Block, LIMIT, LINES, Sizes, accept, lengths};
 use maker::Maker;
 use ours::{Colour, GREY, NAMES, RESULT, Slices, WHITE};
 use outline::{Outline, Verdict, answered, holds, outline, outlined, told, zeros};
@@ -147,10 +148,14 @@ impl Run {
 
     /// A block that has a mesh: exact slices, then longer ones, each slice one short (one of them where the block is
     /// large), and any lengths up to the exact ones.
-    fn accepted(&mut self, block: &[u8], o: &Outline) {
+    fn accepted(&mut self, block: &[u8], read: &Block, o: &Outline) {
         let asked = lengths(o.sizes);
         let whole = self.rng.between(5, 6);
-        if !self.call(block, &asked, whole, |slices| outlined(o, slices)) {
+        let look = |slices: &Slices| -> Verdict {
+            outlined(o, slices)?;
+            if read.kind == LINES { Ok(()) } else { edges::look(read, o.sizes.indices, slices).map(drop) }
+        };
+        if !self.call(block, &asked, whole, look) {
             return;
         }
         let made = Made::read(o, &self.slices);
@@ -184,7 +189,7 @@ impl Run {
                 if read.has_below() {
                     self.count(BELOW.into());
                 }
-                self.accepted(block, &outline(&read, sizes));
+                self.accepted(block, &read, &outline(&read, sizes));
             }
             Err(_) => {
                 let some = std::array::from_fn(|_| self.rng.below(70));

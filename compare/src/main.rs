@@ -7,6 +7,7 @@ mod bench;
 mod blocks;
 mod cases;
 mod compare;
+mod edges;
 mod expected;
 mod faces;
 mod fixed;

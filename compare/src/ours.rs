@@ -5,6 +5,7 @@ use crate::pages::Pages;
 /// Names of the lent slices, in the order of the call. The result slice has numbers of the machine's size, two words each.
 pub const NAMES: [&str; 9] =
     ["positions", "normals", "colours", "texture", "sources", "indices", "working numbers", "working floats", "result"];
+pub const POSITIONS: usize = 0;
 pub const SOURCES: usize = 4;
 pub const INDICES: usize = 5;
 pub const RESULT: usize = 8;
