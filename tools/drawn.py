@@ -3,7 +3,8 @@
 
 Of sets made up at random, sitemesh has to draw the whole of each run that is not warned of and nothing of one that is
 said not to be drawn, and to give white, which it passes for a missing colour, just where a warning says so. In a
-triangle or quad set a triangle or quad stands for the run.
+triangle or quad set a triangle or quad stands for the run. The edges of what is drawn have to be open just as those
+round the faces that it is drawn for.
 """
 import random
 import re
@@ -12,6 +13,7 @@ import sys
 
 sys.dont_write_bytecode = True
 import block
+import closure
 import files
 import losses
 import mesh
@@ -31,13 +33,20 @@ def indices(count, names):
     return [entry() for _ in range(count)]
 
 
+def sides(kind):
+    """Which side is the front of a face, and how one is cut."""
+    flags = {'IndexedFaceSet': ('ccw', 'convex'), 'IndexedLineSet': ()}.get(kind, ('ccw',))
+    return [f'{flag} ' + chance.choice(('TRUE', 'FALSE')) for flag in flags]
+
+
 def some_text():
     """The lines of a text; none of its colours is white."""
     points, colours, entries = chance.randrange(1, 9), chance.randrange(1, 11), chance.randrange(24)
     coordinates, numbers = indices(entries, points), []
     if chance.random() < 0.6:
         numbers = indices(chance.randrange(entries + 2), colours)
-    lines = ['shape ' + chance.choice(('IndexedFaceSet', 'IndexedLineSet')), 'point']
+    kind = chance.choice(('IndexedFaceSet', 'IndexedLineSet'))
+    lines = ['shape ' + kind, *sides(kind), 'point']
     lines += [f'{k} {k * k} {k * k * k}' for k in range(points)]
     lines += ['coordIndex'] + [str(entry) for entry in coordinates] + ['color'] + ['0.5 0.5 0.5'] * colours
     return lines + ['colorPerVertex ' + chance.choice(('TRUE', 'FALSE')), 'colorIndex ' + ' '.join(map(str, numbers))]
@@ -46,7 +55,8 @@ def some_text():
 def some_primitives():
     """The same of a triangle, fan, strip or quad set."""
     points, colours = chance.randrange(1, 9), chance.randrange(1, 11)
-    lines = ['shape ' + chance.choice(list(losses.PRIMITIVES)), 'point']
+    kind = chance.choice(list(losses.PRIMITIVES))
+    lines = ['shape ' + kind, *sides(kind), 'point']
     lines += [f'{k} {k * k} {k * k * k}' for k in range(points)]
     lines += ['index'] + [str(entry) for entry in indices(chance.randrange(24), points)]
     return lines + ['color'] + ['0.5 0.5 0.5'] * colours
@@ -99,12 +109,32 @@ def are_right(text, found):
     return right and start == len(found.shapes)
 
 
+def faces(text):
+    """The kept faces (FORMAT 6.2, 6.4), each as the points round it, the other way where ccw is off (12.1)."""
+    if text.kind in losses.PRIMITIVES:
+        kept = [part for stretch in losses.stretches(text) for part in stretch.parts if losses.is_whole(text, part)]
+    else:
+        kept = [run for run in losses.runs(text) if losses.is_kept(run, text.count('point'))]
+    found = [list(face.entries) for face in kept]
+    if text.kind == 'IndexedTriangleStripSet':
+        found = [[b, a, c] if part.number % 2 else [a, b, c] for part, (a, b, c) in zip(kept, found)]
+    return found if text.fields['ccw'] else [face[::-1] for face in found]
+
+
+def is_as_open(text, found):
+    """Whether the mesh has at each edge as many ways there less back as the faces have."""
+    less = [{edge: there - back for edge, (there, back) in closure.open_edges(closure.ways(listed))}
+            for listed in (closure.triangles(found), faces(text))]
+    return less[0] == less[1]
+
+
 def main(program='target/bin/sitemesh'):
     for _ in range(TEXTS):
         lines = chance.choice((some_text, some_primitives))()
         text = block.Text(lines)
         fits = are_right if text.kind in losses.PRIMITIVES else is_right
-        if not fits(text, printed(program, block.block(text))):
+        found = printed(program, block.block(text))
+        if not fits(text, found) or not (found.unlit or is_as_open(text, found)):
             print('not what is drawn:', *losses.warnings(text), *lines, sep='\n')
             return 1
     return 0

@@ -1,9 +1,11 @@
 #!/usr/bin/env python3
-"""Turns what sitemesh prints (docs/FORMAT.md 14) into Wavefront OBJ or into a picture:
+"""Turns what sitemesh prints (docs/FORMAT.md 14) into Wavefront OBJ or into a picture, or says whether it is closed:
 
     target/bin/sitemesh < duct.block | python3 tools/mesh.py obj > duct.obj
     python3 tools/mesh.py svg ground.mesh hospital.mesh duct.mesh --turn 60 --tilt 20 > site.svg
     python3 tools/mesh.py svg examples/site.scene > site.svg
+    python3 tools/mesh.py closed examples/gap.mesh
+    python3 tools/mesh.py svg --open examples/gap.mesh > gap.svg
 
 NOT PROVED: this tool is plain Python for people. Nothing of the converter depends on it.
 
@@ -22,13 +24,27 @@ A scene is a text whose first line is 'scene'; after it each line names a mesh a
 Names are from the scene's own folder, and have no spaces, commas or '#'. As in VRML97's Transform, the rotation is an
 axis and an angle, in radians or with 'deg', and comes before the translation. The colour is for a mesh that has none.
 
+A mesh is closed if, for any two points, as many edges of its triangles go from the first to the second as back. Points
+are told apart by their numbers (the sources), not by where they lie: other colours, normals or texture on the two sides
+of an edge never open it, and a position that is not finite does not either; two points at one place do, as at the seam
+of an extrusion whose cross-section closes, and so does a face that is listed the wrong way round. 'closed' says it of
+each mesh by itself, and names each edge that is open, by its two points and how often each way:
+
+    examples/gap.mesh: open at 4 of 47 edges
+    edge 3 4: 0 there, 1 back
+
+The status is 0 where every mesh is closed, and 3 where one is open or has no triangles. In a picture, --open draws the
+open edges as red lines over everything, each with its line as title. Only what comes from a block can be asked: parts
+have no sources, and their vertices are not joined (docs/FORMAT.md 17.4), so all of them are open.
+
 A vertex with a position that is not finite is left out, and so is each triangle or line that uses it; the rest is
 drawn, in a picture and in an OBJ file alike (where the vertices are numbered anew). A normal, colour or texture point
 that is not finite counts as missing (FORMAT 7.2); for such a colour white is taken, which sitemesh passes. Standard
 error says how many of each there were; the status is 0.
 
 Errors, each a line on standard error, status 1, nothing written: a file that cannot be read (it is named), something
-that is not a mesh or a scene, a refusal ('no N') or 'long' in place of a mesh, and meshes of which no vertex is finite.
+that is not a mesh or a scene, a refusal ('no N') or 'long' in place of a mesh, and, to be drawn, meshes of which no
+vertex is finite.
 """
 import math
 import os
@@ -36,12 +52,14 @@ import struct
 import sys
 
 sys.dont_write_bytecode = True
+import closure
 import files
 import scene
 from files import Fault, shown
 
 REFUSALS = ['stub', 'edition', 'zero bits', 'list limit', 'length', 'no shape', 'corners',
             'buffer: it needs more than sitemesh lends (docs/FORMAT.md 14)', 'attributes', 'pairs']
+OPEN = 3  # the status where a mesh is not closed
 MISSING = {'n': [0.0] * 3, 'c': [1.0] * 4, 'u': [0.0] * 2}
 
 
@@ -53,9 +71,10 @@ class Mesh:
     def __init__(self):
         self.name = ''
         self.solid = self.unlit = False
-        self.points, self.parts, self.shapes = [], {'n': [], 'c': [], 'u': []}, []
+        self.sources, self.points, self.parts, self.shapes = [], [], {'n': [], 'c': [], 'u': []}, []
         self.colour = None  # that of a scene, for a mesh without colours
         self.lacking = 0  # normals, colours and texture points that are not finite
+        self.whole = self  # the mesh of which it is the finite part
 
 
 def floats(words, count):
@@ -77,7 +96,7 @@ def is_finite(values):
 
 
 def read_vertex(mesh, words):
-    whole(words[1])
+    mesh.sources.append(whole(words[1]))
     mesh.points.append(floats(words[2:5], 3))
     rest = words[5:]
     while rest:
@@ -142,7 +161,8 @@ def finite_part(mesh):
     places = {v: place for place, v in enumerate(kept)}
     part = Mesh()
     part.name, part.solid, part.unlit, part.colour = mesh.name, mesh.solid, mesh.unlit, mesh.colour
-    part.points = [mesh.points[v] for v in kept]
+    part.whole = mesh
+    part.sources, part.points = [mesh.sources[v] for v in kept], [mesh.points[v] for v in kept]
     part.parts = {mark: [values[v] for v in kept] if values else [] for mark, values in mesh.parts.items()}
     part.shapes = [[places[v] for v in shape] for shape in mesh.shapes if all(v in places for v in shape)]
     return part
@@ -208,6 +228,7 @@ LIGHT = (-0.50, 0.62, 0.60)
 PAPER = '#f3f5f7'
 PLAIN = [(0.83, 0.62, 0.36), (0.62, 0.68, 0.74), (0.56, 0.70, 0.58), (0.72, 0.60, 0.72)]
 INK = (0.20, 0.24, 0.30)
+RED = (0.90, 0.0, 0.0)  # of open edges
 DOT = 3  # the radius of a dot
 TRIED = 24  # how many planes are tried at a cut
 
@@ -293,6 +314,22 @@ def pieces(meshes, view):
                 found.append(triangle(mesh, shape, points, colour, view))
         plain += not (mesh.unlit or mesh.parts['c'] or mesh.colour)
     return [piece for piece in found if piece]
+
+
+def open_pieces(meshes, view):
+    """The open edges as pieces, each with what is said of it. One with a point that is not finite is not drawn."""
+    found, lost = [], 0
+    for mesh in meshes:
+        places = dict(zip(mesh.sources, mesh.points))
+        for (p, q), counts in closure.open_edges(closure.ways(closure.triangles(mesh.whole))):
+            if p in places and q in places:
+                ends = [seen(places[p], view), seen(places[q], view)]
+                found.append((Piece(ends, [True], RED), closure.line((p, q), counts)))
+            else:
+                lost += 1
+    if lost:
+        files.tell('mesh.py', f'{lost} open edges are not drawn: a point of theirs is not finite')
+    return found
 
 
 # ---- the painter's order: a plane parts the pieces, and what it cuts is cut in two
@@ -439,11 +476,18 @@ def svg_piece(piece, frame):
         yield f'<path class="e" color="{paint([0.9 * part for part in piece.colour])}" d="{edges}"/>'
 
 
-def svg(meshes, turn, tilt):
-    group = pieces(meshes, axes(turn, tilt))
-    if not group:
+def svg_open(piece, said, frame):
+    a, b = [frame.place(p) for p in piece.points]
+    return f'<path class="l" color="{paint(piece.colour)}" d="M{a}L{b}"><title>{said}</title></path>'
+
+
+def svg(meshes, turn, tilt, is_open_marked=False):
+    view = axes(turn, tilt)
+    group = pieces(meshes, view)
+    marked = open_pieces(meshes, view) if is_open_marked else []
+    if not group and not marked:
         files.tell('mesh.py', 'the picture is empty: no dot, no line, and no triangle that faces the eye')
-    frame = Frame(group)
+    frame = Frame(group + [piece for piece, _ in marked])
     near = 1e-3 / frame.scale
     size = f'{frame.width:.0f} {frame.height:.0f}'
     yield f'<svg xmlns="http://www.w3.org/2000/svg" viewBox="0 0 {size}" width="{frame.width:.0f}">'
@@ -452,6 +496,7 @@ def svg(meshes, turn, tilt):
     yield f'<rect width="100%" height="100%" rx="12" fill="{PAPER}"/>'
     for piece in painted(group, near):
         yield from svg_piece(piece, frame)
+    yield from (svg_open(piece, said, frame) for piece, said in marked)
     yield '</svg>'
 
 
@@ -498,20 +543,33 @@ def degrees(option, word):
     return value
 
 
+def closed(names):
+    """Says of each mesh whether it is closed; the exit status."""
+    found = [closure.verdict(files.source_name(name), mesh) for file in names for name, mesh in read_one(file)]
+    write(line for _, lines in found for line in lines)
+    return 0 if all(is_closed for is_closed, _ in found) else OPEN
+
+
+def write(lines):
+    files.write('-', ''.join(line + '\n' for line in lines).encode(errors='surrogateescape'))
+
+
 def work():
     parser = files.Parser('mesh.py', __doc__)
-    parser.add_argument('form', choices=['obj', 'svg'], help='Wavefront OBJ, or a picture')
+    parser.add_argument('form', choices=['obj', 'svg', 'closed'], help='Wavefront OBJ, a picture, or whether it is closed')
     parser.add_argument('files', nargs='*', metavar='MESH',
                         help="a file with what sitemesh printed, or a scene; '-', or no file, is standard input")
     parser.add_argument('--turn', default='30', metavar='DEGREES', help='where the eye is, round the Y axis (30)')
     parser.add_argument('--tilt', default='30', metavar='DEGREES', help='where the eye is, above the ground (30)')
+    parser.add_argument('--open', action='store_true', help='draw open edges in red, over everything')
     choice = parser.parse_intermixed_args()
     turn, tilt = degrees('--turn', choice.turn), degrees('--tilt', choice.tilt)
     if choice.files.count('-') > 1:
         raise Fault('standard input is named twice')
+    if choice.form == 'closed':
+        return closed(choice.files or ['-'])
     meshes = read_all(choice.files or ['-'])
-    lines = obj(meshes) if choice.form == 'obj' else svg(meshes, turn, tilt)
-    files.write('-', ''.join(line + '\n' for line in lines).encode(errors='surrogateescape'))
+    write(obj(meshes) if choice.form == 'obj' else svg(meshes, turn, tilt, choice.open))
     return 0
 
 
