@@ -81,8 +81,8 @@ helps() { # tool, words
 }
 
 # Something that is no mesh gives the words on standard error, status 1 and nothing else.
-no_mesh() { # text, words
-    for form in obj svg; do
+no_mesh() { # text, words, and the forms where not all
+    for form in ${3:-obj svg closed}; do
         printf "$1" | python3 tools/mesh.py "$form" > "$work/out" 2> "$work/said"
         [ $? -eq 1 ] && grep -q "^mesh.py: standard input: .*$2" "$work/said" && [ ! -s "$work/out" ]
         tally "$form: $2" $?
@@ -100,7 +100,7 @@ for text in examples/*.txt tools/cases/*.txt; do
 done
 
 bay=(hall gables roof)
-for name in "${site[@]}" "${bay[@]}" "${parts[@]}"; do
+for name in "${site[@]}" "${bay[@]}" "${parts[@]}" wing; do
     python3 tools/block.py --strict "examples/$name.txt" "$work/made.block"
     tally "no warning: examples/$name.txt" $?
 done
@@ -109,7 +109,12 @@ python3 tools/block.py examples/annex.txt "$work/made.block" 2> "$work/said" &&
     [ "$(wc -l < "$work/said")" -eq 4 ]
 tally 'a warning for each wall of examples/annex.txt, and no other' $?
 
-for name in "${site[@]}" annex "${bay[@]}"; do
+python3 tools/block.py examples/gap.txt "$work/made.block" 2> "$work/said" &&
+    [ "$(cat "$work/said")" = \
+        'block.py: examples/gap.txt: line 22: warning: run 3 is not drawn: 100 names no point (there are 20, numbered from 0)' ]
+tally 'a warning for the dropped wall of examples/gap.txt, and no other' $?
+
+for name in "${site[@]}" annex "${bay[@]}" wing gap; do
     [ "$(wc -c < "examples/$name.block")" -le 8192 ] && grep -q '^mesh ' "examples/$name.mesh"
     tally "examples/$name fits what sitemesh lends" $?
 done
@@ -203,10 +208,11 @@ tally 'the text is still there' $?
 fails_unread 'block.py, output unread' python3 tools/block.py "$good" -
 fails_unread 'block.py --help, output unread' python3 tools/block.py --help
 fails_unread 'mesh.py, output unread' python3 tools/mesh.py svg examples/mast.mesh
+fails_unread 'mesh.py closed, output unread' python3 tools/mesh.py closed examples/wing.mesh
 if [ -c /dev/full ]; then
     fails 'block.py, full output' 'No space left' python3 tools/block.py "$good" /dev/full
 fi
-for form in obj svg; do
+for form in obj svg closed; do
     for bad in none.mesh examples examples/mast.block examples/mast.txt; do
         fails "$form, $bad in the middle" "^mesh.py: $bad: " \
             python3 tools/mesh.py "$form" examples/mast.mesh "$bad" examples/duct.mesh
@@ -239,7 +245,7 @@ python3 tools/mesh.py obj - < examples/mast.mesh > "$work/named"
 python3 tools/mesh.py obj < examples/mast.mesh | cmp - "$work/named" && grep -q '^o mesh' "$work/named"
 tally 'mesh.py from standard input' $?
 helps block.py FILE.txt OUT.block --strict 'standard input' 'standard output' 'python3 tools/block.py' textureScale bottomRadius
-helps mesh.py obj svg MESH scene --turn --tilt 'standard input' 'standard output' 'python3 tools/mesh.py'
+helps mesh.py obj svg closed MESH scene --turn --tilt --open 'by their numbers' 'status is 0 where every mesh is closed' 'standard input' 'standard output' 'python3 tools/mesh.py'
 python3 tools/block.py one.txt 2> "$work/said"
 [ $? -eq 2 ] && [ "$(wc -l < "$work/said")" -eq 1 ]
 tally 'a wrong command line has status 2' $?
@@ -433,6 +439,62 @@ tally 'OBJ of a torn mesh' $?
 [ "$(grep -c 'd="M.*z"' "$work/torn.svg")" -eq 1 ]
 tally 'picture of a torn mesh' $?
 
+# Closed or not, by the points' numbers: what is said on standard output, and the status.
+closed() { # name, status, what is said, then the meshes
+    local name=$1 status=$2 said=$3
+    shift 3
+    python3 tools/mesh.py closed "$@" > "$work/out" 2> "$work/said"
+    [ $? -eq "$status" ] && [ ! -s "$work/said" ] && printf "$said" | cmp - "$work/out"
+    tally "closed: $name" $?
+}
+whole='examples/wing.mesh: closed, 48 edges\n'
+gap='examples/gap.mesh: open at 4 of 47 edges\n'
+gap+='edge 3 4: 0 there, 1 back\nedge 3 9: 1 there, 0 back\nedge 4 10: 0 there, 1 back\nedge 9 10: 1 there, 0 back\n'
+closed 'the wing' 0 "$whole" examples/wing.mesh
+closed 'the wing with a gap' 3 "$gap" examples/gap.mesh
+closed 'both' 3 "$gap$whole" examples/{gap,wing}.mesh
+printf 'scene\nwing.mesh rotation 0 1 0 1\nwing.mesh translation 0 0 40\n' > "$work/scene/wings.scene"
+cp examples/{wing,gap}.mesh "$work/scene"
+whole="$work/scene/wing.mesh: closed, 48 edges\n"
+closed 'a scene' 0 "$whole$whole" "$work/scene/wings.scene"
+whole='standard input: closed, 48 edges\n'
+sed -E 's/^t (.*) (.*) (.*)/t \1 \3 \2/' examples/wing.mesh > "$work/wing.mesh"
+closed 'every triangle turned round' 0 "$whole" < "$work/wing.mesh"
+sed -E 's/^v ([0-9]+) ([0-9a-f]{8})/v \1 7fc00000/' examples/wing.mesh > "$work/wing.mesh"
+closed 'positions that are NaN' 0 "$whole" - < "$work/wing.mesh"
+sed -E '0,/^t /s/^t (.*) (.*) (.*)/t \1 \3 \2/' examples/wing.mesh > "$work/wing.mesh"
+closed 'one triangle turned round' 3 'standard input: open at 3 of 48 edges
+edge 0 1: 0 there, 2 back\nedge 0 6: 2 there, 0 back\nedge 1 6: 0 there, 2 back\n' < "$work/wing.mesh"
+closed 'a triangle that names a point twice' 0 'standard input: closed, 1 edge\n' < <(
+    printf 'mesh 2 3 1 0 0\nv 7 %s 00000000\nv 8 %s 3f800000\nt 0 1 1\n' "$zero" "$zero")
+# Both sides of a triangle; two of its corners are at one place, first two vertices of one point, then two points.
+sides="mesh 4 6 1 0 0\nv 4 $zero 00000000\nv 5 $zero 3f800000\nv 6 $zero 40000000\nv 6 $zero 40000000\nt 0 1 2\nt 0 3 1\n"
+closed 'two vertices of one point' 0 'standard input: closed, 3 edges\n' < <(printf "$sides")
+closed 'two points at one place' 3 'standard input: open at 4 of 5 edges
+edge 4 6: 0 there, 1 back\nedge 4 7: 1 there, 0 back\nedge 5 6: 1 there, 0 back\nedge 5 7: 0 there, 1 back\n' < <(
+    printf "${sides/40000000\\nv 6/40000000\\nv 7}")
+closed 'no triangles' 3 'examples/paths.mesh: no triangles\nexamples/marks.mesh: no triangles\n' examples/{paths,marks}.mesh
+closed 'an empty mesh' 3 'standard input: no triangles\n' < <(printf 'mesh 0 0 1 0 0\n')
+# The seam of the duct: two columns of 7 edges, and at each cap an edge of the side and one of the cap.
+python3 tools/mesh.py closed examples/duct.mesh | head -n 1 | grep -qx 'examples/duct.mesh: open at 18 of 195 edges'
+tally 'closed: the seam of the duct' $?
+for name in wing gap; do
+    python3 tools/mesh.py svg --open "examples/$name.mesh" | cmp - "examples/$name.svg"
+    tally "picture of examples/$name.mesh" $?
+done
+python3 tools/mesh.py svg examples/gap.mesh > "$work/gap.svg"
+diff "$work/gap.svg" examples/gap.svg | sed -n 's/^[<>] .*d="M.*L.*"><title>\(.*\)<\/title><\/path>$/\1/p' > "$work/said"
+printf "${gap#*\\n}" | cmp - "$work/said" && [ "$(diff "$work/gap.svg" examples/gap.svg | grep -c '^[<>]')" -eq 4 ] &&
+    ! grep -q '<title>' examples/wing.svg
+tally 'open edges are red lines over the picture' $?
+printf 'scene\ngap.mesh translation 0 0 40\nwing.mesh\n' > "$work/scene/gaps.scene"
+python3 tools/mesh.py svg --open --turn 210 "$work/scene/gaps.scene" > "$work/gap.svg"
+[ "$(grep -c '<title>edge' "$work/gap.svg")" -eq 4 ] && python3 -c "$well_formed" "$work/gap.svg"
+tally 'open edges of a scene, behind what is drawn' $?
+sed -E 's/^v 9 ([0-9a-f]{8})/v 9 7fc00000/' examples/gap.mesh | python3 tools/mesh.py svg --open > "$work/gap.svg" 2> "$work/said"
+[ "$(grep -c '<title>edge' "$work/gap.svg")" -eq 2 ] && grep -q '2 open edges are not drawn' "$work/said"
+tally 'open edges at a point that is not finite' $?
+
 # A long thin triangle whose corners, rounded, are off its own plane: the order is still found.
 printf '%s\n' 'mesh 3 3 0 0 0' 'v 0 4cbebc20 00000000 bf800000' 'v 1 3a83126f ba83126f 7f61b1e6' \
     'v 2 3a83126f 4cbebc20 7149f2ca' 't 0 1 2' > "$work/thin.mesh"
@@ -451,7 +513,7 @@ no_mesh 'long\n' 'longer than sitemesh reads'
 no_mesh 'hello\n' 'not what sitemesh prints'
 no_mesh 'mesh 1 0 1 0 0\nv 0 00000000 00000000\n' 'line 2'
 no_mesh 'mesh 1 3 1 0 0\nv 0 00000000 00000000 00000000\nt 0 0 1\n' 'line 3'
-no_mesh 'mesh 1 0 1 0 0\nv 0 00000000 7fc00000 00000000\n' 'not finite'
+no_mesh 'mesh 1 0 1 0 0\nv 0 00000000 7fc00000 00000000\n' 'not finite' 'obj svg'
 no_mesh 'mesh 2 0 1 0 0\nv 0 00000000 00000000 00000000\n' 'first line says'
 
 tell_tally
