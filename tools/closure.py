@@ -10,6 +10,11 @@ def triangles(mesh):
     return [[mesh.sources[v] for v in shape] for shape in mesh.shapes if len(shape) == 3]
 
 
+def placed(mesh):
+    """The triangles, each as its three places; a place is the same whatever the sign of a zero."""
+    return [[tuple(x + 0.0 for x in mesh.points[v]) for v in shape] for shape in mesh.shapes if len(shape) == 3]
+
+
 def ways(faces):
     """Of each edge, lower number first, how often the way round a face goes along it: there, and back."""
     found = {}
@@ -39,4 +44,9 @@ def verdict(name, mesh):
         return False, [f'{name}: no triangles']
     if not rims:
         return True, [f'{name}: closed, {edges}']
-    return False, [f'{name}: open at {len(rims)} of {edges}'] + [line(*rim) for rim in rims]
+    lines = [f'{name}: open at {len(rims)} of {edges}'] + [line(*rim) for rim in rims]
+    if not open_edges(ways(placed(mesh))):
+        lines.append(f'{name}: closed if points at one place are taken for one')
+    elif mesh.sources == list(range(len(mesh.sources))):
+        lines.append(f'{name}: of a part it cannot be asked, since its vertices are not joined')
+    return False, lines

@@ -35,7 +35,9 @@ each mesh by itself, and names each edge that is open, by its two points and how
 
 The status is 0 where every mesh is closed, and 3 where one is open or has no triangles. In a picture, --open draws the
 open edges as red lines over everything, each with its line as title. Only what comes from a block can be asked: parts
-have no sources, and their vertices are not joined (docs/FORMAT.md 17.4), so all of them are open.
+have no sources, and their vertices are not joined (docs/FORMAT.md 17.4), so all of them are open. A last line says so of a
+mesh that may be a part's, and of an open one whether it is closed where points at one place are taken for one. That
+a mesh encloses anything is not said: a wall listed from both sides is closed.
 
 A vertex with a position that is not finite is left out, and so is each triangle or line that uses it; the rest is
 drawn, in a picture and in an OBJ file alike (where the vertices are numbered anew). A normal, colour or texture point
@@ -58,7 +60,7 @@ import scene
 from files import Fault, shown
 
 REFUSALS = ['stub', 'edition', 'zero bits', 'list limit', 'length', 'no shape', 'corners',
-            'buffer: it needs more than sitemesh lends (docs/FORMAT.md 14)', 'attributes', 'pairs']
+            'buffer: it needs more than was lent (sitemesh: docs/FORMAT.md 14)', 'attributes', 'pairs']
 OPEN = 3  # the status where a mesh is not closed
 MISSING = {'n': [0.0] * 3, 'c': [1.0] * 4, 'u': [0.0] * 2}
 
@@ -118,7 +120,7 @@ def read_shape(mesh, words):
 def read_head(mesh, words):
     numbers = {str(k): name for k, name in enumerate(REFUSALS, 1)}
     if words[0] == 'no' and len(words) == 2 and words[1] in numbers:
-        what = 'part' if words[1] == '10' else 'block'
+        what = {'7': 'block or part', '8': 'block or part', '10': 'part'}.get(words[1], 'block')
         raise Fault(f'no mesh: the {what} was refused, number {words[1]}, {numbers[words[1]]}')
     if words == ['long']:
         raise Fault('no mesh: the block was longer than sitemesh reads')
@@ -563,6 +565,8 @@ def work():
     parser.add_argument('--tilt', default='30', metavar='DEGREES', help='where the eye is, above the ground (30)')
     parser.add_argument('--open', action='store_true', help='draw open edges in red, over everything')
     choice = parser.parse_intermixed_args()
+    if choice.open and choice.form != 'svg':
+        parser.error('--open is of svg alone')
     turn, tilt = degrees('--turn', choice.turn), degrees('--tilt', choice.tilt)
     if choice.files.count('-') > 1:
         raise Fault('standard input is named twice')

@@ -471,13 +471,19 @@ closed 'a triangle that names a point twice' 0 'standard input: closed, 1 edge\n
 sides="mesh 4 6 1 0 0\nv 4 $zero 00000000\nv 5 $zero 3f800000\nv 6 $zero 40000000\nv 6 $zero 40000000\nt 0 1 2\nt 0 3 1\n"
 closed 'two vertices of one point' 0 'standard input: closed, 3 edges\n' < <(printf "$sides")
 closed 'two points at one place' 3 'standard input: open at 4 of 5 edges
-edge 4 6: 0 there, 1 back\nedge 4 7: 1 there, 0 back\nedge 5 6: 1 there, 0 back\nedge 5 7: 0 there, 1 back\n' < <(
+edge 4 6: 0 there, 1 back\nedge 4 7: 1 there, 0 back\nedge 5 6: 1 there, 0 back\nedge 5 7: 0 there, 1 back
+standard input: closed if points at one place are taken for one\n' < <(
     printf "${sides/40000000\\nv 6/40000000\\nv 7}")
 closed 'no triangles' 3 'examples/paths.mesh: no triangles\nexamples/marks.mesh: no triangles\n' examples/{paths,marks}.mesh
 closed 'an empty mesh' 3 'standard input: no triangles\n' < <(printf 'mesh 0 0 1 0 0\n')
 # The seam of the duct: two columns of 7 edges, and at each cap an edge of the side and one of the cap.
 python3 tools/mesh.py closed examples/duct.mesh | head -n 1 | grep -qx 'examples/duct.mesh: open at 18 of 195 edges'
 tally 'closed: the seam of the duct' $?
+python3 tools/mesh.py closed examples/drum.mesh | tail -n 1 | grep -qx '.*: of a part it cannot be asked, since its vertices are not joined'
+tally 'closed: of a part' $?
+python3 tools/mesh.py closed --open examples/wing.mesh > "$work/said" 2>&1
+[ $? -eq 2 ] && grep -q 'open is of svg alone' "$work/said"
+tally 'open edges in a picture alone' $?
 for name in wing gap; do
     python3 tools/mesh.py svg --open "examples/$name.mesh" | cmp - "examples/$name.svg"
     tally "picture of examples/$name.mesh" $?

@@ -1,5 +1,5 @@
 //! Closed stays closed: between any two points, the edges of the triangles one way less those back are as many as round
-//! the kept faces. Corners are points' numbers, and no position is looked at. The faces are written from docs/FORMAT.md alone.
+//! the kept faces. Corners are points' numbers; no position is looked at but the ends of a cross-section. The faces are written from docs/FORMAT.md alone.
 
 use crate::format::{Block, EXTRUSION, FACES, GRID, LINES, flag, runs};
 use crate::ours::{INDICES, POSITIONS, SOURCES, Slices};
@@ -67,7 +67,7 @@ fn open(mut steps: Vec<Step>) -> Option<Step> {
     steps.chunk_by(|a, b| pair(a) == pair(b)).find(|ways| !closed(ways)).map(|ways| pair(&ways[0]))
 }
 
-/// The edges of the triangles, named by the sources of their vertices; none where an index names no vertex.
+/// The edges of the triangles, named by the sources of their vertices; none where an index is beyond the lent sources.
 fn edges(indices: &[u32], sources: &[u32]) -> Option<Vec<Step>> {
     let points: Option<Vec<u32>> = indices.iter().map(|&v| sources.get(v as usize).copied()).collect();
     Some(points?.chunks(3).flat_map(around).collect())

@@ -10,14 +10,15 @@ use Rattle.polygon.specs.Edges.{edge, named, tris, around}
 use Rattle.mesh.specs.Mesh.{Slices}
 use Rattle.closed.specs.Outlines.{Outline}
 
--- FORMAT 5: the indices in threes
+-- FORMAT 10.3, 12.1: the indices in threes
 unfoldable pub trianglesOf : List ℕ → List Tri
 trianglesOf [] = []
 trianglesOf (a ∷ []) = []
 trianglesOf (a ∷ b ∷ []) = []
 trianglesOf (a ∷ b ∷ c ∷ r) = triple a b c ∷ trianglesOf r
 
--- FORMAT 18: the triangles' edges from p to q; a corner is named by the source of its vertex
+-- FORMAT 18: the triangles' edges from p to q; a corner is named by the source of its vertex.
+-- Every index names a vertex, so the 0 is never read
 unfoldable pub edgesIn : Slices → ℕ → ℕ → ℕ
 edgesIn S p q = tris (named (λ v. getD (S .sources) v 0) (edge p q)) (trianglesOf (S .indices))
 
@@ -25,10 +26,10 @@ edgesIn S p q = tris (named (λ v. getD (S .sources) v 0) (edge p q)) (triangles
 unfoldable pub stepsIn : List Outline → ℕ → ℕ → ℕ
 stepsIn os p q = total (around (edge p q)) os
 
--- FORMAT 18: 1 for a step from p to q that is not made as often as the one back
+-- FORMAT 18: 1 where the steps from p to q are not as many as those back
 unfoldable pub gap : List Outline → ℕ → ℕ → ℕ
 gap os p q = pick (eqb (stepsIn os p q) (stepsIn os q p)) 0 1
 
--- FORMAT 18: how many steps are such; a hall without gaps has none
+-- FORMAT 18: how many steps go such a way, each as often as it is made; a hall without gaps has none
 unfoldable pub gaps : List Outline → ℕ
 gaps os = total (around (gap os)) os

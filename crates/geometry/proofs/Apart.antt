@@ -26,7 +26,7 @@ use Rattle.geometry.specs.declared.answer.Call.{Call}
 use Rattle.geometry.specs.Apart.{AcceptedCall, elementsOf}
 use Rattle.geometry.proofs.Made.{elements-made}
 
--- ---- the elements that a call on a face set made are those of its mesh, where made
+-- ---- what the definition makes of a face set
 
 face-set-made : (missing : Words4) (bs : List ℕ) → headerOf bs .kind ≡ FaceSet → made missing bs ≡ madeOf (headerOf bs) (slicesOf (faceSetMesh missing bs))
 unfolding made blockMesh
