@@ -177,18 +177,19 @@ pub fn one_point(kind: u32, crease: f32, entries: usize) -> Shape {
     shape
 }
 
-/// One word more in the converter's hash (vertices/specs/Hash.antt).
-fn mixed(hash: u32, word: u32) -> u32 {
-    let product = (hash ^ word).wrapping_mul(0xb529_7a4d);
-    product ^ (product >> 16)
+/// The converter's hash of a line's vertex at point 0, of the words of its colour (vertices/specs/Hash.antt).
+fn hash_of(colour: [u32; 4]) -> u32 {
+    let weights = [0xd6e_8feb_u64, 0xa13_6aaf, 0xe2d_0b4d, 0x8f1_bbcd];
+    let sum: u64 = colour.iter().zip(weights).map(|(&word, weight)| word as u64 * weight).sum();
+    (sum as u32 ^ (sum >> 32) as u32).wrapping_mul(0xb529_7a4d)
 }
 
 /// The line set of one point, made against the hash: the keys of all vertices are in the first bucket.
 pub fn against_the_hash(maker: &mut Maker, entries: usize) -> Shape {
-    let buckets = entries as u64 / 3 + 1;
+    let buckets = entries as u64 / 3 + 2 + 1;
     let first = |colour: &[f32; 3]| {
-        let words = [0.0, colour[0], colour[1], colour[2], 1.0].map(f32::to_bits);
-        words.into_iter().fold(0, mixed) as u64 * buckets >> 32 == 0
+        let words = [colour[0], colour[1], colour[2], 1.0].map(f32::to_bits);
+        hash_of(words) as u64 * buckets >> 32 == 0
     };
     let any = || Some(std::array::from_fn(|_| maker.rng.real()));
     let colours: Vec<f32> = std::iter::from_fn(any).filter(first).take(entries).flatten().collect();

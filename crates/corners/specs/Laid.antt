@@ -5,11 +5,11 @@ use Rattle.tables.specs.declared.layout.Plan.{Plan}
 use Rattle.vertices.specs.declared.places.Chains.{Chains}
 use Rattle.corners.specs.declared.laid.CornerTables.{CornerTables}
 
--- vertex numbers, places, face numbers, texture, heads and nexts, one after another; `numbers` is where the face numbers start; a bucket for each three corners
+-- vertex numbers, places, face numbers, texture, heads and nexts, one after another; `numbers` is where the face numbers start; a bucket for each three corners and two for each point
 unfoldable pub tablesAt : ℕ → ℕ → ℕ → ℕ → ℕ → ℕ → ℕ → CornerTables
 tablesAt count points spots corners named places numbers =
     let textures = numbers + count in
-    let buckets = count / 3 + 1 in
+    let buckets = count / 3 + 2 * spots + 1 in
     let heads = textures + 2 * count in
     record {
       count = count;
@@ -39,7 +39,7 @@ pub record Laid (t : CornerTables) (len : ℕ) : Type 0 where
   pub places : t .places + t .count ≤ t .numbers
   pub numbers : t .numbers + t .count ≤ t .textures
   pub textures : t .textures + 2 * t .count ≤ t .heads
-  pub buckets : (0 < t .buckets) × (t .buckets ≤ most)
+  pub buckets : (0 < t .buckets) × (t .buckets ≤ 4 * most)
   pub heads : t .heads + t .buckets ≤ t .nexts
   pub nexts : t .nexts + t .count ≤ len
 

@@ -20,7 +20,8 @@ pub struct CornerTables {
 }
 
 // The tables from the face numbers on stand one after another; those before are where a shape has put them. There is a
-// bucket for each three corners: the words that are lent (FORMAT 4) have room for that many, however many faces there are.
+// bucket for each three corners and two for each point: the words that are lent (FORMAT 4) have room for that many, however
+// many faces there are.
 pub fn corner_tables(
     count: usize,
     points: usize,
@@ -34,7 +35,7 @@ pub fn corner_tables(
     ensures { λ r. ⌜ r ≡ tablesAt count points spots corners named places numbers ⌝ }
 {
     let textures = numbers + count;
-    let buckets = count / 3 + 1;
+    let buckets = count / 3 + 2 * spots + 1;
     let heads = textures + 2 * count;
     CornerTables {
         count,

@@ -55,11 +55,11 @@ module _ (w : Widths) (s : Store) (k : Key) where
   place-no i e = passed (λ i. sameKey k (keyAt w s i)) i e
 
   -- only the vertices in the key's bucket count
-  place-skip : (t : Chains) (n : ℕ) → placeOf w s n k ≡ placeOf w s (upTo (lastAt (bucketAt w t s) n (bucketOf w (t .buckets) k))) k
+  place-skip : (t : Chains) (n : ℕ) → placeOf w s n k ≡ placeOf w s (upTo (lastAt (bucketAt w t s) n (bucketOf (t .buckets) k))) k
   unfolding placeOf lastAt bucketAt
   place-skip t n =
-      seek-skip (λ i. sameKey k (keyAt w s i)) (λ i. eqb (bucketOf w (t .buckets) k) (bucketOf w (t .buckets) (keyAt w s i)))
-      (λ i. other-by (bucketOf w (t .buckets)) k (keyAt w s i)) n
+      seek-skip (λ i. sameKey k (keyAt w s i)) (λ i. eqb (bucketOf (t .buckets) k) (bucketOf (t .buckets) (keyAt w s i)))
+      (λ i. other-by (bucketOf (t .buckets)) k (keyAt w s i)) n
 
 last-le : (f : ℕ → ℕ) (n b : ℕ) → upTo (lastAt f n b) ≤ n
 unfolding lastAt
@@ -75,7 +75,7 @@ last-is f n b i e = sym (eqb-true b _ (seek-hit (λ i. eqb b (f i)) n i e))
 pub record Met (w : Widths) (t : Chains) (s : Store) (k : Key) (n : ℕ) (x : Known) : Type 0 where
   pub le : upTo x ≤ n
   pub same : placeOf w s n k ≡ placeOf w s (upTo x) k
-  pub here : (i : VertexNumber) → x ≡ At i → bucketAt w t s (i .0) ≡ bucketOf w (t .buckets) k
+  pub here : (i : VertexNumber) → x ≡ At i → bucketAt w t s (i .0) ≡ bucketOf (t .buckets) k
 
 module _ {w : Widths} {t : Chains} {s : Store} {k : Key} {n : ℕ} {x : Known} (M : Met w t s k n x) where
   -- the end of the chain
@@ -96,12 +96,12 @@ module _ {w : Widths} {t : Chains} {s : Store} {k : Key} {n : ℕ} {x : Known} (
     met-found h = sym (met-here ∙ place-yes w s k i h)
 
 module _ (w : Widths) (s : Store) (k : Key) (t : Chains) (m : List ℕ) (n : ℕ) (c : Chained t (bucketAt w t s) m n) where
-  met-last : (j : ℕ) (x : Known) → x ≡ lastAt (bucketAt w t s) j (bucketOf w (t .buckets) k) → Met w t s k j x
+  met-last : (j : ℕ) (x : Known) → x ≡ lastAt (bucketAt w t s) j (bucketOf (t .buckets) k) → Met w t s k j x
   met-last j x e =
-      let b = bucketOf w (t .buckets) k in
+      let b = bucketOf (t .buckets) k in
       rw e (record { le = last-le (bucketAt w t s) j b; same = place-skip w s k t j; here = last-is (bucketAt w t s) j b })
 
-  pub met-start : (x : Known) (b : ℕ) → x ≡ knownBy (getD m (t .heads + b) 0) → b ≡ bucketOf w (t .buckets) k → b < t .buckets → Met w t s k n x
+  pub met-start : (x : Known) (b : ℕ) → x ≡ knownBy (getD m (t .heads + b) 0) → b ≡ bucketOf (t .buckets) k → b < t .buckets → Met w t s k n x
   met-start x b e q h = met-last n x (e ∙ c .heads b h ∙ ap (lastAt (bucketAt w t s) n) q)
 
   pub met-step : (x y : Known) (i : VertexNumber) → y ≡ knownBy (getD m (t .nexts + i .0) 0) → Met w t s k n x → x ≡ At i → sameKey k (keyAt w s (i .0)) ≡ false

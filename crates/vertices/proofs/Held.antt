@@ -178,15 +178,15 @@ module _ (w : Widths) (t : Chains) (n v b : ℕ) (l : List ℕ) (s : Store) (x m
       unfolding bucketAt
       bucket-old i h =
           let a : i < length (H .keys) = omega (arith, H .count) in
-          ap (bucketOf w (t .buckets)) (key-grown i (omega arith) ∙ List·getD-append (H .keys) (k ∷ []) k i a
+          ap (bucketOf (t .buckets)) (key-grown i (omega arith) ∙ List·getD-append (H .keys) (k ∷ []) k i a
           ∙ sym (held-key w (pointsIn t m) (H .beyond) (H .after) s x (H .keys) (H .holds) W i k a))
 
-      bucket-new : b ≡ bucketOf w (t .buckets) (cornerKey w v l) → bucketAt w t s′ n ≡ b
+      bucket-new : b ≡ bucketOf (t .buckets) (cornerKey w v l) → bucketAt w t s′ n ≡ b
       unfolding bucketAt k
       bucket-new q =
-          ap (bucketOf w (t .buckets)) (key-grown n (omega arith) ∙ ap (λ (i : ℕ). getD (H .keys ++ (k ∷ [])) i k) (sym (H .count)) ∙ getD-append-seam (H .keys) k [] k) ∙ sym q
+          ap (bucketOf (t .buckets)) (key-grown n (omega arith) ∙ ap (λ (i : ℕ). getD (H .keys ++ (k ∷ [])) i k) (sym (H .count)) ∙ getD-append-seam (H .keys) k [] k) ∙ sym q
 
-      pub vertexed-new : Chained t (bucketAt w t s) m n → b ≡ bucketOf w (t .buckets) (cornerKey w v l) → b < t .buckets
+      pub vertexed-new : Chained t (bucketAt w t s) m n → b ≡ bucketOf (t .buckets) (cornerKey w v l) → b < t .buckets
           → Vertexed w t n (cornerKey w v l) s x m s′ x′ m′ n
       unfolding k
       vertexed-new C q h =

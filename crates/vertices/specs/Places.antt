@@ -26,7 +26,7 @@ pub record Roomy (w : Widths) (s : Store) (n : ℕ) : Type 0 where
 pub record Laid (t : Chains) (len n : ℕ) : Type 0 where
   pub some : t .spots ≤ most
   pub points : t .points + 3 * t .spots ≤ t .heads
-  pub buckets : (0 < t .buckets) × (t .buckets ≤ most)
+  pub buckets : (0 < t .buckets) × (t .buckets ≤ 4 * most)
   pub heads : t .heads + t .buckets ≤ t .nexts
   pub nexts : t .nexts + n ≤ len
 

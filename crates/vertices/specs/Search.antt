@@ -58,7 +58,7 @@ placeOf w s n k = seek (λ i. sameKey k (keyAt w s i)) n
 
 -- the bucket of vertex i
 unfoldable pub bucketAt : Widths → Chains → Store → ℕ → ℕ
-bucketAt w t s i = bucketOf w (t .buckets) (keyAt w s i)
+bucketAt w t s i = bucketOf (t .buckets) (keyAt w s i)
 
 -- the last of the first n vertices that is in bucket b, where vertex i is in bucket f i
 unfoldable pub lastAt : (ℕ → ℕ) → ℕ → ℕ → Known

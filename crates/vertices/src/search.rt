@@ -86,7 +86,7 @@ pub fn find(
     requires { ⌜ Roomy w (record { sources = now sources; normals = now normals; colours = now colours; textures = now textures }) (n .0)
         × (9 ≤ length (now key)) × Laid t (length (now work)) (n .0)
         × Chained t (bucketAt w t (record { sources = now sources; normals = now normals; colours = now colours; textures = now textures })) (now work) (n .0)
-        × (bucket .0 ≡ bucketOf w (t .buckets) (cornerKey w (v .0) (now key))) × (bucket .0 < t .buckets) ⌝ }
+        × (bucket .0 ≡ bucketOf (t .buckets) (cornerKey w (v .0) (now key))) × (bucket .0 < t .buckets) ⌝ }
     ensures { λ r. ⌜ r ≡ placeOf w (record { sources = now (sources .entry); normals = now (normals .entry); colours = now (colours .entry); textures = now (textures .entry) }) (n .0)
         (cornerKey w (v .0) (now (key .entry))) ⌝ }
 {

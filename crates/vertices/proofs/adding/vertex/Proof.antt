@@ -9,7 +9,7 @@ use Rattle.vertices.proofs.adding.vertex.Tie as tie
 bucket-of-requires : tie.Need-bucket-of-requires
 bucket-of-requires c κs =
     let P = c .before .before .before .before .before .before .before .pre in
-    (P .room .roomy .widths, P .words, omega (arith, P .point, P .room .laid), P .room .laid .buckets)
+    (P .words, omega (arith, P .point, P .room .laid), P .room .laid .buckets)
 
 find-requires : tie.Need-find-requires
 find-requires c κs =

@@ -4,41 +4,48 @@ use borrow.Author.Needs.{needs}
 use Rattle.vertices.proofs.hash.bucket_of.Statement.{statement}
 use Rattle.vertices.proofs.hash.bucket_of.Tie as tie
 
-narrow-requires : tie.Need-narrow-requires
-narrow-requires c κs = search needs
+normal-sum-requires : tie.Need-normal-sum-requires
+normal-sum-requires c κs = search needs
 
-mixed-requires : tie.Need-mixed-requires
-mixed-requires c κs = search needs
+colour-sum-requires : tie.Need-colour-sum-requires
+colour-sum-requires c κs = search needs
 
-mixed-words-requires : tie.Need-mixed-words-requires
-mixed-words-requires c κs = (c .mixed .ensures .1, omega (arith, c .before .before .before .pre))
+texture-sum-requires : tie.Need-texture-sum-requires
+texture-sum-requires c κs = search needs
 
-mixed-words-requires-2 : tie.Need-mixed-words-requires-2
-mixed-words-requires-2 c κs = (c .mixed-words .ensures .1, omega (arith, c .before .before .before .before .pre))
+mul-sum : tie.Need-mul-sum
+mul-sum c = search needs
 
-mixed-words-requires-3 : tie.Need-mixed-words-requires-3
-mixed-words-requires-3 c κs = (c .mixed-words2 .ensures .1, omega (arith, c .before .before .before .before .before .pre))
+add-sum : tie.Need-add-sum
+add-sum c = search needs
 
-mul-bucket : tie.Need-mul-bucket
-mul-bucket c = omega (arith, bucket-small _ _ (c .mixed-words3 .ensures .1) (c .before .before .before .before .before .before .pre .3 .1))
+add-sum-2 : tie.Need-add-sum-2
+add-sum-2 c = search needs
+
+add-sum-3 : tie.Need-add-sum-3
+add-sum-3 c = search needs
+
+spread-requires : tie.Need-spread-requires
+spread-requires c κs = search needs
+
+mul-t10 : tie.Need-mul-t10
+mul-t10 c = omega (arith, bucket-small _ _ (c .spread .ensures .1) (c .before .before .before .before .before .before .pre .2 .1))
 
 returns : tie.Need-returns
 returns c =
-    let c2 = c .before .before in
-    let c3 = c2 .before in
-    let c6 = c3 .before .before .before in (
-      corner-bucket _ _ _ (c6 .pre .0) (c6 .pre .1) _ _ _ _ _ _ (c3 .before .narrow .ensures) (c3 .mixed .ensures .0) (c2 .mixed-words .ensures .0) (c .before .mixed-words2 .ensures .0) (c .mixed-words3 .ensures .0),
-      bucket-below _ _ (c .mixed-words3 .ensures .1) (c6 .pre .3 .0),
-    )
+    (corner-bucket _ _ _ _ (c .before .before .before .before .normal-sum .ensures .0) (c .before .before .before .colour-sum .ensures .0) (c .before .before .texture-sum .ensures .0) (c .spread .ensures .0), bucket-below _ _ (c .spread .ensures .1) (c .before .before .before .before .before .before .pre .2 .0))
 
 pub bucket-of-spec : {M : Type 1} → statement M
 bucket-of-spec =
     tie.close
     (tie.spec
-    narrow-requires
-    mixed-requires
-    mixed-words-requires
-    mixed-words-requires-2
-    mixed-words-requires-3
-    mul-bucket
+    normal-sum-requires
+    colour-sum-requires
+    texture-sum-requires
+    mul-sum
+    add-sum
+    add-sum-2
+    add-sum-3
+    spread-requires
+    mul-t10
     returns)
