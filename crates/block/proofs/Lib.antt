@@ -1,7 +1,7 @@
 -- The laws that other crates cite.
 pub mod EditionLaws
 pub mod Reading
-pub mod ListLaws
+pub mod ExtentLaws
 pub mod Table
 pub mod TableRows
 pub mod TextureRows

@@ -7,9 +7,10 @@ use native.Mathlib.Omega.{arith}
 use lib.Dec.{T, ltb, eqb}
 use lib.ListN.{length, getD, List·getD-eq-default}
 use borrow.Author.Tests.{lt-ltb, le-ltb, eq-eqb, ne-eqb, ltb-false, ltb-true, eqb-true, not-false}
+use Rattle.lists.proofs.Tests.{and-both}
 use Rattle.block.specs.Edition.{edition1, isKnown, limitOf, headerBytes}
 use Rattle.block.specs.Kind.{isPrimitives}
-use Rattle.block.specs.Lists.{wordCount}
+use Rattle.block.specs.Extents.{wordCount}
 use Rattle.block.specs.Runs.{allBelow}
 use Rattle.block.proofs.EditionLaws.{limit-low}
 use Rattle.block.proofs.RunLaws.{below-at}
@@ -142,10 +143,6 @@ pub count-low : {bs : List ℕ} {h : Header} → Taken bs h → (k : ℕ) → ge
 count-low {bs} {h} T k = omega (arith, T .counts-are k, limit-low (h .edition))
 
 -- ---- FORMAT 3, 9: the attributes of a triangle, fan, strip or quad set that is not refused
-and-both : (a b : Bool) → (a && b) ≡ true → (a ≡ true) × (b ≡ true)
-and-both true b e = (refl, e)
-and-both false b e = absurd (true≢false (sym e))
-
 pub record ByPoint (h : Header) : Type 0 where
   pub colours : h .«color_per_vertex» ≡ true
   pub normals : h .«normal_per_vertex» ≡ true

@@ -7,7 +7,7 @@ use Rattle.bits.specs.Bits.{field, bytesOf}
 use Rattle.block.specs.Edition.{edition1, editionOf, editionIn, countsAt, zerosAt, headerBytes, wordsAhead}
 use Rattle.block.specs.Kind.{kindOf}
 use Rattle.block.specs.Header.{headerOf, countsOf}
-use Rattle.block.specs.Lists.{widths, wordsIn, wordCount}
+use Rattle.block.specs.Extents.{widths, wordsIn, wordCount}
 use Rattle.block.specs.Runs.{allBelow}
 use Rattle.block.specs.Refusal.{blockRows, firstOf}
 

@@ -2,7 +2,7 @@
 pub mod Edition
 pub mod Kind
 pub mod Header
-pub mod Lists
+pub mod Extents
 pub mod Refusal
 pub mod Crease
 pub mod Texture

@@ -7,7 +7,7 @@ use lib.Dec.{eqb, ltb}
 use lib.ListN.{length, getD}
 use Rattle.block.specs.Edition.{edition1, isKnown, limitOf, headerBytes}
 use Rattle.block.specs.Kind.{isPrimitives}
-use Rattle.block.specs.Lists.{wordCount}
+use Rattle.block.specs.Extents.{wordCount}
 use Rattle.block.specs.Runs.{allBelow}
 use Rattle.block.specs.declared.header.Header.{Header}
 use Rattle.block.specs.declared.refusal.Refusal.{Refusal}

@@ -17,7 +17,7 @@ use Rattle.block.specs.declared.value.Found.{Found}
 use Rattle.block.specs.declared.value.Found.the-variants.{At, Missing}
 use Rattle.block.specs.declared.stream.Stream.{Stream}
 use Rattle.block.specs.declared.header.Header.{Header}
-use Rattle.block.specs.Lists.{placeOf}
+use Rattle.block.specs.Extents.{placeOf}
 use Rattle.block.specs.Value.{countOf, value2At, value3At, value4At}
 
 -- FORMAT 2.4: only sets have index lists

@@ -9,9 +9,9 @@ ghost use Rattle.block.specs.Refusal.{isByPoint, isOtherAttributes, bloc
 use crate::edition::edition_of;
 use crate::edition::is_known;
 use crate::edition::limit_of;
+use crate::extents::block_bytes;
 use crate::header::Header;
 use crate::kind::is_primitives;
-use crate::lists::block_bytes;
 
 pub enum Refusal {
     Stub,

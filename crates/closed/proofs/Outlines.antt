@@ -12,7 +12,7 @@ use Rattle.block.specs.declared.kind.Kind.the-variants.{FaceSet, LineSet, Grid,
 use Rattle.block.specs.declared.topology.Topology.{Topology}
 use Rattle.block.specs.Kind.{byKind, isLines}
 use Rattle.block.specs.Header.{headerOf}
-use Rattle.block.specs.Lists.{listBytes}
+use Rattle.block.specs.Extents.{listBytes}
 use Rattle.block.specs.Runs.{Run, runsFrom, runs, kept}
 use Rattle.block.proofs.EditionLaws.{count-narrow}
 use Rattle.block.proofs.RunLaws.{kept-long}

@@ -9,7 +9,7 @@ use lib.ListN.{replicate}
 use Rattle.bits.specs.Bits.{field, table, entries, bytesOf}
 use Rattle.block.specs.Edition.{edition1, editionOf}
 use Rattle.block.specs.Header.{countsOf, headerOf}
-use Rattle.block.specs.Lists.{widths, wordsIn, wordCount, listAt, listSize, placeOf}
+use Rattle.block.specs.Extents.{widths, wordsIn, wordCount, listAt, listSize, placeOf}
 use Rattle.block.specs.Refusal.{blockRows, firstOf}
 use Rattle.block.specs.Runs.{endsRun, runsFrom, allBelow, kept, corners, triangles, sumOver}
 use Rattle.lists.specs.Loops.{tab}

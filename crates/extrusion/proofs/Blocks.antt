@@ -12,9 +12,9 @@ use Rattle.block.specs.declared.header.Header.{Header}
 use Rattle.block.specs.Header.{headerOf}
 use Rattle.block.specs.Settings.{settingsOf}
 use Rattle.block.specs.Refusal.{Taken}
-use Rattle.block.specs.Lists.{extrusionWidths, listBytes}
+use Rattle.block.specs.Extents.{extrusionWidths, listBytes}
 use Rattle.block.proofs.EditionLaws.{count-narrow}
-use Rattle.block.proofs.ListLaws.{widths-of, size-by, list-length}
+use Rattle.block.proofs.ExtentLaws.{widths-of, size-by, list-length}
 use Rattle.lists.specs.Loops.{tab}
 use Rattle.lists.proofs.Tabs.{tab-same}
 use Rattle.lists.specs.Lists.{flat}

@@ -10,7 +10,7 @@ use lib.Ieee.{Float, binary32, sub, eq}
 use Rattle.math.specs.Order.{maxOf}
 use Rattle.block.specs.declared.header.Header.{Header}
 use Rattle.block.specs.declared.texture.Pair.{Pair}
-use Rattle.block.specs.Lists.{listBytes}
+use Rattle.block.specs.Extents.{listBytes}
 use Rattle.mesh.specs.declared.texture.Span.{Span}
 use Rattle.mesh.specs.declared.texture.Fit.{Fit}
 use Rattle.mesh.specs.Texture.{widened, spanOf, divisor}

@@ -13,7 +13,7 @@ use Rattle.math.specs.declared.vector.V3.{V3}
 use Rattle.math.specs.Vector.{zeroF, vlen}
 use Rattle.block.specs.declared.header.Header.{Header}
 use Rattle.block.specs.declared.texture.Pair.{Pair}
-use Rattle.block.specs.Lists.{listBytes}
+use Rattle.block.specs.Extents.{listBytes}
 use Rattle.mesh.specs.Frames.{step}
 use Rattle.mesh.specs.Arcs.{at2, counted, lengthTo, share, arcs, step2, step3, hypot, arcs2, arcs3}
 use Rattle.mesh.specs.Extrusion.{spineCount, sectionCount, threes, twos, extrusionOf}

@@ -16,7 +16,7 @@ use Rattle.block.specs.declared.settings.Settings.{Settings}
 use Rattle.block.specs.declared.texture.Pair.{Pair}
 use Rattle.block.specs.Settings.{settingsOf}
 use Rattle.block.specs.Texture.{uvWords}
-use Rattle.block.specs.Lists.{listBytes}
+use Rattle.block.specs.Extents.{listBytes}
 use Rattle.mesh.specs.declared.texture.Fit.{Fit}
 use Rattle.mesh.specs.Words.{no2}
 use Rattle.mesh.specs.Arcs.{at2, step2, step3, arcs2, arcs3}

@@ -6,7 +6,7 @@ use lib.ListN.{length, getD}
 use Rattle.block.specs.declared.kind.Kind.the-variants.{Extrusion}
 use Rattle.block.specs.declared.header.Header.{Header}
 use Rattle.block.specs.Header.{headerOf}
-use Rattle.block.specs.Lists.{wordCount}
+use Rattle.block.specs.Extents.{wordCount}
 use Rattle.mesh.specs.Extrusion.{spineCount, sectionCount}
 
 -- FORMAT 2.4: the counts of the scales and of the orientations

@@ -8,7 +8,7 @@ use Rattle.bits.specs.Bits.{field, bytesOf}
 use Rattle.block.specs.Edition.{edition1, editionOf}
 use Rattle.block.specs.declared.kind.Kind.the-variants.{Extrusion}
 use Rattle.block.specs.Header.{countsOf, headerOf}
-use Rattle.block.specs.Lists.{widths, wordsIn, wordCount, listSize, listAt, placeOf}
+use Rattle.block.specs.Extents.{widths, wordsIn, wordCount, listSize, listAt, placeOf}
 use Rattle.block.specs.Runs.{allBelow}
 use Rattle.block.specs.Refusal.{blockRows, firstOf}
 use Rattle.block.specs.Settings.{settingsOf}

@@ -8,10 +8,10 @@ use Rattle.block.specs.declared.kind.Kind.{Kind}
 use Rattle.block.specs.declared.kind.Kind.the-variants.{FaceSet}
 use Rattle.block.specs.declared.header.Header.{Header}
 use Rattle.block.specs.declared.settings.Settings.{Settings}
-use Rattle.block.specs.Lists.{setWidths, widths, listBytes}
+use Rattle.block.specs.Extents.{setWidths, widths, listBytes}
 use Rattle.block.specs.Runs.{Run, faces, corners, sumOver}
 use Rattle.block.proofs.Table.{count-low}
-use Rattle.block.proofs.ListLaws.{widths-of, size-by, list-length}
+use Rattle.block.proofs.ExtentLaws.{widths-of, size-by, list-length}
 use Rattle.mesh.specs.Mesh.{Slices}
 use Rattle.mesh.specs.Sizes.{Sizes, coordRuns, runSizes, faceSetSizes, sizesOf}
 use Rattle.mesh.specs.FaceSet.{pointCount}

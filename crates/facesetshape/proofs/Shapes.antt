@@ -12,7 +12,7 @@ use Rattle.block.specs.declared.header.Header.{Header}
 use Rattle.block.specs.declared.settings.Settings.{Settings}
 use Rattle.block.specs.Header.{headerOf}
 use Rattle.block.specs.Settings.{settingsOf}
-use Rattle.block.specs.Lists.{listBytes}
+use Rattle.block.specs.Extents.{listBytes}
 use Rattle.lists.proofs.Lists.{All-getD}
 use Rattle.mesh.specs.Mesh.{mesh}
 use Rattle.mesh.specs.FaceSet.{restOf, coordIn, facesOf, frameOf, faceSetMesh, pointCount}

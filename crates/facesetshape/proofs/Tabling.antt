@@ -9,7 +9,7 @@ use Rattle.bits.specs.Bits.{entries}
 use Rattle.bits.proofs.Entries.{entries-length}
 use Rattle.block.specs.declared.header.Header.{Header}
 use Rattle.block.specs.declared.settings.Settings.{Settings}
-use Rattle.block.specs.Lists.{listBytes}
+use Rattle.block.specs.Extents.{listBytes}
 use Rattle.lists.specs.Parts.{spliced}
 use Rattle.lists.proofs.Splices.{put-gives}
 use Rattle.mesh.specs.declared.texture.Fit.{Fit}

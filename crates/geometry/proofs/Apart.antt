@@ -5,7 +5,7 @@ use mathlib.Core.Bool.{Bool, true, false, not, cond}
 use mathlib.Core.List.{List, [], map, map-map}
 use Prim.Native.Nat.{ℕ, _*_}
 use lib.ListN.{getD, take, drop}
-use lib.Seq.{take-nil, drop-nil}
+use Rattle.lists.proofs.Cuts.{part-where}
 use Rattle.bits.specs.declared.Words4.{Words4}
 use Rattle.block.specs.declared.header.Header.{Header}
 use Rattle.block.specs.declared.kind.Kind.{Kind}
@@ -44,10 +44,6 @@ whereMade h s =
       colour = cond (makesColours h) (s .colour) [];
       texture = cond (makesTextures h) (s .texture) [];
     }
-
-part-where : (b : Bool) (n k : ℕ) (l : List ℕ) → take n (drop k (cond b l [])) ≡ cond b (take n (drop k l)) []
-part-where true n k l = refl
-part-where false n k l = ap (take n) (drop-nil k) ∙ take-nil n
 
 module _ (h : Header) where
   shown-made : (S : Slices) (v : ℕ) → shownAt (madeOf h S) v ≡ whereMade h (shownAt S v)

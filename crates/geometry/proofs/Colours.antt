@@ -14,7 +14,7 @@ use Rattle.block.specs.declared.kind.Kind.the-variants.{FaceSet, LineSet, Grid,
 use Rattle.block.specs.Edition.{edition1, editionOf}
 use Rattle.block.specs.Header.{countsOf, headerOf}
 use Rattle.block.specs.Kind.{byKind}
-use Rattle.block.specs.Lists.{widths, wordsIn, listAt, listSize, placeOf}
+use Rattle.block.specs.Extents.{widths, wordsIn, listAt, listSize, placeOf}
 use Rattle.block.specs.Runs.{Run, endsRun, runsFrom, runs, kept}
 use Rattle.block.specs.Stream.{itself, numberIn, numberAt}
 use Rattle.block.specs.Value.{valueAt}

@@ -16,7 +16,7 @@ use Rattle.polygon.specs.Ears.{outline as around, fanFrom, fan, cross2, pointIn
 use Rattle.polygon.specs.Face.{faceTris, triangles}
 use Rattle.block.specs.Edition.{edition1, editionOf}
 use Rattle.block.specs.Header.{countsOf, headerOf}
-use Rattle.block.specs.Lists.{widths, wordsIn, listAt, listSize, placeOf}
+use Rattle.block.specs.Extents.{widths, wordsIn, listAt, listSize, placeOf}
 use Rattle.block.specs.Settings.{settingsOf}
 use Rattle.block.specs.Crease.{creaseOf}
 use Rattle.block.specs.Texture.{uvWords}
@@ -34,7 +34,7 @@ use Rattle.mesh.specs.FaceSet.{restOf, coordIn, normalOf, colourOf, textureBy, 
 use Rattle.block.specs.declared.kind.Kind.the-variants.{Primitives}
 use Rattle.block.specs.declared.topology.Topology.the-variants.{Triangles, Fans, Strips, Quads}
 use Rattle.block.specs.Runs.{corners, sumOver, triangles as block-triangles}
-use Rattle.block.specs.Lists.{wordCount}
+use Rattle.block.specs.Extents.{wordCount}
 use Rattle.block.specs.Refusal.{blockRows, firstOf}
 use Rattle.primitives.specs.Primitives.{stretches, primitiveCount, placesOf, primitiveOf, primitiveRun, stretchRuns, faceList}
 use Rattle.mesh.specs.Primitives.{listedCoord, primitiveMesh}

@@ -22,7 +22,7 @@ use Rattle.sizes.specs.declared.kinds.Sizes.{Sizes}
 use Rattle.sizes.specs.Known.{Counted}
 use Rattle.sizes.proofs.Decided as seven
 use Rattle.sizes.proofs.Decided.{all-answered, accepted-of}
-use Rattle.lists.proofs.Tests.{or-none}
+use Rattle.lists.proofs.Tests.{or-none, cond-none}
 use Rattle.geometry.specs.declared.answer.Lengths.{Lengths}
 use Rattle.geometry.specs.Answer.{isShort, rows, refusal}
 use Rattle.geometry.specs.Converted.{Lending, lengthsOf}
@@ -103,10 +103,6 @@ short-none z l e =
       floats = ltb-false _ _ (h .1);
     }
 
-no-eighth : (b : Bool) → _≡_ {A = ℕ} (cond b 8 0) 0 → b ≡ false
-no-eighth true e = absurd (let z : 8 ≡ 0 = e in omega arith)
-no-eighth false e = refl
-
 -- FORMAT 3, 4: a call that none of the rows refuses
 pub asked-of : (bs : List ℕ) (l : Lending) → refusal bs (lengthsOf l) ≡ 0
     → Asked (headerOf bs .kind) bs (headerOf bs) (settingsOf bs) (l .slices) (length (l .words)) (length (l .floats))
@@ -117,7 +113,7 @@ asked-of bs l e = go (seven.rows bs (headerOf bs)) refl
         record {
           accepted = accepted-by bs 0 q refl;
           kind = refl;
-          enough = short-none (sizesOf bs (headerOf bs)) l (no-eighth _ (by-eighth bs (lengthsOf l) 0 q refl ∙ e));
+          enough = short-none (sizesOf bs (headerOf bs)) l (cond-none _ 7 (by-eighth bs (lengthsOf l) 0 q refl ∙ e));
         }
     go (suc n) q = let z : suc n ≡ 0 = first-seven bs (lengthsOf l) (suc n) q (λ (f : suc n ≡ 0). omega arith) ∙ e in absurd (omega arith)
 

@@ -8,7 +8,7 @@ use Rattle.bits.specs.Bits.{field, table, entries, bytesOf}
 use Rattle.block.specs.declared.kind.Kind.the-variants.{FaceSet, LineSet, Grid, Extrusion}
 use Rattle.block.specs.Edition.{edition1, editionOf}
 use Rattle.block.specs.Header.{countsOf, headerOf}
-use Rattle.block.specs.Lists.{widths, wordsIn, wordCount, listAt, listSize, placeOf}
+use Rattle.block.specs.Extents.{widths, wordsIn, wordCount, listAt, listSize, placeOf}
 use Rattle.block.specs.Runs.{allBelow, endsRun, runsFrom, kept, corners, triangles, sumOver}
 use Rattle.block.specs.Refusal.{blockRows, firstOf}
 use Rattle.block.proofs.TableRows.{gridHeader, gridRest, grid}

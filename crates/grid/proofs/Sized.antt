@@ -11,9 +11,9 @@ use Rattle.bits.specs.Bits.{entries}
 use Rattle.block.specs.declared.kind.Kind.the-variants.{Grid}
 use Rattle.block.specs.declared.header.Header.{Header}
 use Rattle.block.specs.Header.{headerOf}
-use Rattle.block.specs.Lists.{gridWidths, wordCount, listSize, listBytes}
+use Rattle.block.specs.Extents.{gridWidths, wordCount, listSize, listBytes}
 use Rattle.block.proofs.EditionLaws.{count-narrow}
-use Rattle.block.proofs.ListLaws.{widths-of, size-by, list-entries}
+use Rattle.block.proofs.ExtentLaws.{widths-of, size-by, list-entries}
 use Rattle.mesh.specs.Grid.{xDimension, zDimension}
 use Rattle.mesh.specs.Sizes.{heightCount, isNoGrid}
 use Rattle.tables.specs.declared.layout.Plan.{Plan}

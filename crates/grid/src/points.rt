@@ -3,7 +3,7 @@ ghost use mathlib.Core.Path.{_≡_};
 ghost use Prim.Native.Nat.{_+_, _*_, _≤_, _<_};
 ghost use lib.ListN.{length};
 ghost use Rattle.bits.specs.Bits.{entries};
-ghost use Rattle.block.specs.Lists.{listBytes};
+ghost use Rattle.block.specs.Extents.{listBytes};
 ghost use Rattle.mesh.specs.Words.{words3};
 ghost use Rattle.mesh.specs.Grid.{xDimension, zDimension, whole, stepWord, gridPoint, gridPoints};
 ghost use Rattle.lists.specs.Parts.{spliced};

@@ -11,7 +11,7 @@ use Rattle.block.specs.Kind.{byKind}
 use Rattle.block.specs.declared.kind.Kind.the-variants.{Grid}
 use Rattle.block.specs.declared.header.Header.{Header}
 use Rattle.block.specs.declared.settings.Settings.{Settings}
-use Rattle.block.specs.Lists.{listBytes}
+use Rattle.block.specs.Extents.{listBytes}
 use Rattle.lists.specs.Parts.{spliced}
 use Rattle.mesh.specs.Mesh.{Slices}
 use Rattle.mesh.specs.Grid.{xDimension, zDimension, gridPoints}

@@ -14,7 +14,7 @@ use Rattle.block.specs.declared.header.Header.{Header}
 use Rattle.block.specs.declared.settings.Settings.{Settings}
 use Rattle.block.specs.Header.{headerOf}
 use Rattle.block.specs.Settings.{settingsOf}
-use Rattle.block.specs.Lists.{listBytes}
+use Rattle.block.specs.Extents.{listBytes}
 use Rattle.lists.proofs.Lists.{getD-map-lt}
 use Rattle.lists.proofs.Tabs.{tab-at, length-tab}
 use Rattle.mesh.specs.Mesh.{mesh}

@@ -8,8 +8,8 @@ use lib.Seq.{take-all}
 use Rattle.bits.specs.Bits.{entries}
 use Rattle.block.specs.declared.header.Header.{Header}
 use Rattle.block.specs.declared.settings.Settings.{Settings}
-use Rattle.block.specs.Lists.{setWidths, widths, listSize, listBytes}
-use Rattle.block.proofs.ListLaws.{size-by, list-length, list-entries}
+use Rattle.block.specs.Extents.{setWidths, widths, listSize, listBytes}
+use Rattle.block.proofs.ExtentLaws.{size-by, list-length, list-entries}
 use Rattle.mesh.specs.FaceSet.{pointCount}
 use Rattle.lent.specs.Lent.{Accepted}
 

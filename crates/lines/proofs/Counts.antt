@@ -6,9 +6,9 @@ use native.Mathlib.Omega.{arith}
 use lib.ListN.{length, getD, drop, length-take}
 use Rattle.block.specs.declared.kind.Kind.the-variants.{LineSet}
 use Rattle.block.specs.Header.{headerOf}
-use Rattle.block.specs.Lists.{setWidths, listSize, placeOf}
+use Rattle.block.specs.Extents.{setWidths, listSize, placeOf}
 use Rattle.block.proofs.EditionLaws.{count-narrow}
-use Rattle.block.proofs.ListLaws.{widths-of, size-by, place-len}
+use Rattle.block.proofs.ExtentLaws.{widths-of, size-by, place-len}
 use Rattle.mesh.specs.FaceSet.{coordIn}
 
 pub coord-short : (bs : List ℕ) → headerOf bs .kind ≡ LineSet → length (coordIn bs) / 4 ≤ 2 ^ 32

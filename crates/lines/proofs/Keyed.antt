@@ -14,7 +14,7 @@ use Rattle.bits.specs.declared.Words4.{Words4}
 use Rattle.block.specs.declared.kind.Kind.{Kind}
 use Rattle.block.specs.declared.kind.Kind.the-variants.{LineSet}
 use Rattle.block.specs.Header.{headerOf}
-use Rattle.block.specs.Lists.{placeOf, listBytes}
+use Rattle.block.specs.Extents.{placeOf, listBytes}
 use Rattle.block.specs.Runs.{runs, sumOver}
 use Rattle.block.specs.Value.{value4At}
 use Rattle.block.specs.Stream as stream

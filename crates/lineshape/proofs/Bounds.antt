@@ -7,9 +7,9 @@ use lib.ListN.{length, take}
 use Rattle.bits.specs.Bits.{entries}
 use Rattle.block.specs.declared.kind.Kind.the-variants.{LineSet}
 use Rattle.block.specs.declared.header.Header.{Header}
-use Rattle.block.specs.Lists.{listBytes}
+use Rattle.block.specs.Extents.{listBytes}
 use Rattle.block.specs.Runs.{runs, sumOver}
-use Rattle.block.proofs.ListLaws.{widths-of}
+use Rattle.block.proofs.ExtentLaws.{widths-of}
 use Rattle.mesh.specs.Mesh.{Slices}
 use Rattle.mesh.specs.FaceSet.{coordIn, pointCount}
 use Rattle.mesh.specs.Sizes.{Sizes, named, linesAfter, lineSetSizes, sizesOf}

@@ -13,7 +13,7 @@ use Rattle.block.specs.declared.kind.Kind.the-variants.{LineSet}
 use Rattle.block.specs.declared.header.Header.{Header}
 use Rattle.block.specs.Header.{headerOf}
 use Rattle.block.specs.Settings.{settingsOf}
-use Rattle.block.specs.Lists.{listBytes}
+use Rattle.block.specs.Extents.{listBytes}
 use Rattle.mesh.specs.Mesh.{Slices, slicesOf, over}
 use Rattle.mesh.specs.FaceSet.{restOf, coordIn, pointCount}
 use Rattle.mesh.specs.Lines.{linesOf, lineSetMesh}

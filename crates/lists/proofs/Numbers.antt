@@ -77,8 +77,11 @@ count-step false n = omega arith
 
 -- ---- products
 
+pub product-below : (a b : ℕ) {m n : ℕ} → a < m → b < n → a * b < m * n
+product-below a b {m} {n} ha hb = lt-of-le-of-lt (mul-le-mul-left a (le-of-lt hb)) (mul-lt-mul-of-pos-right ha (omega arith))
+
 pub product-fits : (a b : ℕ) → a < 2 ^ 32 → b < 2 ^ 32 → a * b < 2 ^ 64
-product-fits a b ha hb = lt-of-le-of-lt (mul-le-mul-left a (le-of-lt hb)) (mul-lt-mul-of-pos-right ha (lit< tt))
+product-fits a b ha hb = product-below a b ha hb
 
 pub rows-room : (n m a b k len : ℕ) → n ≡ a → m ≡ b → k + 3 * (a * b) ≤ len → k + n * (3 * m) ≤ len
 rows-room n m a b k len en em h = rw (en, em, mul-left-comm a 3 b) h

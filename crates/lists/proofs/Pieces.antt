@@ -13,7 +13,7 @@ use Rattle.lists.proofs.Tabs.{length-tab, tab-at, tab-add, tab-snoc, ta
 use Rattle.lists.specs.Lists.{joinN, flat}
 use Rattle.lists.proofs.Lists.{All-by, flat-at, middle}
 use Rattle.lists.proofs.Totals.{flat-total, total-tab}
-use Rattle.lists.specs.Parts.{spliced, Kept}
+use Rattle.lists.specs.Parts.{spliced, Kept, Added}
 use Rattle.lists.proofs.Splices.{splice-start, splice-more, splice-whole, set-is, spliced-front, put-size, put-part}
 
 module _ {A : Type 0} where
@@ -244,3 +244,19 @@ module _ {A : Type 0} (v : A) {l : List A} {i : ℕ} {made : List A} (P : Single
   same-all h =
       singles-all P (let s = P .size in omega arith) ∙ splice-whole l (tab (λ j. v) (length l) 0) (length-tab (λ j. v) (length l) 0)
       ∙ tab-replicate v (length l) 0
+
+-- ---- what was added, and then more
+
+module _ {A : Type 0} (l : List A) {l′ l″ : List A} {a b d : ℕ} (x y : List A) where
+  pub added-both : a + length (x ++ y) ≤ length l → Added spliced x a l b l′ → Added spliced y b l′ d l″ → Added spliced (x ++ y) a l d l″
+  added-both room p q =
+      let e = length-append x y in
+      record {
+        next = q .next ∙ (omega (arith, p .next));
+        made = q .made ∙ ap (λ (m : List A). spliced m b y) (p .made) ∙ splice-more l a b x y (p .next) (omega arith);
+      }
+
+pub uneven-added : {A : Type 0} {F : ℕ → List A} {n : ℕ} {l : List A} {k i a : ℕ} {m : List A} → Uneven F n l k i a m → n ≤ i → Added spliced (flat (tab F n 0)) k l a m
+uneven-added {A} {F} {n} {l} {k} {i} {a} {m} P h =
+    let e : i ≡ n = (let s = P .so-far in omega arith) in
+    record { next = P .next ∙ ap (λ (j : ℕ). k + length (flat (tab F j 0))) e; made = uneven-all P h }

@@ -1,7 +1,8 @@
 -- Laws of tests.
 use mathlib.Core.Path.{_≡_, refl, sym}
 use mathlib.Core.Bool.{Bool, true, false, not, _&&_, _||_, true≢false, cond}
-use Prim.Native.Nat.{ℕ}
+use Prim.Native.Nat.{ℕ, suc}
+use native.Mathlib.Omega.{arith}
 use borrow.Author.Tests.{eqb-false, ne-eqb}
 use mathlib.Core.Logic.{_⊎_, inl, inr}
 use lib.Dec.{eqb}
@@ -16,6 +17,11 @@ pub never : (b : Bool) → (b ≡ true → ⊥) → b ≡ false
 never true f = absurd (f refl)
 never false f = refl
 
+-- a number that is not 0, given where a test holds
+pub cond-none : (b : Bool) (n : ℕ) → cond b (suc n) 0 ≡ 0 → b ≡ false
+cond-none true n e = absurd (let z : suc n ≡ 0 = e in omega arith)
+cond-none false n e = refl
+
 -- ---- and
 
 pub and-yes : (a b : Bool) → a ≡ true → b ≡ true → (a && b) ≡ true
@@ -29,6 +35,9 @@ pub and-right : (a b : Bool) → (a && b) ≡ true → b ≡ true
 and-right true b e = e
 and-right false true e = refl
 and-right false false e = e
+
+pub and-both : (a b : Bool) → (a && b) ≡ true → (a ≡ true) × (b ≡ true)
+and-both a b e = (and-left a b e, and-right a b e)
 
 pub and-no : (b : Bool) → (b && false) ≡ false
 and-no true = refl

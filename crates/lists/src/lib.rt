@@ -42,3 +42,14 @@ pub fn put_three(table: &mut [u32], a: usize, x: u32, y: u32, z: u32)
     table[a + 1] = y;
     table[a + 2] = z;
 }
+
+// Four words from place a on.
+pub fn put_four(table: &mut [u32], a: usize, w: u32, x: u32, y: u32, z: u32)
+    requires { ⌜ a + 4 ≤ length (now table) ⌝ }
+    ensures { λ _. ⌜ now (table .exit) ≡ spliced (now (table .entry)) a (w ∷ x ∷ y ∷ z ∷ []) ⌝ }
+{
+    table[a] = w;
+    table[a + 1] = x;
+    table[a + 2] = y;
+    table[a + 3] = z;
+}

@@ -13,7 +13,7 @@ use Rattle.math.specs.Vector.{vlen}
 use Rattle.math.specs.SquareRoot.{rootOf}
 use Rattle.block.specs.Edition.{edition1, editionOf}
 use Rattle.block.specs.Header.{countsOf, headerOf}
-use Rattle.block.specs.Lists.{widths, wordsIn, listAt, listSize, placeOf}
+use Rattle.block.specs.Extents.{widths, wordsIn, listAt, listSize, placeOf}
 use Rattle.block.specs.Runs.{endsRun, runsFrom, allBelow, kept}
 use Rattle.block.specs.Stream.{itself, chosen, numberIn, numberAt}
 use Rattle.block.specs.Value.{valueAt}

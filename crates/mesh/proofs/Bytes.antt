@@ -10,9 +10,9 @@ use Rattle.bits.proofs.Entries.{entries-length, entries-part}
 use Rattle.block.specs.declared.header.Header.{Header}
 use Rattle.block.specs.Edition.{editionIn, wordsAhead}
 use Rattle.block.specs.Header.{headerOf}
-use Rattle.block.specs.Lists.{widths, ahead, listAt, listSize, placeOf, listBytes}
+use Rattle.block.specs.Extents.{widths, ahead, listAt, listSize, placeOf, listBytes}
 use Rattle.block.proofs.Reading.{header-same, settings-same}
-use Rattle.block.proofs.ListLaws.{words-more}
+use Rattle.block.proofs.ExtentLaws.{words-more}
 use Rattle.mesh.specs.FaceSet.{restOf, coordIn, runsIn}
 use Rattle.mesh.specs.OneRun.{runIn, byteOf, OneRun}
 use Rattle.lists.proofs.Lists.{drop-take, back, middle}

@@ -18,7 +18,7 @@ use Rattle.polygon.specs.Ears.{fanFrom, fan, cross2, pointInTri, blocks, isEar,
 use Rattle.polygon.specs.Face.{faceTris, triangles}
 use Rattle.block.specs.Edition.{edition1, editionOf}
 use Rattle.block.specs.Header.{countsOf, headerOf}
-use Rattle.block.specs.Lists.{widths, wordsIn, listAt, listSize, placeOf}
+use Rattle.block.specs.Extents.{widths, wordsIn, listAt, listSize, placeOf}
 use Rattle.block.specs.Settings.{settingsOf}
 use Rattle.block.specs.Crease.{creaseOf}
 use Rattle.block.specs.Texture.{uvWords}

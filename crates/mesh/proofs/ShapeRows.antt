@@ -17,7 +17,7 @@ use Rattle.block.specs.declared.crease.CreaseRule.the-variants.{Own}
 use Rattle.block.specs.declared.header.Header.{Header}
 use Rattle.block.specs.Edition.{edition1, editionOf}
 use Rattle.block.specs.Header.{countsOf, headerOf}
-use Rattle.block.specs.Lists.{widths, wordsIn, listAt, listSize, placeOf}
+use Rattle.block.specs.Extents.{widths, wordsIn, listAt, listSize, placeOf}
 use Rattle.block.specs.Crease.{creaseOf}
 use Rattle.block.specs.Settings.{pairOr, finiteTransform, transformOf, settingsOf}
 use Rattle.block.specs.Runs.{endsRun, runsFrom, corners, sumOver}

@@ -12,7 +12,7 @@ use lib.ListN.{length}
 use Rattle.bits.specs.Bits.{entries}
 use Rattle.bits.specs.declared.Words4.{Words4}
 use Rattle.block.specs.Header.{headerOf}
-use Rattle.block.specs.Lists.{listBytes}
+use Rattle.block.specs.Extents.{listBytes}
 use Rattle.block.specs.Runs.{Run, runs, allBelow, kept}
 use Rattle.block.specs.Value.{words3}
 use Rattle.lists.specs.Loops.{tab, All}

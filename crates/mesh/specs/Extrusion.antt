@@ -15,7 +15,7 @@ use Rattle.block.specs.declared.header.Header.{Header}
 use Rattle.block.specs.declared.settings.Settings.{Settings}
 use Rattle.block.specs.declared.texture.Pair.{Pair}
 use Rattle.block.specs.Header.{headerOf}
-use Rattle.block.specs.Lists.{listBytes}
+use Rattle.block.specs.Extents.{listBytes}
 use Rattle.block.specs.Settings.{settingsOf}
 use Rattle.block.specs.Value.{valueWord, words2, words3}
 use Rattle.block.specs.Texture.{pairOf, uvWords}

@@ -11,7 +11,7 @@ use Rattle.bits.specs.declared.Words4.{Words4}
 use Rattle.block.specs.declared.header.Header.{Header}
 use Rattle.block.specs.declared.settings.Settings.{Settings}
 use Rattle.block.specs.Header.{headerOf}
-use Rattle.block.specs.Lists.{listBytes}
+use Rattle.block.specs.Extents.{listBytes}
 use Rattle.block.specs.Settings.{settingsOf}
 use Rattle.lists.specs.Loops.{tab}
 use Rattle.lists.specs.Lists.{flat}

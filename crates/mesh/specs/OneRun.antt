@@ -10,7 +10,7 @@ use lib.ListN.{length, getD, take, drop}
 use Rattle.bits.specs.declared.Words4.{Words4}
 use Rattle.math.specs.Vector.{zeroF}
 use Rattle.block.specs.Header.{headerOf}
-use Rattle.block.specs.Lists.{placeOf}
+use Rattle.block.specs.Extents.{placeOf}
 use Rattle.block.specs.Settings.{floatAt, finiteOr}
 use Rattle.block.specs.Runs.{Run, runOf, triangles, sumOver}
 use Rattle.lists.specs.Loops.{All}

@@ -11,7 +11,7 @@ use Rattle.block.specs.declared.refusal.Refusal.the-variants.{NoShape, Corners}
 use Rattle.block.specs.Edition.{limitOf}
 use Rattle.block.specs.Kind.{byKind}
 use Rattle.block.specs.Refusal.{Row, row}
-use Rattle.block.specs.Lists.{listBytes}
+use Rattle.block.specs.Extents.{listBytes}
 use Rattle.block.specs.Runs.{Run, runs, corners, triangles, sumOver}
 use Rattle.primitives.specs.Primitives.{faceList}
 use Rattle.mesh.specs.Grid.{xDimension, zDimension}

@@ -10,6 +10,7 @@ ghost use Rattle.lists.specs.Parts.{spliced};
 ghost use Rattle.block.specs.Value.{opaqueOf};
 ghost use Rattle.mesh.specs.Words.{words4, pointWords};
 ghost use Rattle.pointset.specs.PointSet.{coloursIn, colourAt};
+use lists::put_four;
 
 const ONE: u32 = 0x3f80_0000;
 
@@ -35,17 +36,6 @@ pub fn put_sources(sources: &mut [u32], n: usize)
         sources[k] = k as u32;
         k += 1;
     }
-}
-
-// Four words from place a on.
-fn put_four(table: &mut [u32], a: usize, w: u32, x: u32, y: u32, z: u32)
-    requires { ⌜ a + 4 ≤ length (now table) ⌝ }
-    ensures { λ _. ⌜ now (table .exit) ≡ spliced (now (table .entry)) a (w ∷ x ∷ y ∷ z ∷ []) ⌝ }
-{
-    table[a] = w;
-    table[a + 1] = x;
-    table[a + 2] = y;
-    table[a + 3] = z;
 }
 
 // Colour k, of three words, with alpha 1.

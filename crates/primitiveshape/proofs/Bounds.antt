@@ -8,9 +8,9 @@ use Rattle.block.specs.declared.kind.Kind.the-variants.{Primitives}
 use Rattle.block.specs.declared.header.Header.{Header}
 use Rattle.block.specs.declared.settings.Settings.{Settings}
 use Rattle.block.specs.declared.topology.Topology.{Topology}
-use Rattle.block.specs.Lists.{listBytes}
+use Rattle.block.specs.Extents.{listBytes}
 use Rattle.block.proofs.Table.{count-low}
-use Rattle.block.proofs.ListLaws.{widths-of}
+use Rattle.block.proofs.ExtentLaws.{widths-of}
 use Rattle.primitives.proofs.Closed.{listing-faces, listing-corners}
 use Rattle.mesh.specs.Mesh.{Slices}
 use Rattle.mesh.specs.Sizes.{listedRuns, primitiveSizes, sizesOf}

@@ -13,9 +13,9 @@ use Rattle.block.specs.declared.settings.Settings.{Settings}
 use Rattle.block.specs.declared.topology.Topology.{Topology}
 use Rattle.block.specs.Header.{headerOf}
 use Rattle.block.specs.Settings.{settingsOf}
-use Rattle.block.specs.Lists.{listBytes}
+use Rattle.block.specs.Extents.{listBytes}
 use Rattle.block.specs.Refusal.{isOtherAttributes}
-use Rattle.block.proofs.ListLaws.{list-none}
+use Rattle.block.proofs.ExtentLaws.{list-none}
 use Rattle.block.proofs.Table.{by-point}
 use Rattle.lists.proofs.Lists.{All-getD}
 use Rattle.mesh.specs.Mesh.{mesh}

@@ -4,7 +4,7 @@ use Prim.Native.Nat.{ℕ}
 use Rattle.bits.specs.Bits.{entries}
 use Rattle.block.specs.declared.header.Header.{Header}
 use Rattle.block.specs.declared.topology.Topology.{Topology}
-use Rattle.block.specs.Lists.{listBytes}
+use Rattle.block.specs.Extents.{listBytes}
 use Rattle.mesh.specs.FaceSet.{pointCount}
 use Rattle.tables.specs.Listed.{Listing}
 use Rattle.primitiveset.specs.Listings.{primitiveListings}

@@ -11,7 +11,7 @@ use lib.ListN.{getD}
 use Rattle.bits.specs.Bits.{entries}
 use Rattle.block.specs.declared.header.Header.{Header}
 use Rattle.block.specs.declared.runs.Totals.{Totals}
-use Rattle.block.specs.Lists.{listBytes}
+use Rattle.block.specs.Extents.{listBytes}
 use Rattle.block.specs.Runs.{Run, runs, faces, sumOver, totals}
 use Rattle.block.specs.declared.topology.Topology.{Topology}
 use Rattle.block.specs.declared.kind.Kind.{Kind}

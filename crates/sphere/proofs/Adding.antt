@@ -1,43 +1,25 @@
 -- The numbers of a sphere, and its triangles one after the other.
-use mathlib.Core.Path.{_≡_, refl, sym, ap, _∙_, subst}
+use mathlib.Core.Path.{_≡_, refl, sym, ap, subst}
 use mathlib.Core.Bool.{Bool, true, false, not, cond}
-use mathlib.Core.List.{List, [], _∷_, _++_}
+use mathlib.Core.List.{List, [], _∷_}
 use Prim.Native.Nat.{ℕ, _+_, _*_, _≤_, _<_}
 use native.Mathlib.Nat.{mul-le-mul, zero-add}
 use native.Mathlib.Omega.{arith}
 use lib.Dec.{eqb}
 use lib.ListN.{length, length-append}
-use Rattle.lists.specs.Lists.{flat}
-use Rattle.lists.specs.Loops.{tab}
 use Rattle.lists.specs.Parts.{Added, spliced}
 use Rattle.lists.proofs.Numbers.{piece-room}
-use Rattle.lists.proofs.Pieces.{Uneven, uneven-all}
+use Rattle.lists.proofs.Pieces.{added-both}
 use Rattle.parts.specs.declared.vert.GeomCtx.{GeomCtx}
 use Rattle.parts.specs.Pushed.{Streams, RoomFor}
 use Rattle.parts.proofs.Pushing.{room-less}
-use Rattle.lists.proofs.Splices.{splice-more, splice-start}
+use Rattle.lists.proofs.Splices.{splice-start}
 use Rattle.sphere.specs.Sphere.{sphereQuad}
 
 -- ---- numbers
 
 pub row-low : (j n b : ℕ) → j ≤ 1024 → n + b ≤ 1026 → j * (n + b) ≤ 1050624
 row-low j n b h g = mul-le-mul h g
-
--- ---- what was added, and then more
-
-module _ {A : Type 0} (l : List A) {l′ l″ : List A} {a b d : ℕ} (x y : List A) where
-  pub added-both : a + length (x ++ y) ≤ length l → Added spliced x a l b l′ → Added spliced y b l′ d l″ → Added spliced (x ++ y) a l d l″
-  added-both room p q =
-      let e = length-append x y in
-      record {
-        next = q .next ∙ (omega (arith, p .next));
-        made = q .made ∙ ap (λ (m : List A). spliced m b y) (p .made) ∙ splice-more l a b x y (p .next) (omega arith);
-      }
-
-pub uneven-added : {A : Type 0} {F : ℕ → List A} {n : ℕ} {l : List A} {k i a : ℕ} {m : List A} → Uneven F n l k i a m → n ≤ i → Added spliced (flat (tab F n 0)) k l a m
-uneven-added {A} {F} {n} {l} {k} {i} {a} {m} P h =
-    let e : i ≡ n = (let s = P .so-far in omega arith) in
-    record { next = P .next ∙ ap (λ (j : ℕ). k + length (flat (tab F j 0))) e; made = uneven-all P h }
 
 -- ---- a triangle where it is wanted
 

@@ -3,7 +3,7 @@ use lib.ListN.{length}
 use Rattle.lists.proofs.Pieces.{Pieces, pieces-none, pieces-more, pieces-all}
 use Rattle.mesh.specs.Grid.{xDimension, zDimension, gridPoint, gridPoints}
 use Rattle.mesh.specs.Words.{words3}
-use Rattle.block.specs.Lists.{listBytes}
+use Rattle.block.specs.Extents.{listBytes}
 use Rattle.bits.specs.Bits.{entries}
 use mathlib.Core.Path.{_≡_, refl, ap, _∙_}
 use Prim.Native.Nat.{ℕ, _*_, _-_, _<_}

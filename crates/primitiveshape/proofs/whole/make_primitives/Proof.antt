@@ -1,6 +1,6 @@
 use mathlib.Core.Path.{refl, _∙_}
 use native.Mathlib.Omega.{arith}
-use Rattle.block.proofs.ListLaws.{widths-of}
+use Rattle.block.proofs.ExtentLaws.{widths-of}
 use Rattle.lent.proofs.Points.{points-in, points-all}
 use Rattle.shaping.proofs.Tabling.{faces-held, points-held}
 use Rattle.shaping.proofs.Theorem.{ready, shaped}

@@ -1,9 +1,8 @@
 use native.Mathlib.Omega.{arith}
 use mathlib.Core.Path.{refl}
 use Prim.Native.Nat.{_-_}
-use Rattle.lists.proofs.Pieces.{Uneven, uneven-none, uneven-more, uneven-room}
+use Rattle.lists.proofs.Pieces.{Uneven, uneven-none, uneven-more, uneven-room, uneven-added}
 use Rattle.sphere.specs.Sphere.{sphereQuad, sphereBand}
-use Rattle.sphere.proofs.Adding.{uneven-added}
 use borrow.Author.Needs.{needs}
 use Rattle.sphere.proofs.bands.put_band.Statement.{statement}
 use Rattle.sphere.proofs.bands.put_band.Tie as tie

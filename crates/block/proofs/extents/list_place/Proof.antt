@@ -1,7 +1,7 @@
-use Rattle.block.proofs.ListLaws.{place-is, place-past}
+use Rattle.block.proofs.ExtentLaws.{place-is, place-past}
 use borrow.Author.Needs.{needs}
-use Rattle.block.proofs.lists.list_place.Statement.{statement}
-use Rattle.block.proofs.lists.list_place.Tie as tie
+use Rattle.block.proofs.extents.list_place.Statement.{statement}
+use Rattle.block.proofs.extents.list_place.Tie as tie
 
 list-widths-requires : tie.Need-list-widths-requires
 list-widths-requires c κs = search needs

@@ -1,9 +1,9 @@
 use lib.ListN.{length-set}
 use native.Mathlib.Omega.{arith}
-use Rattle.lists.proofs.Splices.{put-four}
 use borrow.Author.Needs.{needs}
-use Rattle.pointset.proofs.copies.put_four.Statement.{statement}
-use Rattle.pointset.proofs.copies.put_four.Tie as tie
+use Rattle.lists.proofs.Splices.{put-four}
+use Rattle.lists.proofs.put_four.Statement.{statement}
+use Rattle.lists.proofs.put_four.Tie as tie
 
 mul-table : tie.Need-mul-table
 mul-table c = search needs

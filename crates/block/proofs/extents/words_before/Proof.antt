@@ -3,11 +3,11 @@ use mathlib.Core.Path.{_≡_}
 use native.Mathlib.Omega.{arith}
 use native.Mathlib.Numerals.{add-one}
 use lib.ListN.{take}
-use Rattle.block.specs.Lists.{wordsIn}
-use Rattle.block.proofs.ListLaws.{words-more}
+use Rattle.block.specs.Extents.{wordsIn}
+use Rattle.block.proofs.ExtentLaws.{words-more}
 use borrow.Author.Needs.{needs}
-use Rattle.block.proofs.lists.words_before.Statement.{statement}
-use Rattle.block.proofs.lists.words_before.Tie as tie
+use Rattle.block.proofs.extents.words_before.Statement.{statement}
+use Rattle.block.proofs.extents.words_before.Tie as tie
 
 abbrev Inv-loop : tie.InvT-loop
 Inv-loop k w n t₀ j₀ t j = (j ≤ k) × (t ≤ j * 2 ^ 40) × (t ≡ wordsIn (take j w) n)

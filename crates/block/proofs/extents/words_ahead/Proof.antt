@@ -1,8 +1,8 @@
 use native.Mathlib.Omega.{arith}
 use Rattle.block.specs.Edition.{wordsAhead}
 use borrow.Author.Needs.{needs}
-use Rattle.block.proofs.lists.words_ahead.Statement.{statement}
-use Rattle.block.proofs.lists.words_ahead.Tie as tie
+use Rattle.block.proofs.extents.words_ahead.Statement.{statement}
+use Rattle.block.proofs.extents.words_ahead.Tie as tie
 
 edition-of-requires : tie.Need-edition-of-requires
 edition-of-requires c κs = search needs

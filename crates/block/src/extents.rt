@@ -2,7 +2,7 @@
 ghost use mathlib.Core.Path.{_≡_};
 ghost use Prim.Native.Nat.{_*_, _^_, _≤_, _<_};
 ghost use lib.ListN.{take};
-ghost use Rattle.block.specs.Lists.{colorWidth, widthsBy, ahead, wordsIn, wordCount, placeOf, listBytes};
+ghost use Rattle.block.specs.Extents.{colorWidth, widthsBy, ahead, wordsIn, wordCount, placeOf, listBytes};
 use crate::edition::edition_of;
 use crate::header::Header;
 use crate::kind::Kind;

@@ -1,9 +1,9 @@
 use borrow.Author.Needs.{needs}
-use Rattle.block.proofs.lists.list_widths.Statement.{statement}
-use Rattle.block.proofs.lists.list_widths.Tie as tie
-use Rattle.block.proofs.lists.list_widths.Reads as reads
-use Rattle.block.proofs.lists.list_widths.Lts as lts
-use Rattle.block.proofs.lists.color_width.Reads as color-width-reads
+use Rattle.block.proofs.extents.list_widths.Statement.{statement}
+use Rattle.block.proofs.extents.list_widths.Tie as tie
+use Rattle.block.proofs.extents.list_widths.Reads as reads
+use Rattle.block.proofs.extents.list_widths.Lts as lts
+use Rattle.block.proofs.extents.color_width.Reads as color-width-reads
 
 color-width-requires : tie.Need-color-width-requires
 color-width-requires c κs = search needs

@@ -3,14 +3,13 @@ use Prim.Native.Nat.{ℕ, zero, suc, _+_, _*_, _^_, _≤_, _<_}
 use mathlib.Core.Path.{_≡_, refl, ap, sym, _∙_}
 use mathlib.Core.Bool.{Bool, true, false, cond}
 use mathlib.Core.List.{List, [], _∷_}
-use native.Mathlib.Nat.{add-zero, add-suc, mul-zero, lt-of-le-of-lt, mul-le-mul-left, le-of-lt, mul-lt-mul-of-pos-right}
+use native.Mathlib.Nat.{add-zero, add-suc, mul-zero}
 use native.Mathlib.Omega.{arith}
-use lib.Dec.{lit<}
 use lib.ListN.{length, getD, take, length-take, length-drop, List·getD-eq-default}
 use lib.Seq.{take-all}
 use Rattle.bits.specs.Bits.{entries}
 use Rattle.bits.proofs.Entries.{entries-length}
-use Rattle.block.specs.Lists.{widthsBy, widths, ahead, wordsIn, wordCount, listAt, listSize, placeOf, listBytes}
+use Rattle.block.specs.Extents.{widthsBy, widths, ahead, wordsIn, wordCount, listAt, listSize, placeOf, listBytes}
 use Rattle.block.specs.declared.kind.Kind.{Kind}
 use Rattle.block.specs.declared.kind.Kind.the-variants.{FaceSet, LineSet, Grid, Extrusion, Primitives}
 use Rattle.block.specs.declared.header.Header.{Header}
@@ -56,9 +55,6 @@ words-within : (ws ns : List ℕ) (k : ℕ) → wordsIn (take k ws) ns + getD ws
 words-within ws ns k =
     let e : take (suc k + length ws) ws ≡ ws = take-all (suc k + length ws) ws (omega arith) in
     omega (arith, words-more ws ns k, rw e at (words-rise ws ns (suc k) (length ws)))
-
-pub below-product : (a b : ℕ) → a < 2 ^ 8 → b < 2 ^ 32 → a * b < 2 ^ 40
-below-product a b ha hb = lt-of-le-of-lt (mul-le-mul-left a (le-of-lt hb)) (mul-lt-mul-of-pos-right ha (lit< tt))
 
 -- ---- where a list lies, from the widths w and the words t before it
 module _ (h : Header) (w : List ℕ) (p : w ≡ widthsBy (h .kind) (h .alpha)) (t : ℕ) where

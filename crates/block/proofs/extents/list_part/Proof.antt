@@ -1,6 +1,6 @@
 use borrow.Author.Needs.{needs}
-use Rattle.block.proofs.lists.list_part.Statement.{statement}
-use Rattle.block.proofs.lists.list_part.Tie as tie
+use Rattle.block.proofs.extents.list_part.Statement.{statement}
+use Rattle.block.proofs.extents.list_part.Tie as tie
 
 list-place-requires : tie.Need-list-place-requires
 list-place-requires c κs = search needs

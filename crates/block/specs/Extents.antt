@@ -7,7 +7,7 @@ use Rattle.block.specs.Edition.{editionOf, wordsAhead}
 use Rattle.block.specs.Kind.{byKind}
 use Rattle.block.specs.declared.kind.Kind.{Kind}
 use Rattle.block.specs.declared.header.Header.{Header}
-use Rattle.block.specs.declared.lists.Place.{Place}
+use Rattle.block.specs.declared.extents.Place.{Place}
 
 -- FORMAT 2.4: the words of a colour
 abbrev pub colorWidth : Bool → ℕ

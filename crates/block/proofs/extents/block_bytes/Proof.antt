@@ -1,7 +1,7 @@
-use Rattle.block.proofs.ListLaws.{count-is}
+use Rattle.block.proofs.ExtentLaws.{count-is}
 use borrow.Author.Needs.{needs}
-use Rattle.block.proofs.lists.block_bytes.Statement.{statement}
-use Rattle.block.proofs.lists.block_bytes.Tie as tie
+use Rattle.block.proofs.extents.block_bytes.Statement.{statement}
+use Rattle.block.proofs.extents.block_bytes.Tie as tie
 
 list-widths-requires : tie.Need-list-widths-requires
 list-widths-requires c κs = search needs
