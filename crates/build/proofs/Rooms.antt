@@ -34,8 +34,8 @@ module _ {w : List ℕ} {t : Plan} (S : Sound w t) (ccw convex : Bool) (long : (
   all-sized = let r = sum-from (t .faces) 0 (omega arith) in omega (arith, r, S .first)
 
 -- a kept face has three corners or more
-module _ (spots count faces : ℕ) (p : spots ≤ most) (c : count ≤ most) (f : faces * 3 ≤ count) where
-  pub plan-laid : (len : ℕ) → 8 * (count + spots) + 8 ≤ len → Laid (tablesOf (planOf spots count faces)) len
+module _ (spots count faces ring : ℕ) (p : spots ≤ most) (c : count ≤ most) (f : faces * 3 ≤ count) where
+  pub plan-laid : (len : ℕ) → 8 * (count + spots) + 8 ≤ len → Laid (tablesOf (planOf spots count faces ring)) len
   unfolding planOf tablesOf tablesAt
   plan-laid len l =
       record {
@@ -52,6 +52,6 @@ module _ (spots count faces : ℕ) (p : spots ≤ most) (c : count ≤ most) (f 
         nexts = omega arith;
       }
 
-  pub plan-low : planOf spots count faces .owners ≤ 2 ^ 32
+  pub plan-low : planOf spots count faces ring .owners ≤ 2 ^ 32
   unfolding planOf
   plan-low = omega arith

@@ -12,7 +12,7 @@ use Rattle.block.specs.declared.crease.CreaseRule.the-variants.{Own}
 use Rattle.lists.specs.Loops.{tab}
 use Rattle.lists.specs.Lists.{joinN}
 use Rattle.mesh.specs.Words.{no4}
-use Rattle.mesh.specs.Soup.{Face, dense, Frame}
+use Rattle.mesh.specs.Soup.{gathered, Face, dense, Frame}
 use Rattle.mesh.specs.Normals.{cornerNormal}
 use Rattle.mesh.specs.Vertices.{keyOf, keysOf}
 use Rattle.mesh.specs.Mesh.{Slices}
@@ -34,7 +34,7 @@ points = 0 ∷ 0 ∷ 0 ∷ 0x3f80_0000 ∷ 0 ∷ 0 ∷ 0 ∷ 0x3f80_0000 ∷ 0 �
 
 -- three points, three corners, one face
 abbrev plan : Plan
-plan = planOf 3 3 1
+plan = planOf 3 3 1 0
 
 abbrev words : List ℕ
 words = points ++ (0 ∷ 1 ∷ 2 ∷ 0 ∷ 3 ∷ replicate 42 0)
@@ -76,11 +76,11 @@ rising zero h = omega arith
 rising (suc g) h = let z : ⊥ = omega arith in absurd z
 
 told : Told lent shared plan words frame faces
-unfolding planOf tablesOf tablesAt pointIn gatherIn startIn pointsIn seg cornerIn faceIn soupIn tab dense joinN keysOf keyOf cornerNormal keyIn cornerKey pointAt wordsAt normalAt generatedAt textureAt ofBits toBits
+unfolding planOf tablesOf tablesAt pointIn gathered gatherIn startIn pointsIn seg cornerIn faceIn soupIn tab dense joinN keysOf keyOf cornerNormal keyIn cornerKey pointAt wordsAt normalAt generatedAt textureAt ofBits toBits
 told = record {
   holds = record {
     sound = record {
-      room = plan-fits 3 3 1 56 (omega arith) (omega arith) (omega arith) (omega arith);
+      room = plan-fits 3 3 1 0 56 (omega arith) (omega arith) (omega arith) (omega arith);
       points = below;
       gathers = below;
       first = refl;
@@ -100,8 +100,8 @@ pub met : Ready lent shared plan words slices
 unfolding planOf
 met = record {
   soup = record { frame = frame; faces = faces; told = told };
-  laid = plan-laid 3 3 1 (omega arith) (omega arith) (omega arith) 56 (omega arith);
-  low = plan-low 3 3 1 (omega arith) (omega arith) (omega arith);
+  laid = plan-laid 3 3 1 0 (omega arith) (omega arith) (omega arith) 56 (omega arith);
+  low = plan-low 3 3 1 0 (omega arith) (omega arith) (omega arith);
   scratch = omega arith;
   long = rising;
   normal = refl;

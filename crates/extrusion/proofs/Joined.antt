@@ -158,12 +158,11 @@ module _ {bs : List ℕ} {h : Header} (G : Given bs h) where
       ∙ (λ t. facesWith (extrusionCorner E) (extrusionListings (n t) (m t) (c t) (d t .«begin_cap») (d t .«end_cap»)))
 
   -- FORMAT 4: the tables' plan, from the sizes
-  pub planned : {len : ℕ} {t : Plan} → Room len t → t .gathers ≡ t .corners → t .spots ≡ extrusionSizes bs h .points → t .count ≡ extrusionSizes bs h .corners
+  pub planned : {len : ℕ} {t : Plan} → Room len t → t .spots ≡ extrusionSizes bs h .points → t .count ≡ extrusionSizes bs h .corners
       → t .faces ≡ sideCount h + capCount h (capLength (sectionOf bs h)) → Planned h (capLength (sectionOf bs h)) len t
   unfolding extrusionSizes
-  planned R g s c f = record {
+  planned R s c f = record {
     room = R;
-    gathers = g;
     spine = G .spine;
     section = G .section;
     fewer = rw (← by-section bs h (G .head)) (omega (arith, cap-fits (extrusionOf bs), section-long G));

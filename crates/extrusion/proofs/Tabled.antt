@@ -100,11 +100,10 @@ module _ (n m cap : ℕ) (b e : Bool) (hn : 2 ≤ n) (hm : 2 ≤ m) (hc : cap �
       ∙ ap (λ (k : ℕ). getD (flat (facePoints n m cap b e)) (k + i) 0) (start-sum j (omega arith)) ∙ flat-place (facePoints n m cap b e) j i 0 j-lt i-lt)
       ∙ sym (use-at n m cap b e j i j-lt l)
 
-  listed : t .gathers ≡ t .corners → t .spots ≡ n * m → Listed w t (extrusionListings n m cap b e)
+  listed : t .spots ≡ n * m → Listed w t (extrusionListings n m cap b e)
   unfolding startIn pointIn placeIn numberIn
-  listed g s = record {
+  listed s = record {
     room = R;
-    gathers = g;
     faces = listings-length n m cap b e ∙ sym faces;
     first = start-is 0 (omega arith) ∙ sym (start-none ((n - 1) * (m - 1)) cap);
     starts = starts-rise;
@@ -213,5 +212,5 @@ module _ {h : Header} {cap len : ℕ} {t : Plan} (P : Planned h cap len t) (n m 
       let R : Room (length l) t = rw el at (P .room) in
       let q = faces-written n m cap (h .«begin_cap») (h .«end_cap») t l w x y z R count-planned ew ex ey ez in
       let L : Listed z t (extrusionListings n m cap (h .«begin_cap») (h .«end_cap»))
-      = listed n m cap (h .«begin_cap») (h .«end_cap») spine-planned section-planned cap-planned t z (rw (q .0 .len) R) (q .1) count-planned faces-planned (P .gathers) spots-planned in
+      = listed n m cap (h .«begin_cap») (h .«end_cap») spine-planned section-planned cap-planned t z (rw (q .0 .len) R) (q .1) count-planned faces-planned spots-planned in
       (q .0, subst (λ (k : ℕ). Listed z t (extrusionListings k (sectionCount h) cap (h .«begin_cap») (h .«end_cap»))) en (subst (λ (k : ℕ). Listed z t (extrusionListings n k cap (h .«begin_cap») (h .«end_cap»))) em L))

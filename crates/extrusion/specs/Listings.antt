@@ -53,7 +53,6 @@ startAt s cap (suc j) = startAt s cap j + sizeAt s cap j
 -- FORMAT 4, 8.4: the tables are planned for the extrusion of this header, whose caps have `cap` corners
 pub record Planned (h : Header) (cap : ℕ) (len : ℕ) (t : Plan) : Type 0 where
   pub room : Room len t
-  pub gathers : t .gathers ≡ t .corners
   pub spine : 2 ≤ spineCount h
   pub section : 2 ≤ sectionCount h
   pub fewer : cap ≤ sectionCount h

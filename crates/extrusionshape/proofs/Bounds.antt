@@ -32,9 +32,9 @@ module _ (h : Header) (cap : ℕ) {n m c : ℕ} (en : n ≡ spineCount h) (em : 
       → (2 ≤ n) × (2 ≤ m) × (n * m ≤ most) × (4 * ((n - 1) * (m - 1)) + c * cap ≤ most) × (((n - 1) * (m - 1) + c) * 3 ≤ 4 * ((n - 1) * (m - 1)) + c * cap)
   counts-low S = rw (en, em, ec) (S .spine, S .section, S .points, S .corners, faces-third h cap)
 
-  pub plan-by : planOf (n * m) (4 * ((n - 1) * (m - 1)) + c * cap) ((n - 1) * (m - 1) + c) ≡ extrusionPlan h cap
+  pub plan-by : planOf (n * m) (4 * ((n - 1) * (m - 1)) + c * cap) ((n - 1) * (m - 1) + c) 0 ≡ extrusionPlan h cap
   unfolding extrusionPlan
-  plan-by = λ i. planOf (en i * em i) (4 * ((en i - 1) * (em i - 1)) + ec i * cap) ((en i - 1) * (em i - 1) + ec i)
+  plan-by = λ i. planOf (en i * em i) (4 * ((en i - 1) * (em i - 1)) + ec i * cap) ((en i - 1) * (em i - 1) + ec i) 0
 
 -- each face of n corners makes 3 (n - 2) indices
 indices-fit : (h : Header) (cap : ℕ) → 3 * (4 * sideCount h + capCount h cap * cap - 2 * (sideCount h + capCount h cap)) ≤ 6 * sideCount h + capCount h cap * (3 * (cap - 2))
@@ -61,17 +61,17 @@ module _ {bs : List ℕ} {h : Header} {s : Settings} {o : Slices} {w f : ℕ} (A
     sized = let l = low-by A sizes-are in subst (Sized h) (sym e) (record { spine = given .spine; section = given .section; points = l .0; corners = l .1 })
 
     module _ {t : Plan} (p : t ≡ extrusionPlan h cap) where
-      pub counted : Counted (extrusionSizes bs h) (sideCount h + capCount h (capLength (sectionOf bs h))) t
+      pub counted : Counted (extrusionSizes bs h) (sideCount h + capCount h (capLength (sectionOf bs h))) 0 t
       unfolding extrusionPlan extrusionSizes
       counted =
           let k : ℕ = capLength (sectionOf bs h) in
           record { plan = p ∙ ap (extrusionPlan h) e; third = faces-third h k; indices = indices-fit h k }
 
-      pub roomy : Ample (extrusionSizes bs h) (sideCount h + capCount h (capLength (sectionOf bs h))) t w f
+      pub roomy : Ample (extrusionSizes bs h) (sideCount h + capCount h (capLength (sectionOf bs h))) 0 t w f
       roomy = ample A sizes-are counted
 
       pub planned-at : Planned h cap w t
-      planned-at = let G = roomy in subst (λ (c : ℕ). Planned h c w t) (sym e) (planned given (G .room) (G .gathers) (G .spots) (G .count) (G .faces))
+      planned-at = let G = roomy in subst (λ (c : ℕ). Planned h c w t) (sym e) (planned given (G .room) (G .spots) (G .count) (G .faces))
 
       -- the normals, and behind them the parameters, or the rows of the faces
       pub arcs-room : 3 * t .count + (sectionCount h + spineCount h) ≤ f

@@ -17,5 +17,5 @@ pub fn plan_extrusion(h: Header, cap: usize) -> Plan
     let m = section_count(h);
     let sides = (n - 1) * (m - 1);
     let caps = cap_count(h, cap);
-    plan_of(n * m, 4 * sides + caps * cap, sides + caps)
+    plan_of(n * m, 4 * sides + caps * cap, sides + caps, 0)
 }

@@ -184,7 +184,7 @@ module _ {w₀ w : List ℕ} {t : Plan} (K : Kept (t .places) w₀ w) (S : Sound
     one-floats f = face-kept (λ (a n : ℕ). cornersFloats w t ccw convex a n f) (λ (a n : ℕ). cornersFloats w₀ t ccw convex a n f) (floats-kept f)
 
 -- FORMAT 4: the words and floats that are lent are enough
-pub plan-ready : (spots count faces floats : ℕ) (w : List ℕ) → Sound w (planOf spots count faces) → faces * 3 ≤ count
-    → 8 * (count + spots) + 8 ≤ length w → 8 * (count + spots) + 8 ≤ floats → Ready w (planOf spots count faces) floats
+pub plan-ready : (spots count faces ring floats : ℕ) (w : List ℕ) → Sound w (planOf spots count faces ring) → faces * 3 ≤ count
+    → 8 * (count + spots) + 8 ≤ length w → 8 * (count + spots) + 8 ≤ floats → Ready w (planOf spots count faces ring) floats
 unfolding planOf
-plan-ready spots count faces floats w S f l m = record { sound = S; scratch = omega arith; plane = omega arith }
+plan-ready spots count faces ring floats w S f l m = record { sound = S; scratch = omega arith; plane = omega arith }

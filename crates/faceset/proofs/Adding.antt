@@ -105,13 +105,12 @@ module _ (w : List ℕ) {t : Plan} (R : Room (length w) t) where
     places = λ j i h b. absurd (not-suc-le-zero h);
   }
 
-pub listed-all : {w : List ℕ} {t : Plan} {ls : List Listing} {g c : ℕ} → Room (length w) t → t .gathers ≡ t .corners → length ls ≡ t .faces → g ≡ t .faces → c ≡ t .count → ListedTo w t ls g c
+pub listed-all : {w : List ℕ} {t : Plan} {ls : List Listing} {g c : ℕ} → Room (length w) t → length ls ≡ t .faces → g ≡ t .faces → c ≡ t .count → ListedTo w t ls g c
     → Listed w t ls
-listed-all {w} {t} {ls} R a n eg ec L =
+listed-all {w} {t} {ls} R n eg ec L =
     let M : ListedTo w t ls (t .faces) (t .count) = rw (eg, ec) at L in
     record {
       room = R;
-      gathers = a;
       faces = n;
       first = M .first;
       starts = M .starts;

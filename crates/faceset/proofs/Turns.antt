@@ -126,7 +126,7 @@ module _ {points : ℕ} {bs : List ℕ} (w : List ℕ) {t : Plan} (L : Planned p
   unfolding listingsOf
   pass-end {w′} {p} B U h =
       record {
-        listed = listed-all (rw (B .len) (L .room)) (L .gathers) (length-listings points 0 (runs (entries bs)) ∙ sym (L .faces))
+        listed = listed-all (rw (B .len) (L .room)) (length-listings points 0 (runs (entries bs)) ∙ sym (L .faces))
             (sum-ended (faces points) bs (p .start) (p .faces) (t .faces) h (U .faces))
             (sum-ended (corners points) bs (p .start) (p .corner .0) (t .count) h (U .corners)) (U .made);
         beside = B;

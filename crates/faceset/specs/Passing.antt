@@ -16,7 +16,6 @@ use Rattle.faceset.specs.Adding.{ListedTo}
 -- the plan is that of the kept faces of coordIndex, whose bytes are bs, in len words (FORMAT 3: no list has more than 8,192 entries)
 pub record Planned (points : ℕ) (bs : List ℕ) (len : ℕ) (t : Plan) : Type 0 where
   pub room : Room len t
-  pub gathers : t .gathers ≡ t .corners
   pub spots : t .spots ≡ points
   pub faces : t .faces ≡ sumOver (faces points) (runs (entries bs))
   pub count : t .count ≡ sumOver (corners points) (runs (entries bs))

@@ -44,12 +44,12 @@ module _ {k : Kind} {bs : List ℕ} {h : Header} {s : Settings} {o : Slices} {w 
         let l = low-by A (S .sizes) in
         (omega (arith, known .0, l .0), omega (arith, known .1, l .1), omega (arith, known .2, faces-third (pointCount h) rs, l .1))
 
-    pub plan-by : {t : Plan} → t ≡ planOf (z .points) (z .corners) (z .faces) → t ≡ runPlan (pointCount h) rs
+    pub plan-by : {t : Plan} → t ≡ planOf (z .points) (z .corners) (z .faces) 0 → t ≡ runPlan (pointCount h) rs
     unfolding runPlan
-    plan-by e = e ∙ λ i. planOf (known .0 i) (known .1 i) (known .2 i)
+    plan-by e = e ∙ λ i. planOf (known .0 i) (known .1 i) (known .2 i) 0
 
   module _ {t : Plan} (e : t ≡ runPlan (pointCount h) rs) where
-    pub counted : Counted (runSizes (pointCount h) rs) (sumOver (faces (pointCount h)) rs) t
+    pub counted : Counted (runSizes (pointCount h) rs) (sumOver (faces (pointCount h)) rs) 0 t
     unfolding runPlan
     counted = record {
       plan = e;
@@ -57,7 +57,7 @@ module _ {k : Kind} {bs : List ℕ} {h : Header} {s : Settings} {o : Slices} {w 
       indices = omega (arith, indices-sum (pointCount h) rs);
     }
 
-    pub roomy : Ample (runSizes (pointCount h) rs) (sumOver (faces (pointCount h)) rs) t w f
+    pub roomy : Ample (runSizes (pointCount h) rs) (sumOver (faces (pointCount h)) rs) 0 t w f
     roomy = ample A (S .sizes) counted
 
 -- FORMAT 3: no list has more entries than the limit
@@ -77,7 +77,6 @@ module _ {bs : List ℕ} {h : Header} {s : Settings} {o : Slices} {w f : ℕ} (A
       rw c
       (record {
         room = G .room;
-        gathers = G .gathers;
         spots = G .spots;
         faces = G .faces;
         count = G .count;

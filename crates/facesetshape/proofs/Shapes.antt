@@ -35,7 +35,7 @@ module _ (missing : Words4) (bs : List ℕ) where
   pub listed : (convex : Bool) → isIndexed (headerOf bs .kind) ≡ true
       → (makesNormals (headerOf bs) ≡ true) × (makesColours (headerOf bs) ≡ headerOf bs .colors) × (makesTextures (headerOf bs) ≡ (headerOf bs .«need_uvs» || headerOf bs .«texture_points»))
       → (ls : List Listing) → ((j : ℕ) → j < length ls → 3 ≤ length (usesAt ls j))
-      → Shape bs (listBytes bs (headerOf bs) 1) (headerOf bs) (listedShared missing convex (headerOf bs)) ls (faceSetTexture bs (headerOf bs) (settingsOf bs))
+      → Shape bs (listBytes bs (headerOf bs) 1) (headerOf bs) (listedShared missing convex (headerOf bs)) 0 ls (faceSetTexture bs (headerOf bs) (settingsOf bs))
       (cornerUse missing (restOf bs) (listBytes bs (headerOf bs) 1))
   unfolding faceSetTexture cornerUse restOf
   listed convex i K ls long =
@@ -44,7 +44,7 @@ module _ (missing : Words4) (bs : List ℕ) where
       (λ j i l b. refl)
 
   own : headerOf bs .kind ≡ FaceSet
-      → Shape bs (listBytes bs (headerOf bs) 1) (headerOf bs) (listedShared missing (headerOf bs .convex) (headerOf bs)) (faceSetListings bs (headerOf bs))
+      → Shape bs (listBytes bs (headerOf bs) 1) (headerOf bs) (listedShared missing (headerOf bs .convex) (headerOf bs)) 0 (faceSetListings bs (headerOf bs))
       (faceSetTexture bs (headerOf bs) (settingsOf bs)) (cornerUse missing (restOf bs) (listBytes bs (headerOf bs) 1))
   own k =
       let ls = faceSetListings bs (headerOf bs) in
@@ -61,7 +61,7 @@ module _ (missing : Words4) (bs : List ℕ) where
 
   -- with the header, the settings, what the faces share and coordIndex as the code has them
   module _ {h : Header} {s : Settings} {sh : Shared} {coord : List ℕ} (eh : h ≡ headerOf bs) (es : s ≡ settingsOf bs) (q : sh ≡ listedShared missing (h .convex) h) (c : coord ≡ listBytes bs h 1) where
-    pub shape : h .kind ≡ FaceSet → Shape bs coord h sh (faceSetListings bs h) (faceSetTexture bs h s) (cornerUse missing (restOf bs) coord)
+    pub shape : h .kind ≡ FaceSet → Shape bs coord h sh 0 (faceSetListings bs h) (faceSetTexture bs h s) (cornerUse missing (restOf bs) coord)
     shape k = rw (c, q, es, eh) (own (rw eh at k))
 
     pub mesh-is : faceSetMesh missing bs ≡ mesh (frameBy (entries (listBytes bs h 0)) sh (s .crease)) (facesWith (cornerUse missing (restOf bs) coord) (faceSetListings bs h))

@@ -20,7 +20,7 @@ use Rattle.faceset.specs.Listings.{listingsOf}
 
 -- FORMAT 4, 6.2: P points, and the corners and the number of the kept faces among some runs
 unfoldable pub runPlan : ℕ → List Run → Plan
-runPlan points rs = planOf points (sumOver (corners points) rs) (sumOver (faces points) rs)
+runPlan points rs = planOf points (sumOver (corners points) rs) (sumOver (faces points) rs) 0
 
 -- FORMAT 6.2: the kept faces
 abbrev pub faceSetListings : List ℕ → Header → List Listing

@@ -40,7 +40,7 @@ pub fn make_face_set(
         (record { sources = now (sources .exit); positions = now (positions .exit); normals = now (normals .exit); colours = now (colours .exit); textures = now (textures .exit); indices = now (indices .exit) })
         r × Cleared (now (work .entry)) (now (work .exit)) (now (floats .entry)) (now (floats .exit)) ⌝ }
 {
-    let t = plan_of(z.points, z.corners, z.faces);
+    let t = plan_of(z.points, z.corners, z.faces, 0);
     let shared = listed_shared(h, missing, h.convex);
     let coord = list_part(block, h, 1);
     put_tables(block, coord, h, s, shared, t, work, floats);

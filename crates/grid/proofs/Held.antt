@@ -65,7 +65,6 @@ tables-held h w t P T =
     ∙ sym (ap (λ (x : Listing). f (getD (x .uses) i noUse)) (at j l)) in
     record {
       room = P .room;
-      gathers = P .gathers;
       faces = listings-length xd zd ∙ sym q;
       first = start 0 (omega arith);
       starts = λ j l. omega (arith, start (suc j) (omega arith), start j (omega arith), four j l);

@@ -19,7 +19,6 @@ pub record Sides (h : Header) : Type 0 where
 pub record Planned (h : Header) (len : ℕ) (t : Plan) : Type 0 where
   pub sides : Sides h
   pub room : Room len t
-  pub gathers : t .gathers ≡ t .corners
   pub spots : t .spots ≡ xDimension h * zDimension h
   pub count : t .count ≡ 4 * quadCount h
   pub faces : t .faces ≡ quadCount h

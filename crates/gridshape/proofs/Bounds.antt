@@ -34,9 +34,9 @@ module _ (h : Header) {x z : ℕ} (ex : x ≡ xDimension h) (ez : z ≡ zDimensi
   pub plan-low-by : Sides h → 4 * quadCount h ≤ most → (x * z ≤ most) × (4 * ((z - 1) * (x - 1)) ≤ most)
   plan-low-by S c = (rw (ex, ez) (S .few), rw (ex, ez) c)
 
-  pub plan-by : planOf (x * z) (4 * ((z - 1) * (x - 1))) ((z - 1) * (x - 1)) ≡ gridPlan h
+  pub plan-by : planOf (x * z) (4 * ((z - 1) * (x - 1))) ((z - 1) * (x - 1)) 0 ≡ gridPlan h
   unfolding gridPlan
-  plan-by = ap₂ (λ (x z : ℕ). planOf (x * z) (4 * ((z - 1) * (x - 1))) ((z - 1) * (x - 1))) ex ez
+  plan-by = ap₂ (λ (x z : ℕ). planOf (x * z) (4 * ((z - 1) * (x - 1))) ((z - 1) * (x - 1)) 0) ex ez
 
 -- the points as they are put
 pub points-there : (bs : List ℕ) (h : Header) (s : Settings) {t : Plan} (w : List ℕ) {w₁ : List ℕ} → Planned h (length w) t → w₁ ≡ spliced w (t .points) (gridPoints h s (entries (listBytes bs h 3)))
@@ -64,13 +64,13 @@ module _ {bs : List ℕ} {h : Header} {s : Settings} {o : Slices} {w f : ℕ} (A
   heights = heights-in bs h (A .kind) (A .accepted .taken .length-is) (xDimension h * zDimension h) (shape .2)
 
   module _ {t : Plan} (e : t ≡ gridPlan h) where
-    pub counted : Counted (gridSizes h) (quadCount h) t
+    pub counted : Counted (gridSizes h) (quadCount h) 0 t
     unfolding gridPlan gridSizes
     counted = record { plan = e; third = omega arith; indices = omega arith }
 
-    pub roomy : Ample (gridSizes h) (quadCount h) t w f
+    pub roomy : Ample (gridSizes h) (quadCount h) 0 t w f
     roomy = ample A sizes-are counted
 
     pub planned : Planned h w t
     unfolding gridSizes
-    planned = let G = roomy in record { sides = sides; room = G .room; gathers = G .gathers; spots = G .spots; count = G .count; faces = G .faces }
+    planned = let G = roomy in record { sides = sides; room = G .room; spots = G .spots; count = G .count; faces = G .faces }

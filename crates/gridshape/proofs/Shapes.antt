@@ -58,7 +58,7 @@ module _ (xd zd j : ℕ) (h : j < length (gridListings xd zd)) where
 
 module _ (missing : Words4) (bs : List ℕ) where
   own : headerOf bs .kind ≡ Grid
-      → Shape bs [] (headerOf bs) (listedShared missing true (headerOf bs)) (gridListings (xDimension (headerOf bs)) (zDimension (headerOf bs))) (textureOf bs (headerOf bs) (settingsOf bs))
+      → Shape bs [] (headerOf bs) (listedShared missing true (headerOf bs)) 0 (gridListings (xDimension (headerOf bs)) (zDimension (headerOf bs))) (textureOf bs (headerOf bs) (settingsOf bs))
       (gridUse missing (gridOf bs))
   unfolding gridTexture gridUse gridOf
   own k =
@@ -77,7 +77,7 @@ module _ (missing : Words4) (bs : List ℕ) where
 
   -- with the header, the settings, what the faces share and the empty coordIndex as the code has them
   module _ {h : Header} {s : Settings} {sh : Shared} (eh : h ≡ headerOf bs) (es : s ≡ settingsOf bs) (q : sh ≡ listedShared missing true h) where
-    pub shape : {coord : List ℕ} → coord ≡ [] → h .kind ≡ Grid → Shape bs coord h sh (gridListings (xDimension h) (zDimension h)) (textureOf bs h s) (gridUse missing (gridOf bs))
+    pub shape : {coord : List ℕ} → coord ≡ [] → h .kind ≡ Grid → Shape bs coord h sh 0 (gridListings (xDimension h) (zDimension h)) (textureOf bs h s) (gridUse missing (gridOf bs))
     shape c k = rw (c, q, es, eh) (own (rw eh at k))
 
     pub mesh-is : 2 ≤ xDimension h → gridMesh missing bs

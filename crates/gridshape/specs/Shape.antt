@@ -13,7 +13,7 @@ use Rattle.grid.specs.Textures.{gridTexture}
 
 -- FORMAT 4, 8.3: P points, C corners, and a face for each quad
 unfoldable pub gridPlan : Header → Plan
-gridPlan h = planOf (xDimension h * zDimension h) (4 * quadCount h) (quadCount h)
+gridPlan h = planOf (xDimension h * zDimension h) (4 * quadCount h) (quadCount h) 0
 
 -- FORMAT 7.3, 7.4: of a corner, by its point alone
 abbrev pub textureOf : List ℕ → Header → Settings → ℕ → Use → Words2

@@ -32,7 +32,7 @@ pub fn plan_grid(h: Header) -> Plan
     let xd = wide(counts[0]);
     let zd = wide(counts[1]);
     let quads = (zd - 1) * (xd - 1);
-    plan_of(xd * zd, 4 * quads, quads)
+    plan_of(xd * zd, 4 * quads, quads, 0)
 }
 
 // All tables but that of texture.

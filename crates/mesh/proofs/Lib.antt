@@ -8,6 +8,7 @@ pub mod Sums
 pub mod Corners
 pub mod Facts
 pub mod Primitives
+pub mod Gathered
 pub mod Dense
 mod Runs
 pub mod Bytes

@@ -1,8 +1,9 @@
 -- FORMAT 8: a soup is what face sets, grids and extrusions make: what the faces share, and a list of faces (PolyMesh).
 -- A run that is skipped is a face with no corners, so a face's number is its place in the list.
-use mathlib.Core.Bool.{Bool}
+use mathlib.Core.Bool.{Bool, cond}
 use mathlib.Core.List.{List, [], _∷_, map}
-use Prim.Native.Nat.{ℕ}
+use Prim.Native.Nat.{ℕ, zero, suc, _-_, _%_}
+use lib.Dec.{eqb}
 use Rattle.bits.specs.declared.Words2.{Words2}
 use Rattle.bits.specs.declared.Words3.{Words3}
 use Rattle.bits.specs.declared.Words4.{Words4}
@@ -20,6 +21,12 @@ pub record Corner : Type 0 where
 -- read beyond a face's last corner, which never happens
 abbrev pub noCorner : Corner
 noCorner = record { point = 0; gather = 0; given = no3; colour = no4; texture = no2 }
+
+-- FORMAT 10.2: the number by which corners at point p are gathered, where points stand in rings of `ring`: the last of a ring bears the number of its first.
+-- 0 is for no rings
+unfoldable pub gathered : ℕ → ℕ → ℕ
+gathered zero p = p
+gathered (suc k) p = cond (eqb (p % suc k) k) (p - k) p
 
 -- FORMAT 8: the corners in order
 abbrev pub Face : Type 0

@@ -22,9 +22,10 @@ use Rattle.mesh.specs.Soup.{pointsOf}
 use Rattle.mesh.specs.Normals.{outline, facing}
 use Rattle.tables.specs.declared.layout.Plan.{Plan}
 use Rattle.lists.specs.Parts.{seg, Kept}
-use Rattle.tables.specs.Soups.{ownerIn, startIn, pointsIn, faceIn, frameIn, Sound}
-use Rattle.lists.proofs.Keep.{kept-all, kept-set, kept-then, kept-at, kept-seg, length-seg, set-hit, set-miss}
-use Rattle.tables.proofs.Stays.{start-le, owner-kept, start-kept, sound-kept, face-kept, frame-kept, names-in}
+use Rattle.tables.specs.Soups.{gatherIn, ownerIn, startIn, pointsIn, faceIn, frameIn, Sound}
+use Rattle.lists.proofs.Keep.{kept-all, kept-set, kept-then, kept-at, set-hit, set-miss}
+use Rattle.tables.proofs.Stays.{start-le, gather-kept, owner-kept, start-kept, sound-kept, face-kept, frame-kept, names-in}
+use Rattle.lists.proofs.Tabs.{length-tab, tab-same}
 use Rattle.lists.proofs.Numbers.{last-or, le-or-lt}
 use Rattle.normals.specs.Group.{gathersIn, Grouped}
 use Rattle.normals.specs.Rows.{at3, unitAt, normalIn, unitIn, facingIn, OwnedTo, Rowed, Owned, Made}
@@ -191,8 +192,8 @@ made {v} {w} {x} {y} {t} {ccw} S K O L P M C =
         room = S′ .room;
         gathers = S′ .gathers;
         grouped =
-            let n = length-seg x (t .gathers) (t .count) (omega arith) in
-            rw (kept-seg M (t .gathers) (t .count) (omega arith) (omega arith)) (grouped-by (λ c k. sym (owner-kept M t c (omega arith))) C);
+            let n = length-tab (gatherIn x t) (t .count) 0 in
+            rw (tab-same (gatherIn y t) (gatherIn x t) (t .count) (λ c h. gather-kept M t c (omega arith))) (grouped-by (λ c k. sym (owner-kept M t c (omega arith))) C);
         owned = λ c k. below S′ own (t .faces) c (omega arith) (rw (S′ .last) k);
         units = λ g k. unitIn-kept M t g (omega arith) ∙ P .unit g k ∙ ap unitOf (sym (normal-kept M t g (omega arith)));
       };

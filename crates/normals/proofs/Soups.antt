@@ -12,13 +12,12 @@ use Rattle.math.specs.declared.vector.V3.{V3}
 use Rattle.math.specs.Vector.{yAxis, unitOf}
 use Rattle.block.specs.declared.crease.CreaseRule.{CreaseRule}
 use Rattle.lists.specs.Loops.{tab}
-use Rattle.lists.proofs.Tabs.{tab-shift, tab-add, map-tab}
+use Rattle.lists.proofs.Tabs.{length-tab, tab-at, tab-shift, tab-add, map-tab}
 use Rattle.mesh.specs.Soup.{Corner, Frame}
 use Rattle.mesh.specs.Normals.{outline, facing, Hit, hits, hitsOf, incident, creaseSum, orElse, generated}
 use Rattle.tables.specs.declared.layout.Plan.{Plan}
 use Rattle.tables.specs.Layout.{Room}
 use Rattle.tables.specs.Soups.{gatherIn, ownerIn, startIn, cornerIn, faceIn, soupIn, frameIn, Sound}
-use Rattle.lists.proofs.Keep.{length-seg, seg-at}
 use Rattle.tables.proofs.Stays.{start-le, face-kept, soup-kept}
 use Rattle.tables.proofs.Joins.{join-soup}
 use Rattle.lists.proofs.Lists.{cond-map}
@@ -31,14 +30,13 @@ hit g n = record { face = g; normal = n }
 
 module _ (w : List ℕ) (t : Plan) (room : Room (length w) t) where
   hits-here : (p a : ℕ) → a < t .count → hitsFrom w t p a ≡ cond (eqb (gatherIn w t a) p) (hitIn w t a ∷ hitsFrom w t p (suc a)) (hitsFrom w t p (suc a))
-  unfolding hitsFrom usesFrom uses gathersIn gatherIn
+  unfolding hitsFrom usesFrom uses gathersIn
   hits-here p a b =
-      let r = room in
       let G = gathersIn w t in
       let U = uses p (suc a) (drop (suc a) G) in
-      let l = length-seg w (t .gathers) (t .count) (omega arith) in
+      let l = length-tab (gatherIn w t) (t .count) 0 in
       ap (λ (x : List ℕ). map (hitIn w t) (uses p a x)) (drop-cons G a 0 (omega arith))
-      ∙ ap (λ (x : ℕ). map (hitIn w t) (cond (eqb x p) (a ∷ U) U)) (seg-at w (t .gathers) (t .count) a b)
+      ∙ ap (λ (x : ℕ). map (hitIn w t) (cond (eqb x p) (a ∷ U) U)) (tab-at (gatherIn w t) (t .count) a 0 b)
       ∙ cond-map (hitIn w t) (eqb (gatherIn w t a) p) a U
 
   -- n corners from a that are all of one face, and the corners after them
@@ -61,8 +59,7 @@ module _ (w : List ℕ) (t : Plan) (room : Room (length w) t) where
   hits-end : (p : ℕ) → hitsFrom w t p (t .count) ≡ []
   unfolding hitsFrom usesFrom uses gathersIn
   hits-end p =
-      let r = room in
-      let l = length-seg w (t .gathers) (t .count) (omega arith) in
+      let l = length-tab (gatherIn w t) (t .count) 0 in
       ap (λ (x : List ℕ). map (hitIn w t) (uses p (t .count) x)) (drop-of-length-le (gathersIn w t) {i = t .count} (omega arith))
 
 -- the rows hold the facing normals of F

@@ -17,8 +17,9 @@ use Rattle.block.specs.declared.crease.CreaseRule.the-variants.{Own, Every, Bou
 use Rattle.mesh.specs.Normals.{Hit, sumAll}
 use Rattle.tables.specs.declared.layout.Plan.{Plan}
 use Rattle.lists.specs.Parts.{Kept}
-use Rattle.tables.specs.Soups.{ownerIn}
-use Rattle.lists.proofs.Keep.{kept-then, kept-seg}
+use Rattle.tables.specs.Soups.{gatherIn, ownerIn}
+use Rattle.lists.proofs.Keep.{kept-then}
+use Rattle.lists.proofs.Tabs.{tab-same}
 use Rattle.tables.proofs.Stays.{start-le, gather-kept, owner-kept, start-kept, sound-kept}
 use Rattle.lists.proofs.Numbers.{last-or}
 use Rattle.normals.specs.Group.{uses, usesFrom, gathersIn}
@@ -43,7 +44,7 @@ map-uses f g p i (c ∷ cs) h = go (eqb c p) (h i (omega arith) (omega arith)) (
 module _ {v w : List ℕ} {t : Plan} (K : Kept (t .sums) v w) (R : Ready v t) where
   gathers-same : gathersIn w t ≡ gathersIn v t
   unfolding gathersIn
-  gathers-same = let r = R .room in kept-seg K (t .gathers) (t .count) (omega arith) (omega arith)
+  gathers-same = let r = R .room in tab-same (gatherIn w t) (gatherIn v t) (t .count) (λ c h. gather-kept K t c (omega arith))
 
   hit-same : (c : ℕ) → c < t .count → hitIn w t c ≡ hitIn v t c
   unfolding hitIn

@@ -14,7 +14,8 @@ use Rattle.tables.specs.declared.layout.Plan.{Plan}
 use Rattle.tables.specs.Soups.{gatherIn, ownerIn}
 use Rattle.lists.specs.Loops.{All}
 use Rattle.lists.specs.Parts.{seg}
-use Rattle.lists.proofs.Keep.{length-seg, seg-at, part-seg}
+use Rattle.lists.proofs.Keep.{part-seg}
+use Rattle.lists.proofs.Tabs.{length-tab, tab-at}
 use Rattle.lists.proofs.Lists.{drop-next, All-map, All-of-map, map-map}
 use Rattle.normals.specs.Group.{below, usesFrom, gathersIn}
 use Rattle.normals.specs.Rows.{normalIn, unitIn, hitOf, hitIn, hitsFrom, hitsAt, Ready, noUnit}
@@ -24,14 +25,14 @@ use Rattle.normals.proofs.Counting.{below-le, below-next, below-all, us
 module _ {w : List ℕ} {t : Plan} (R : Ready w t) where
   pub length-gathers : length (gathersIn w t) ≡ t .count
   unfolding gathersIn
-  length-gathers = let r = R .room in length-seg w (t .gathers) (t .count) (omega arith)
+  length-gathers = length-tab (gatherIn w t) (t .count) 0
 
   -- the last number's faces end with the corners
   pub all-below : below (t .spots) (gathersIn w t) ≡ t .count
-  unfolding gathersIn gatherIn
+  unfolding gathersIn
   all-below =
       let l = length-gathers in
-      below-all (t .spots) (gathersIn w t) (λ j b. rw (seg-at w (t .gathers) (t .count) j (omega arith)) (R .gathers j (omega arith))) ∙ l
+      below-all (t .spots) (gathersIn w t) (λ j b. rw (tab-at (gatherIn w t) (t .count) j 0 (omega arith)) (R .gathers j (omega arith))) ∙ l
 
   pub start-low : (p : ℕ) → p < t .spots → getD w (t .heads + p) 0 ≤ t .count
   start-low p h = let l = length-gathers in omega (arith, R .grouped .starts p h, below-le p (gathersIn w t))

@@ -180,4 +180,4 @@ module _ {points : ℕ} {g : Topology} {bs : List ℕ} (w : List ℕ) {t : Plan}
       let none : drop (p .faces) (primitiveUses points g (entries bs)) ≡ [] = U .left ∙ kept-over (usesOf g) points g bs (p .start) h in
       let f : p .faces ≡ t .faces = omega (arith, ap length none, length-drop (p .faces) (primitiveUses points g (entries bs)), length-uses points g (entries bs), L .faces, U .faces) in
       let c : p .corner .0 ≡ t .count = U .corners ∙ ap (λ (j : ℕ). widthOf g * j) (f ∙ L .faces) ∙ sym (L .count) in
-      record { listed = listed-all (rw (B .len) (L .room)) (L .gathers) n f c (U .made); beside = B }
+      record { listed = listed-all (rw (B .len) (L .room)) n f c (U .made); beside = B }

@@ -20,7 +20,6 @@ use Rattle.primitiveset.specs.Listings.{usesOf, primitiveUses, primitive
 -- the plan is that of the kept primitives of coordIndex, whose bytes are bs, in len words (FORMAT 3: no list has more than 8,192 entries)
 pub record Planned (points : ℕ) (g : Topology) (bs : List ℕ) (len : ℕ) (t : Plan) : Type 0 where
   pub room : Room len t
-  pub gathers : t .gathers ≡ t .corners
   pub spots : t .spots ≡ points
   pub faces : t .faces ≡ length (keptPrimitives points g (entries bs))
   pub count : t .count ≡ widthOf g * length (keptPrimitives points g (entries bs))

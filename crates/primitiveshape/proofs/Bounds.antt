@@ -37,7 +37,6 @@ module _ {g : Topology} {bs : List ℕ} {h : Header} {s : Settings} {o : Slices}
       rw c
       (record {
         room = G .room;
-        gathers = G .gathers;
         spots = G .spots;
         faces = G .faces ∙ listing-faces points-low g (entries (listBytes bs h 1));
         count = G .count ∙ listing-corners points-low g (entries (listBytes bs h 1));

@@ -37,7 +37,7 @@ use Rattle.primitiveshape.specs.Shape.{listingsIn}
 
 module _ (missing : Words4) (g : Topology) (bs : List ℕ) where
   own : headerOf bs .kind ≡ Primitives g
-      → Shape bs (listBytes bs (headerOf bs) 1) (headerOf bs) (listedShared missing true (headerOf bs)) (listingsIn g bs (headerOf bs)) (faceSetTexture bs (headerOf bs) (settingsOf bs))
+      → Shape bs (listBytes bs (headerOf bs) 1) (headerOf bs) (listedShared missing true (headerOf bs)) 0 (listingsIn g bs (headerOf bs)) (faceSetTexture bs (headerOf bs) (settingsOf bs))
       (cornerUse missing (restOf bs) (listBytes bs (headerOf bs) 1))
   own k =
       let ls = listingsIn g bs (headerOf bs) in
@@ -67,7 +67,7 @@ module _ (missing : Words4) (g : Topology) (bs : List ℕ) where
 
   -- with the header, the settings, what the faces share and coordIndex as the code has them
   module _ {h : Header} {s : Settings} {sh : Shared} {coord : List ℕ} (eh : h ≡ headerOf bs) (es : s ≡ settingsOf bs) (q : sh ≡ listedShared missing true h) (c : coord ≡ listBytes bs h 1) where
-    pub shape : h .kind ≡ Primitives g → Shape bs coord h sh (listingsIn g bs h) (faceSetTexture bs h s) (cornerUse missing (restOf bs) coord)
+    pub shape : h .kind ≡ Primitives g → Shape bs coord h sh 0 (listingsIn g bs h) (faceSetTexture bs h s) (cornerUse missing (restOf bs) coord)
     shape k = rw (c, q, es, eh) (own (rw eh at k))
 
     pub mesh-is : h .kind ≡ Primitives g → isOtherAttributes h ≡ false → pointCount h ≤ 0x8000_0000

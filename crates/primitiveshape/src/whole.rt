@@ -43,7 +43,7 @@ pub fn make_primitives(
         (record { sources = now (sources .exit); positions = now (positions .exit); normals = now (normals .exit); colours = now (colours .exit); textures = now (textures .exit); indices = now (indices .exit) })
         r × Cleared (now (work .entry)) (now (work .exit)) (now (floats .entry)) (now (floats .exit)) ⌝ }
 {
-    let t = plan_of(z.points, z.corners, z.faces);
+    let t = plan_of(z.points, z.corners, z.faces, 0);
     let shared = listed_shared(h, missing, true);
     let coord = list_part(block, h, 1);
     put_tables(block, coord, h, g, s, shared, t, work, floats);

@@ -10,7 +10,7 @@ use Rattle.bits.specs.declared.Words2.{Words2}
 use Rattle.bits.specs.declared.Words4.{Words4}
 use Rattle.block.specs.declared.header.Header.{Header}
 use Rattle.mesh.specs.Words.{no2, no4}
-use Rattle.mesh.specs.Soup.{Corner}
+use Rattle.mesh.specs.Soup.{Corner, gathered}
 use Rattle.mesh.specs.FaceSet.{Rest, cornerBy}
 use Rattle.mesh.specs.Result.{makesNormals, makesColours, makesTextures}
 use Rattle.tables.specs.Listed.{Use, Listing, noUse, noListing, usesAt}
@@ -27,7 +27,7 @@ pub listed-shape : (missing : Words4) (R : Rest) (bs coord : List ℕ) (default 
     → ((j : ℕ) → j < length ls → 3 ≤ length (usesAt ls j))
     → ((j i : ℕ) → j < length ls → i < length (usesAt ls j)
     → f (getD ls j noListing .number) (getD (usesAt ls j) i noUse) ≡ textureIn bs coord (R .head) (R .settings) (getD (usesAt ls j) i noUse .place) (default (getD (usesAt ls j) i noUse .point)))
-    → Shape bs coord (R .head) (listedShared missing convex (R .head)) ls f (cornerUse missing R coord default)
+    → Shape bs coord (R .head) (listedShared missing convex (R .head)) 0 ls f (cornerUse missing R coord default)
 unfolding listedShared faceWidths cornerBy
 listed-shape missing R bs coord default convex ls S K long same = record {
   long = long;
@@ -42,16 +42,16 @@ listed-shape missing R bs coord default convex ls S K long same = record {
 }
 
 -- no normal is supplied, and there is no colour
-pub plain-shape : (bs coord : List ℕ) (h : Header) (convex : Bool) (ls : List Listing) {f : ℕ → Use → Words2} {corner : ℕ → Use → Corner}
+pub plain-shape : (bs coord : List ℕ) (h : Header) (convex : Bool) (ring : ℕ) (ls : List Listing) {f : ℕ → Use → Words2} {corner : ℕ → Use → Corner}
     → (makesNormals h ≡ true) × (makesColours h ≡ false) × (makesTextures h ≡ h .«need_uvs»)
     → ((j : ℕ) → j < length ls → 3 ≤ length (usesAt ls j))
-    → ((n : ℕ) (u : Use) → (corner n u .point ≡ u .point) × (corner n u .gather ≡ u .point)) → ((n : ℕ) (u : Use) → corner n u .colour ≡ no4)
+    → ((n : ℕ) (u : Use) → (corner n u .point ≡ u .point) × (corner n u .gather ≡ gathered ring (u .point))) → ((n : ℕ) (u : Use) → corner n u .colour ≡ no4)
     → ((j i : ℕ) → j < length ls → i < length (usesAt ls j)
     → f (getD ls j noListing .number) (getD (usesAt ls j) i noUse) ≡ corner (getD ls j noListing .number) (getD (usesAt ls j) i noUse) .texture)
     → (h .«need_uvs» ≡ false → (n : ℕ) (u : Use) → corner n u .texture ≡ no2)
-    → Shape bs coord h (plainShared convex h) ls f corner
+    → Shape bs coord h (plainShared convex h) ring ls f corner
 unfolding plainShared plainWidths plainAttributes
-plain-shape bs coord h convex ls {corner = corner} K long at bleak same bare = record {
+plain-shape bs coord h convex ring ls {corner = corner} K long at bleak same bare = record {
   long = long;
   reads = λ floats. record { point = at; given = λ q. absurd (true≢false (sym q)); normal = refl; colour = inr (refl, bleak) };
   texture = same;

@@ -17,24 +17,24 @@ use Rattle.build.proofs.Rooms.{plan-laid, plan-low}
 use Rattle.shaping.specs.Tabled.{Counted, Ample}
 
 -- 3 F <= C is known here of any shape
-plan-ample : {z : Sizes} {n : ℕ} {t : Plan} {w f : ℕ} → Counted z n t → z .points ≤ most → z .corners ≤ most → 8 * (z .corners + z .points) + 8 ≤ w
-    → 8 * (z .corners + z .points) + 8 ≤ f → Ample z n t w f
+plan-ample : {z : Sizes} {n ring : ℕ} {t : Plan} {w f : ℕ} → Counted z n ring t → z .points ≤ most → z .corners ≤ most → 8 * (z .corners + z .points) + 8 ≤ w
+    → 8 * (z .corners + z .points) + 8 ≤ f → Ample z n ring t w f
 unfolding planOf
-plan-ample {z} {n} {t} {w} {f} N p c a b =
+plan-ample {z} {n} {ring} {t} {w} {f} N p c a b =
     let h = N .third in
-    subst (λ (u : Plan). Ample z n u w f) (sym (N .plan))
+    subst (λ (u : Plan). Ample z n ring u w f) (sym (N .plan))
     (record {
       spots = refl;
       count = refl;
       faces = refl;
-      gathers = refl;
-      room = plan-fits (z .points) (z .corners) n w p c h a;
-      laid = plan-laid (z .points) (z .corners) n p c h w a;
-      low = plan-low (z .points) (z .corners) n p c h;
+      rings = refl;
+      room = plan-fits (z .points) (z .corners) n ring w p c h a;
+      laid = plan-laid (z .points) (z .corners) n ring p c h w a;
+      low = plan-low (z .points) (z .corners) n ring p c h;
       scratch = omega (arith, a, h);
       textures = omega (arith, a, h);
       floats = omega (arith, b, h);
     })
 
-pub ample : {k : Kind} {bs : List ℕ} {h : Header} {s : Settings} {o : Slices} {w f : ℕ} {z : Sizes} {n : ℕ} {t : Plan} → Asked k bs h s o w f → sizesOf bs h ≡ z → Counted z n t → Ample z n t w f
+pub ample : {k : Kind} {bs : List ℕ} {h : Header} {s : Settings} {o : Slices} {w f : ℕ} {z : Sizes} {n ring : ℕ} {t : Plan} → Asked k bs h s o w f → sizesOf bs h ≡ z → Counted z n ring t → Ample z n ring t w f
 ample A e N = let l = low-by A e in let E = enough-by A e in plan-ample N (l .0) (l .1) (E .words) (E .floats)

@@ -24,7 +24,7 @@ use Rattle.tables.proofs.Stays.{start-le, point-kept, place-kept, start-kept}
 use Rattle.tables.proofs.Listings.{listed-sound, listed-kept}
 use Rattle.corners.specs.Laid.{tablesOf, Laid}
 use Rattle.corners.specs.Corner.{Lent, textureAt}
-use Rattle.soups.specs.Keyed.{Textured, Textures}
+use Rattle.soups.specs.Keyed.{Reads, Textured, Textures}
 use Rattle.soups.proofs.Handed.{handed-holds, handed-keys}
 use Rattle.lent.specs.declared.Counts.{Counts}
 use Rattle.lent.specs.Lent.{Asked, Shaped, Cleared}
@@ -44,8 +44,8 @@ wide-made {v} {k} b e = subst (Wide k) (sym e) (wide-by b k)
 
 -- the plan t; the words w lent, then w₁ with the tables and w₂ with the textures; the floats d lent, then e
 module _ {k : Kind} {bs coord : List ℕ} {h : Header} {s : Settings} {o : Slices} {w w₁ w₂ : List ℕ} {d e : List Float} {points : List ℕ} {ls : List Listing} {sh : Shared} {rule : CreaseRule}
-    {f : ℕ → Use → Words2} {corner : ℕ → Use → Corner} {z : Sizes} {n : ℕ} {t : Plan} (A : Asked k bs h s o (length w) (length d)) (q : sizesOf bs h ≡ z) (N : Counted z n t)
-    (T : Tabled points ls sh rule t w w₁ d e) (X : TexturesAt sh f t w₁ w₂) (S : Shape bs coord h sh ls f corner) where
+    {f : ℕ → Use → Words2} {corner : ℕ → Use → Corner} {z : Sizes} {n ring : ℕ} {t : Plan} (A : Asked k bs h s o (length w) (length d)) (q : sizesOf bs h ≡ z) (N : Counted z n ring t)
+    (T : Tabled points ls sh rule t w w₁ d e) (X : TexturesAt sh f t w₁ w₂) (S : Shape bs coord h sh ring ls f corner) where
   read : Lent
   read = record { block = bs; coord = coord; floats = e }
 
@@ -82,16 +82,20 @@ module _ {k : Kind} {bs coord : List ℕ} {h : Header} {s : Settings} {o : Slice
       go true u = inl (u, textured (omega (arith, u)))
       go false u = inr (u, S .bare u)
 
+  reads : Reads read (sh .attributes) (sh .widths) (t .ring) corner
+  unfolding read
+  reads = subst (λ (r : ℕ). Reads read (sh .attributes) (sh .widths) r corner) (sym (ample A q N .rings)) (S .reads e)
+
   told : Told read sh t w₂ (frameBy points sh rule) (facesWith corner ls)
   unfolding read frameBy
   told =
       let F = frameBy points sh rule in
       let full : (j : ℕ) → j < t .faces → 0 < length (usesAt ls j) = λ j b. omega (arith, long j b) in
       record {
-        holds = handed-holds F (T .faces) (T .prepared) (X .kept) (S .reads e) textures full (T .points) refl;
+        holds = handed-holds F (T .faces) (T .prepared) (X .kept) reads textures full (T .points) refl;
         ccw = refl;
         convex = refl;
-        keys = handed-keys F (T .faces) (T .prepared) (X .kept) (S .reads e) textures full (T .points) refl;
+        keys = handed-keys F (T .faces) (T .prepared) (X .kept) reads textures full (T .points) refl;
       }
 
   pub ready : Ready (record { block = bs; coord = coord; floats = e }) sh t w₂ o

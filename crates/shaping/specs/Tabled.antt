@@ -17,19 +17,19 @@ use Rattle.corners.specs.Corner.{textureAt}
 use Rattle.soups.specs.Prepared.{Prepared}
 use Rattle.build.specs.declared.shared.Shared.{Shared}
 
--- FORMAT 4: t is the plan of P points, C corners and n faces, where z has P and C; a face has three corners or more, and z room for the indices of its triangles
-pub record Counted (z : Sizes) (n : ℕ) (t : Plan) : Type 0 where
-  pub plan : t ≡ planOf (z .points) (z .corners) n
+-- FORMAT 4: t is the plan of P points, in rings of `ring`, C corners and n faces, where z has P and C; a face has three corners or more, and z room for the indices of its triangles
+pub record Counted (z : Sizes) (n ring : ℕ) (t : Plan) : Type 0 where
+  pub plan : t ≡ planOf (z .points) (z .corners) n ring
   pub third : n * 3 ≤ z .corners
   pub indices : 3 * (z .corners - 2 * n) ≤ z .indices
 
 -- FORMAT 4: w words and f floats have room for all tables of such a plan: for those that list faces, for those of the corners while vertices are made, for
 -- five words a corner from the places on; and for three floats a corner, and six a face or one a point behind them
-pub record Ample (z : Sizes) (n : ℕ) (t : Plan) (w f : ℕ) : Type 0 where
+pub record Ample (z : Sizes) (n ring : ℕ) (t : Plan) (w f : ℕ) : Type 0 where
   pub spots : t .spots ≡ z .points
   pub count : t .count ≡ z .corners
   pub faces : t .faces ≡ n
-  pub gathers : t .gathers ≡ t .corners
+  pub rings : t .ring ≡ ring
   pub room : Room w t
   pub laid : Laid (tablesOf t) w
   pub low : t .owners ≤ 2 ^ 32

@@ -31,7 +31,7 @@ use Rattle.soups.proofs.Keyed.{three-at, keys-held}
 -- v the words as listed, w as made ready, w′ with the texture; d the floats before
 module _ {L : Lent} {a : Attributes} {widths : Widths} {v w w′ : List ℕ} {t : Plan} {ls : List Listing} {corner : ℕ → Use → Corner} {d : List Float} (F : Frame)
     (E : Listed v t ls) (P : Prepared (a .supplied) (F .ccw) (F .crease) t v w d (L .floats)) (K : Kept (t .owners + t .count) w w′)
-    (R : Reads L a widths corner) (T : Textures widths w′ t ls corner)
+    (R : Reads L a widths (t .ring) corner) (T : Textures widths w′ t ls corner)
     (full : (j : ℕ) → j < t .faces → 0 < length (usesAt ls j)) (points : pointsIn v t ≡ F .points) (supplied : F .supplied ≡ a .supplied) where
   kept : Kept (t .owners) v w′
   kept = kept-then (P .kept) K (omega arith)

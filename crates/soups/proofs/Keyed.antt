@@ -95,8 +95,8 @@ three-at e m v h = λ i. record { x = (ap (λ (k : ℕ). toBits binary32 (getD e
         ∙ sym (getD-map-lt (toBits binary32) (take 3 (drop m e)) k 0 zeroF (omega (arith, l))) ∙ ap (λ (r : List ℕ). getD r k 0) h
 
 -- the corners of listed faces, which read their attributes as the code does
-module _ {L : Lent} {a : Attributes} {widths : Widths} {w : List ℕ} {t : Plan} {ls : List Listing} {corner : ℕ → Use → Corner}
-    (E : Listed w t ls) (R : Reads L a widths corner) (T : Textures widths w t ls corner) {F : Frame} (H : Holds w t F (facesWith corner ls)) (supplied : F .supplied ≡ a .supplied)
+module _ {L : Lent} {a : Attributes} {widths : Widths} {ring : ℕ} {w : List ℕ} {t : Plan} {ls : List Listing} {corner : ℕ → Use → Corner}
+    (E : Listed w t ls) (R : Reads L a widths ring corner) (T : Textures widths w t ls corner) {F : Frame} (H : Holds w t F (facesWith corner ls)) (supplied : F .supplied ≡ a .supplied)
     (numbers : (j i : ℕ) → j < t .faces → i < length (usesAt ls j) → ownerIn w t (startIn w t j + i) ≡ getD ls j noListing .number)
     (normals : a .supplied ≡ false → (j i : ℕ) → j < t .faces → i < length (getD (facesWith corner ls) j [])
     → generatedAt (L .floats) (startIn w t j + i) ≡ cornerNormal F (facesWith corner ls) j (getD (facesWith corner ls) j []) (getD (getD (facesWith corner ls) j []) i noCorner)) where

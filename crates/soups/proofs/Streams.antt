@@ -1,5 +1,5 @@
 -- FORMAT 2.4, 7: the corners of a face set and of a grid read their attributes by the block's streams.
-use mathlib.Core.Path.{_≡_, refl, ap, _∙_}
+use mathlib.Core.Path.{_≡_, refl, sym, ap, _∙_}
 use mathlib.Core.Bool.{Bool, true, false, _||_, cond}
 use mathlib.Core.Logic.{_⊎_, inl, inr}
 use mathlib.Core.List.{List}
@@ -14,6 +14,7 @@ use Rattle.block.specs.Stream.{streamOf, numberAt, get3At, get4At}
 use Rattle.block.specs.Value.{value3At, value4At}
 use Rattle.mesh.specs.Words.{no2, no3, no4}
 use Rattle.mesh.specs.Soup.{Corner}
+use Rattle.mesh.proofs.Gathered.{gathered-alone}
 use Rattle.mesh.specs.FaceSet.{Rest, restOf, normalOf, colourOf, textureBy, cornerBy}
 use Rattle.mesh.specs.Grid.{gridOf}
 use Rattle.tables.specs.Listed.{Use}
@@ -41,10 +42,10 @@ module _ (missing : Words4) (R : Rest) (bs coord : List ℕ) (floats : List Floa
   unfolding colourOf
   colour-none e n k = ap (λ (b : Bool). cond b (value4At (R .colours) (R .head .alpha) (numberAt (R .colourIndex) coord (R .head .«color_per_vertex») k n) missing) no4) e
 
-  pub reads-of : Reads (record { block = bs; coord = coord; floats = floats }) (attributesOf missing (R .head)) (faceWidths (R .head)) (cornerUse missing R coord default)
+  pub reads-of : Reads (record { block = bs; coord = coord; floats = floats }) (attributesOf missing (R .head)) (faceWidths (R .head)) 0 (cornerUse missing R coord default)
   unfolding attributesOf faceWidths cornerBy
   reads-of = record {
-    point = λ n u. (refl, refl);
+    point = λ n u. (refl, sym (gathered-alone (u .point)));
     given = λ e n u. normal-read e n (u .place);
     normal = refl;
     colour = go (R .head .colors) refl;

@@ -8,7 +8,7 @@ use lib.ListN.{length, getD}
 use Rattle.bits.specs.declared.Words2.{Words2}
 use Rattle.block.specs.Stream.{get3At, get4At}
 use Rattle.mesh.specs.Words.{no2, no3, no4}
-use Rattle.mesh.specs.Soup.{Corner, Frame}
+use Rattle.mesh.specs.Soup.{Corner, gathered, Frame}
 use Rattle.tables.specs.declared.layout.Plan.{Plan}
 use Rattle.tables.specs.Soups.{startIn}
 use Rattle.tables.specs.Listed.{Use, Listing, noUse, noListing, usesAt}
@@ -17,9 +17,9 @@ use Rattle.corners.specs.declared.attributes.Attributes.{Attributes}
 use Rattle.corners.specs.Laid.{tablesOf}
 use Rattle.corners.specs.Corner.{Lent, textureAt}
 
--- what a corner is made of: its point; where normals are supplied, the one that the block has at its place or face; its colour and texture, where they are made
-pub record Reads (L : Lent) (a : Attributes) (widths : Widths) (corner : ℕ → Use → Corner) : Type 0 where
-  pub point : (n : ℕ) (u : Use) → (corner n u .point ≡ u .point) × (corner n u .gather ≡ u .point)
+-- what a corner is made of: its point, and the number that it is gathered by, where points stand in rings of `ring`; where normals are supplied, the one that the block has at its place or face; its colour and texture, where they are made
+pub record Reads (L : Lent) (a : Attributes) (widths : Widths) (ring : ℕ) (corner : ℕ → Use → Corner) : Type 0 where
+  pub point : (n : ℕ) (u : Use) → (corner n u .point ≡ u .point) × (corner n u .gather ≡ gathered ring (u .point))
   pub given : a .supplied ≡ true → (n : ℕ) (u : Use) → corner n u .given ≡ get3At (L .block) (L .coord) (a .normals) (u .place) n no3
   pub normal : widths .normal ≡ 3
   pub colour : ((widths .colour ≡ 4) × ((n : ℕ) (u : Use) → corner n u .colour ≡ get4At (L .block) (L .coord) (a .colours) (a .alpha) (u .place) n (a .missing)))

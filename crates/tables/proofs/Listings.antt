@@ -5,7 +5,8 @@ use Prim.Native.Nat.{ℕ, suc, _+_, _≤_, _<_}
 use native.Mathlib.Nat.{not-suc-le-zero}
 use native.Mathlib.Omega.{arith}
 use lib.ListN.{length, getD, length-map}
-use Rattle.mesh.specs.Soup.{Corner, noCorner, Face, dense, Frame}
+use Rattle.mesh.specs.Soup.{Corner, noCorner, gathered, Face, dense, Frame}
+use Rattle.mesh.proofs.Gathered.{gathered-le}
 use Rattle.lists.proofs.Lists.{getD-map-lt}
 use Rattle.tables.specs.declared.layout.Plan.{Plan}
 use Rattle.lists.specs.Parts.{Kept}
@@ -22,15 +23,15 @@ dense-full ([] ∷ fs) h = absurd (not-suc-le-zero (h 0 (omega arith)))
 dense-full ((c ∷ cs) ∷ fs) h = ap (λ (l : List Face). (c ∷ cs) ∷ l) (dense-full fs (λ j b. h (suc j) (omega arith)))
 
 module _ {w : List ℕ} {t : Plan} {ls : List Listing} (E : Listed w t ls) where
-  gather-point : (c : ℕ) → gatherIn w t c ≡ pointIn w t c
-  unfolding gatherIn pointIn
-  gather-point c = ap (λ (a : ℕ). getD w (a + c) 0) (E .gathers)
+  gather-within : (c : ℕ) → c < t .count → gatherIn w t c < t .spots
+  unfolding gatherIn
+  gather-within c h = omega (arith, E .within c h, gathered-le (t .ring) (pointIn w t c))
 
   pub listed-sound : Sound w t
   listed-sound = record {
     room = E .room;
     points = E .within;
-    gathers = λ c h. rw (gather-point c) (E .within c h);
+    gathers = gather-within;
     first = E .first;
     rises = λ g h. let s = E .starts g h in omega arith;
     last = E .last;
@@ -54,9 +55,10 @@ module _ {w : List ℕ} {t : Plan} {ls : List Listing} (E : Listed w t ls) where
     unfolding facesWith
     faces-count = length-map ls (λ (l : Listing). map (corner (l .number)) (l .uses)) ∙ E .faces
 
-    -- a corner is at the point of its use, and is gathered by it
-    pub listed-holds : ((n : ℕ) (u : Use) → (corner n u .point ≡ u .point) × (corner n u .gather ≡ u .point)) → ((j : ℕ) → j < t .faces → 0 < length (usesAt ls j))
+    -- a corner is at the point of its use
+    pub listed-holds : ((n : ℕ) (u : Use) → (corner n u .point ≡ u .point) × (corner n u .gather ≡ gathered (t .ring) (u .point))) → ((j : ℕ) → j < t .faces → 0 < length (usesAt ls j))
         → (F : Frame) → pointsIn w t ≡ F .points → Holds w t F (facesWith corner ls)
+    unfolding gatherIn
     listed-holds at full F p =
         let fs = facesWith corner ls in
         let count : length fs ≡ t .faces = faces-count in
@@ -70,7 +72,7 @@ module _ {w : List ℕ} {t : Plan} {ls : List Listing} (E : Listed w t ls) where
         let r = ap (λ (c : Corner). c .gather) (listed-corner j i h b′) in
         record {
           point = E .points j i h b′ ∙ sym (q ∙ at n u .0);
-          gather = gather-point (startIn w t j + i) ∙ E .points j i h b′ ∙ sym (r ∙ at n u .1);
+          gather = ap (gathered (t .ring)) (E .points j i h b′) ∙ sym (r ∙ at n u .1);
         })
         F p (dense-full fs (λ j b. let h : j < t .faces = omega arith in let q = listed-long j h in let z = full j h in omega arith))
 
@@ -81,7 +83,6 @@ listed-kept {b} {v} {w} {t} {ls} K h E =
     let start : (j : ℕ) → j ≤ t .faces → startIn w t j ≡ startIn v t j = λ j k. start-kept K t j (omega arith) in
     record {
       room = rw (K .len) R;
-      gathers = E .gathers;
       faces = E .faces;
       first = start 0 (omega arith) ∙ E .first;
       starts = λ j k. start (suc j) k ∙ E .starts j k ∙ ap (λ (n : ℕ). n + length (usesAt ls j)) (sym (start j (omega arith)));

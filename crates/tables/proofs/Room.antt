@@ -4,9 +4,9 @@ use native.Mathlib.Omega.{arith}
 use Rattle.tables.specs.Layout.{most, planOf, Room}
 
 -- a kept face has three corners or more
-pub plan-fits : (spots count faces len : ℕ) → spots ≤ most → count ≤ most → faces * 3 ≤ count → 8 * (count + spots) + 8 ≤ len → Room len (planOf spots count faces)
+pub plan-fits : (spots count faces ring len : ℕ) → spots ≤ most → count ≤ most → faces * 3 ≤ count → 8 * (count + spots) + 8 ≤ len → Room len (planOf spots count faces ring)
 unfolding planOf
-plan-fits spots count faces len p c f l = record {
+plan-fits spots count faces ring len p c f l = record {
   few = c;
   many = omega arith;
   some = p;
@@ -16,7 +16,6 @@ plan-fits spots count faces len p c f l = record {
   numbers = omega arith;
   places = omega arith;
   named = omega arith;
-  gathers = omega arith;
   owners = omega arith;
   rows = omega arith;
   heads = omega arith;

@@ -9,7 +9,7 @@ use native.Mathlib.Omega.{arith}
 use Rattle.block.specs.declared.crease.CreaseRule.{CreaseRule}
 use Rattle.lists.specs.Loops.{tab}
 use Rattle.lists.proofs.Tabs.{tab-shift, tab-same, map-tab, seg-tab}
-use Rattle.mesh.specs.Soup.{Corner, pointsOf}
+use Rattle.mesh.specs.Soup.{Corner, gathered, pointsOf}
 use Rattle.tables.specs.declared.layout.Plan.{Plan}
 use Rattle.tables.specs.declared.reading.Stretch.{Stretch}
 use Rattle.lists.specs.Parts.{seg, Kept}
@@ -41,9 +41,9 @@ module _ {b : ℕ} {v w : List ℕ} (K : Kept b v w) (t : Plan) where
   unfolding pointIn
   point-kept c h = kept-at K (t .corners + c) h
 
-  pub gather-kept : (c : ℕ) → t .gathers + c < b → gatherIn w t c ≡ gatherIn v t c
+  pub gather-kept : (c : ℕ) → t .corners + c < b → gatherIn w t c ≡ gatherIn v t c
   unfolding gatherIn
-  gather-kept c h = kept-at K (t .gathers + c) h
+  gather-kept c h = ap (gathered (t .ring)) (point-kept c h)
 
   pub owner-kept : (c : ℕ) → t .owners + c < b → ownerIn w t c ≡ ownerIn v t c
   unfolding ownerIn

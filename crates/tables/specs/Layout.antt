@@ -8,9 +8,9 @@ most = 262144
 
 -- points 3P, corners C, first corners F + 1, vertex numbers C, places C, face numbers F, owners C, rows 7F, heads P, nexts C;
 -- and sums 4P, four words for each number that corners are gathered by, for what a crease rule makes once for all corners of one number.
--- Corners are gathered by their points
-unfoldable pub planOf : ℕ → ℕ → ℕ → Plan
-planOf spots count faces =
+-- Points stand in rings of `ring` (FORMAT 10.2), or in none
+unfoldable pub planOf : ℕ → ℕ → ℕ → ℕ → Plan
+planOf spots count faces ring =
     let corners = 3 * spots in
     let starts = corners + count in
     let named = starts + faces + 1 in
@@ -24,9 +24,9 @@ planOf spots count faces =
       spots = spots;
       count = count;
       faces = faces;
+      ring = ring;
       points = 0;
       corners = corners;
-      gathers = corners;
       starts = starts;
       named = named;
       places = places;
@@ -38,7 +38,7 @@ planOf spots count faces =
       sums = nexts + count;
     }
 
--- the tables stand one after another in len words; what is gathered by stands before the vertex numbers
+-- the tables stand one after another in len words
 pub record Room (len : ℕ) (t : Plan) : Type 0 where
   pub few : t .count ≤ most
   pub many : t .faces ≤ most
@@ -46,7 +46,6 @@ pub record Room (len : ℕ) (t : Plan) : Type 0 where
   pub points : t .points + 3 * t .spots ≤ t .corners
   pub corners : t .corners + t .count ≤ t .starts
   pub starts : t .starts + (t .faces + 1) ≤ t .named
-  pub gathers : t .gathers + t .count ≤ t .named
   pub named : t .named + t .count ≤ t .places
   pub places : t .places + t .count ≤ t .numbers
   pub numbers : t .numbers + t .faces ≤ t .owners

@@ -39,10 +39,9 @@ pub record Beside (t : Plan) (w w′ : List ℕ) : Type 0 where
   pub len : length w′ ≡ length w
   pub same : (i : ℕ) → Out (t .corners) (t .count) i → Out (t .starts) (t .faces + 1) i → Out (t .places) (t .count) i → Out (t .numbers) (t .faces) i → getD w′ i 0 ≡ getD w i 0
 
--- the tables hold the kept faces ls; corners are gathered by their points
+-- the tables hold the kept faces ls
 pub record Listed (w : List ℕ) (t : Plan) (ls : List Listing) : Type 0 where
   pub room : Room (length w) t
-  pub gathers : t .gathers ≡ t .corners
   pub faces : length ls ≡ t .faces
   pub first : startIn w t 0 ≡ 0
   pub starts : (j : ℕ) → j < t .faces → startIn w t (suc j) ≡ startIn w t j + length (usesAt ls j)

@@ -7,7 +7,7 @@ use lib.ListN.{length, getD}
 use Rattle.block.specs.declared.crease.CreaseRule.{CreaseRule}
 use Rattle.lists.specs.Loops.{tab}
 use Rattle.mesh.specs.Words.{no2, no3, no4}
-use Rattle.mesh.specs.Soup.{Corner, Face, dense, Frame}
+use Rattle.mesh.specs.Soup.{Corner, gathered, Face, dense, Frame}
 use Rattle.tables.specs.declared.layout.Plan.{Plan}
 use Rattle.tables.specs.declared.reading.Stretch.{Stretch}
 use Rattle.lists.specs.Parts.{seg}
@@ -18,7 +18,7 @@ unfoldable pub pointIn : List ℕ → Plan → ℕ → ℕ
 pointIn w t c = getD w (t .corners + c) 0
 
 unfoldable pub gatherIn : List ℕ → Plan → ℕ → ℕ
-gatherIn w t c = getD w (t .gathers + c) 0
+gatherIn w t c = gathered (t .ring) (pointIn w t c)
 
 unfoldable pub ownerIn : List ℕ → Plan → ℕ → ℕ
 ownerIn w t c = getD w (t .owners + c) 0

@@ -1,4 +1,4 @@
-// FORMAT 4, 8: how many points, corners and kept faces there are, and where each table starts. Tables hold kept faces only.
+// FORMAT 4, 8: how many points, corners and kept faces there are, how many points make a ring, and where each table starts. Tables hold kept faces only.
 ghost use mathlib.Core.Path.{_≡_};
 ghost use Prim.Native.Nat.{_≤_};
 ghost use Rattle.tables.specs.Layout.{most, planOf};
@@ -7,9 +7,9 @@ pub struct Plan {
     pub spots: usize,
     pub count: usize,
     pub faces: usize,
+    pub ring: usize,
     pub points: usize,
     pub corners: usize,
-    pub gathers: usize,
     pub starts: usize,
     pub named: usize,
     pub places: usize,
@@ -22,9 +22,9 @@ pub struct Plan {
 }
 
 // The tables one after another, in the order in which they are written.
-pub fn plan_of(spots: usize, count: usize, faces: usize) -> Plan
+pub fn plan_of(spots: usize, count: usize, faces: usize, ring: usize) -> Plan
     requires { ⌜ (spots ≤ most) × (count ≤ most) × (faces ≤ most) ⌝ }
-    ensures { λ r. ⌜ r ≡ planOf spots count faces ⌝ }
+    ensures { λ r. ⌜ r ≡ planOf spots count faces ring ⌝ }
 {
     let corners = 3 * spots;
     let starts = corners + count;
@@ -39,9 +39,9 @@ pub fn plan_of(spots: usize, count: usize, faces: usize) -> Plan
         spots,
         count,
         faces,
+        ring,
         points: 0,
         corners,
-        gathers: corners,
         starts,
         named,
         places,

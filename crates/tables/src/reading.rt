@@ -2,6 +2,7 @@
 ghost use mathlib.Core.Path.{_≡_};
 ghost use Prim.Native.Nat.{_≤_, _<_};
 ghost use lib.ListN.{length};
+ghost use Rattle.mesh.specs.Soup as spec;
 ghost use Rattle.tables.specs.Layout.{Room};
 ghost use Rattle.tables.specs.Soups.{gatherIn, ownerIn, startIn, Sound, Ends};
 use crate::layout::Plan;
@@ -20,12 +21,26 @@ pub fn wide(x: u32) -> usize
     x as usize
 }
 
+// The number by which corners at a point are gathered (FORMAT 10.2): the last of a ring bears the number of its first.
+fn gathered(ring: usize, p: PointNumber) -> PointNumber
+    ensures { λ r. ⌜ r .0 ≡ spec.gathered ring (p .0) ⌝ }
+{
+    if ring == 0 {
+        return p;
+    }
+    let last = ring - 1;
+    if p.0 % ring == last {
+        return PointNumber(p.0 - last);
+    }
+    p
+}
+
 // The number that a corner is gathered by for normals (FORMAT 10.2).
 pub fn gather_of(work: &[u32], t: Plan, c: CornerNumber) -> PointNumber
     requires { ⌜ Room (length (now work)) t × (c .0 < t .count) ⌝ }
     ensures { λ r. ⌜ r .0 ≡ gatherIn (now (work .entry)) t (c .0) ⌝ }
 {
-    PointNumber(wide(work[t.gathers + c.0]))
+    gathered(t.ring, PointNumber(wide(work[t.corners + c.0])))
 }
 
 // At the number of faces, the number of corners.

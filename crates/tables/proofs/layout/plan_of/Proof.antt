@@ -38,8 +38,8 @@ add-heads c = search needs
 add-nexts : tie.Need-add-nexts
 add-nexts c = search needs
 
-add-t13 : tie.Need-add-t13
-add-t13 c = search needs
+add-t14 : tie.Need-add-t14
+add-t14 c = search needs
 
 returns : tie.Need-returns
 unfolding planOf
@@ -60,5 +60,5 @@ plan-of-spec =
     mul-heads
     add-heads
     add-nexts
-    add-t13
+    add-t14
     returns)

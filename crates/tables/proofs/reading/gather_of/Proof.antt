@@ -1,5 +1,7 @@
+use mathlib.Core.Path.{ap, _∙_}
 use borrow.Author.Needs.{needs}
-use Rattle.tables.specs.Soups.{gatherIn}
+use Rattle.mesh.specs.Soup.{gathered}
+use Rattle.tables.specs.Soups.{pointIn, gatherIn}
 use Rattle.tables.proofs.reading.gather_of.Statement.{statement}
 use Rattle.tables.proofs.reading.gather_of.Tie as tie
 
@@ -15,10 +17,13 @@ shared-slice-read-wide c = search needs
 wide-requires : tie.Need-wide-requires
 wide-requires c κs = search needs
 
+gathered-requires : tie.Need-gathered-requires
+gathered-requires c κs = search needs
+
 returns : tie.Need-returns
-unfolding gatherIn
-returns c = search needs
+unfolding gatherIn pointIn
+returns c = c .gathered .ensures ∙ ap (gathered (c .before .before .before .before .before .before .args .t .ring)) (c .before .wide .ensures)
 
 pub gather-of-spec : {M : Type 1} → statement M
 gather-of-spec =
-    tie.close (tie.spec add-wide mul-wide shared-slice-read-wide wide-requires returns)
+    tie.close (tie.spec add-wide mul-wide shared-slice-read-wide wide-requires gathered-requires returns)
