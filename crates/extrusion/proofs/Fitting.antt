@@ -15,7 +15,7 @@ use Rattle.mesh.specs.declared.texture.Span.{Span}
 use Rattle.mesh.specs.declared.texture.Fit.{Fit}
 use Rattle.mesh.specs.Texture.{widened, spanOf, divisor}
 use Rattle.mesh.specs.Arcs.{at2}
-use Rattle.mesh.specs.Extrusion.{sectionCount, twos, sectionOf, closes, capLength, capFit}
+use Rattle.mesh.specs.Extrusion.{sectionCount, twos, sectionOf, closes, ringOf, capLength, capFit}
 
 pub closes-long : (l : List Pair) (m : ℕ) (p q : Pair) → m ≡ length l → 2 < m → p ≡ at2 l 0 → q ≡ at2 l (m - 1) → (eq (p .s) (q .s) && eq (p .t) (q .t)) ≡ closes l
 unfolding closes
@@ -42,6 +42,18 @@ module _ (bs : List ℕ) (h : Header) (b : List ℕ) (m : ℕ) (eb : b ≡ listB
     where
       go : (l : List Pair) → m ≡ length l → t ≡ closes l → m ≡ capLength l
       go l el et = unfold capLength in rw (← et, e, ← el) refl
+
+  pub ring-closed : (t : Bool) → m ≡ length (twos b m) → t ≡ closes (twos b m) → t ≡ true → m ≡ ringOf (sectionOf bs h)
+  ring-closed t el et e = go (twos b m) el et ∙ ap ringOf section-by
+    where
+      go : (l : List Pair) → m ≡ length l → t ≡ closes l → m ≡ ringOf l
+      go l el et = unfold ringOf in rw (← et, e, ← el) refl
+
+  pub ring-open : (t : Bool) → t ≡ closes (twos b m) → t ≡ false → 0 ≡ ringOf (sectionOf bs h)
+  ring-open t et e = go (twos b m) et ∙ ap ringOf section-by
+    where
+      go : (l : List Pair) → t ≡ closes l → 0 ≡ ringOf l
+      go l et = unfold ringOf in rw (← et, e) refl
 
 pub span-none : (s : Span) (f g : ℕ → Float) → s ≡ spanOf f 0 → s ≡ spanOf g 0
 unfolding spanOf

@@ -4,7 +4,7 @@ ghost use Prim.Native.Nat.{ℕ, _*_, _≤_};
 ghost use Rattle.math.specs.Vector.{zeroF};
 ghost use lib.ListN.{length};
 ghost use Rattle.mesh.specs.Extrusion as spec;
-ghost use Rattle.mesh.specs.Extrusion.{twos, sectionOf, extrusionOf, capLength, capFit};
+ghost use Rattle.mesh.specs.Extrusion.{twos, sectionOf, extrusionOf, ringOf, capLength, capFit};
 ghost use Rattle.mesh.specs.Texture.{spanOf};
 ghost use Rattle.extrusion.specs.Given.{Given};
 use crate::reading::pair_at;
@@ -40,6 +40,18 @@ pub fn cap_length(block: &[u8], h: Header) -> usize
         return m - 1;
     }
     m
+}
+
+// How many points make a ring, whose last counts as its first when faces are gathered; 0 where the cross-section is open.
+pub fn ring_width(block: &[u8], h: Header) -> usize
+    requires { ⌜ Given (now block) h ⌝ }
+    ensures { λ r. ⌜ r ≡ ringOf (sectionOf (now (block .entry)) h) ⌝ }
+{
+    let m = section_count(h);
+    if closes(block::list_part(block, h, 1), m) {
+        return m;
+    }
+    0
 }
 
 // Before the first point.

@@ -12,6 +12,7 @@ mod uv;
 pub use arcs::put_arcs;
 pub use caps::cap_fit;
 pub use caps::cap_length;
+pub use caps::ring_width;
 pub use faces::cap_count;
 pub use listing::list_faces;
 pub use points::put_points;

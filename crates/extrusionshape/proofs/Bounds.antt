@@ -1,5 +1,5 @@
 -- FORMAT 3, 4: the counts and the sizes of an accepted extrusion, and its plan.
-use mathlib.Core.Path.{_≡_, refl, sym, ap, _∙_, subst}
+use mathlib.Core.Path.{_≡_, refl, sym, ap₂, _∙_, subst}
 use mathlib.Core.Bool.{Bool, true, false}
 use mathlib.Core.List.{List}
 use Prim.Native.Nat.{ℕ, _+_, _-_, _*_, _≤_}
@@ -8,7 +8,7 @@ use Rattle.block.specs.declared.kind.Kind.the-variants.{Extrusion}
 use Rattle.block.specs.declared.header.Header.{Header}
 use Rattle.block.specs.declared.settings.Settings.{Settings}
 use Rattle.mesh.specs.Mesh.{Slices}
-use Rattle.mesh.specs.Extrusion.{spineCount, sectionCount, sectionOf, capLength, hasCap}
+use Rattle.mesh.specs.Extrusion.{spineCount, sectionCount, sectionOf, ringOf, capLength, hasCap}
 use Rattle.mesh.specs.Sizes.{one, sideCount, capCount, extrusionSizes, sizesOf}
 use Rattle.tables.specs.declared.layout.Plan.{Plan}
 use Rattle.tables.specs.Layout.{most, planOf}
@@ -32,9 +32,9 @@ module _ (h : Header) (cap : ℕ) {n m c : ℕ} (en : n ≡ spineCount h) (em : 
       → (2 ≤ n) × (2 ≤ m) × (n * m ≤ most) × (4 * ((n - 1) * (m - 1)) + c * cap ≤ most) × (((n - 1) * (m - 1) + c) * 3 ≤ 4 * ((n - 1) * (m - 1)) + c * cap)
   counts-low S = rw (en, em, ec) (S .spine, S .section, S .points, S .corners, faces-third h cap)
 
-  pub plan-by : planOf (n * m) (4 * ((n - 1) * (m - 1)) + c * cap) ((n - 1) * (m - 1) + c) 0 ≡ extrusionPlan h cap
+  pub plan-by : (ring : ℕ) → planOf (n * m) (4 * ((n - 1) * (m - 1)) + c * cap) ((n - 1) * (m - 1) + c) ring ≡ extrusionPlan h cap ring
   unfolding extrusionPlan
-  plan-by = λ i. planOf (en i * em i) (4 * ((en i - 1) * (em i - 1)) + ec i * cap) ((en i - 1) * (em i - 1) + ec i) 0
+  plan-by ring = λ i. planOf (en i * em i) (4 * ((en i - 1) * (em i - 1)) + ec i * cap) ((en i - 1) * (em i - 1) + ec i) ring
 
 -- each face of n corners makes 3 (n - 2) indices
 indices-fit : (h : Header) (cap : ℕ) → 3 * (4 * sideCount h + capCount h cap * cap - 2 * (sideCount h + capCount h cap)) ≤ 6 * sideCount h + capCount h cap * (3 * (cap - 2))
@@ -60,14 +60,14 @@ module _ {bs : List ℕ} {h : Header} {s : Settings} {o : Slices} {w f : ℕ} (A
     unfolding extrusionSizes
     sized = let l = low-by A sizes-are in subst (Sized h) (sym e) (record { spine = given .spine; section = given .section; points = l .0; corners = l .1 })
 
-    module _ {t : Plan} (p : t ≡ extrusionPlan h cap) where
-      pub counted : Counted (extrusionSizes bs h) (sideCount h + capCount h (capLength (sectionOf bs h))) 0 t
+    module _ {ring : ℕ} {t : Plan} (er : ring ≡ ringOf (sectionOf bs h)) (p : t ≡ extrusionPlan h cap ring) where
+      pub counted : Counted (extrusionSizes bs h) (sideCount h + capCount h (capLength (sectionOf bs h))) (ringOf (sectionOf bs h)) t
       unfolding extrusionPlan extrusionSizes
       counted =
           let k : ℕ = capLength (sectionOf bs h) in
-          record { plan = p ∙ ap (extrusionPlan h) e; third = faces-third h k; indices = indices-fit h k }
+          record { plan = p ∙ ap₂ (extrusionPlan h) e er; third = faces-third h k; indices = indices-fit h k }
 
-      pub roomy : Ample (extrusionSizes bs h) (sideCount h + capCount h (capLength (sectionOf bs h))) 0 t w f
+      pub roomy : Ample (extrusionSizes bs h) (sideCount h + capCount h (capLength (sectionOf bs h))) (ringOf (sectionOf bs h)) t w f
       roomy = ample A sizes-are counted
 
       pub planned-at : Planned h cap w t

@@ -6,8 +6,8 @@ use Rattle.block.specs.declared.header.Header.{Header}
 use Rattle.block.specs.declared.settings.Settings.{Settings}
 use Rattle.block.specs.Settings.{settingsOf}
 use Rattle.mesh.specs.Mesh.{mesh}
-use Rattle.mesh.proofs.Gathered.{gathered-alone}
-use Rattle.mesh.specs.Extrusion.{spineCount, sectionCount, sectionOf, extrusionOf, extrusionPoints, capLength, cornerAt, extrusionFrame, extrusionMesh}
+use Rattle.mesh.specs.Soup.{gathered}
+use Rattle.mesh.specs.Extrusion.{spineCount, sectionCount, sectionOf, extrusionOf, extrusionPoints, ringOf, capLength, cornerAt, extrusionFrame, extrusionMesh}
 use Rattle.tables.specs.Listed.{facesWith}
 use Rattle.build.specs.declared.shared.Shared.{Shared}
 use Rattle.shaping.specs.Shared.{plainAttributes, plainShared, frameBy}
@@ -21,13 +21,13 @@ use Rattle.extrusionshape.specs.Shape.{listingsFor, textureOf}
 
 -- what the faces share, as the code has it
 module _ {bs : List ℕ} {h : Header} {sh : Shared} (G : Given bs h) (q : sh ≡ plainShared (h .convex) h) where
-  pub shape : (coord : List ℕ) (cap : ℕ) → Shape bs coord h sh 0 (listingsFor h cap) (textureOf bs) (extrusionCorner (extrusionOf bs))
+  pub shape : (coord : List ℕ) (cap : ℕ) → Shape bs coord h sh (ringOf (sectionOf bs h)) (listingsFor h cap) (textureOf bs) (extrusionCorner (extrusionOf bs))
   unfolding extrusionCorner cornerAt extrusionOf
   shape coord cap =
       let k = G .kind in
       rw q
-      (plain-shape bs coord h (h .convex) 0 (listingsFor h cap) (rw k refl, rw k refl, rw k refl)
-      (λ j l. listed-full (spineCount h) (sectionCount h) cap (h .«begin_cap») (h .«end_cap») j l (G .section)) (λ n u. (refl, sym (gathered-alone (u .point)))) (λ n u. refl) (λ j i l b. refl)
+      (plain-shape bs coord h (h .convex) (ringOf (sectionOf bs h)) (listingsFor h cap) (rw k refl, rw k refl, rw k refl)
+      (λ j l. listed-full (spineCount h) (sectionCount h) cap (h .«begin_cap») (h .«end_cap») j l (G .section)) (λ n u. (refl, ap (λ (g : Header). gathered (ringOf (sectionOf bs g)) (u .point)) (sym (G .head)))) (λ n u. refl) (λ j i l b. refl)
       (λ e n u. rw (ap (λ (g : Header). g .«need_uvs») (sym (G .head)) ∙ e) refl))
 
   module _ {s : Settings} (es : s ≡ settingsOf bs) where

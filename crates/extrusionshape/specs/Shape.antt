@@ -23,9 +23,9 @@ pub record Sized (h : Header) (cap : ℕ) : Type 0 where
   pub points : spineCount h * sectionCount h ≤ most
   pub corners : 4 * sideCount h + capCount h cap * cap ≤ most
 
--- FORMAT 4, 8.4: P points, C corners, and a face for each side and each cap
-unfoldable pub extrusionPlan : Header → ℕ → Plan
-extrusionPlan h cap = planOf (spineCount h * sectionCount h) (4 * sideCount h + capCount h cap * cap) (sideCount h + capCount h cap) 0
+-- FORMAT 4, 8.4: P points, in rings of `ring`, C corners, and a face for each side and each cap
+unfoldable pub extrusionPlan : Header → ℕ → ℕ → Plan
+extrusionPlan h cap ring = planOf (spineCount h * sectionCount h) (4 * sideCount h + capCount h cap * cap) (sideCount h + capCount h cap) ring
 
 -- FORMAT 8.4: the sides and the caps
 abbrev pub listingsFor : Header → ℕ → List Listing

@@ -8,14 +8,14 @@ use extrusion::spine_count;
 use tables::Plan;
 use tables::plan_of;
 
-// The plan for the points, corners and faces of an extrusion whose caps have `cap` corners.
-pub fn plan_extrusion(h: Header, cap: usize) -> Plan
+// The plan for the points, corners and faces of an extrusion whose caps have `cap` corners, and whose points stand in rings of `ring`.
+pub fn plan_extrusion(h: Header, cap: usize, ring: usize) -> Plan
     requires { ⌜ Sized h cap ⌝ }
-    ensures { λ r. ⌜ r ≡ extrusionPlan h cap ⌝ }
+    ensures { λ r. ⌜ r ≡ extrusionPlan h cap ring ⌝ }
 {
     let n = spine_count(h);
     let m = section_count(h);
     let sides = (n - 1) * (m - 1);
     let caps = cap_count(h, cap);
-    plan_of(n * m, 4 * sides + caps * cap, sides + caps, 0)
+    plan_of(n * m, 4 * sides + caps * cap, sides + caps, ring)
 }

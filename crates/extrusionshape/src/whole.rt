@@ -10,6 +10,7 @@ use block::Header;
 use block::Settings;
 use build::build;
 use extrusion::cap_length;
+use extrusion::ring_width;
 use lent::Counts;
 use shaping::plain_shared;
 
@@ -36,7 +37,8 @@ pub fn make_extrusion(
         r × Cleared (now (work .entry)) (now (work .exit)) (now (floats .entry)) (now (floats .exit)) ⌝ }
 {
     let cap = cap_length(block, h);
-    let t = plan_extrusion(h, cap);
+    let ring = ring_width(block, h);
+    let t = plan_extrusion(h, cap, ring);
     let shared = plain_shared(h, h.convex);
     let coord = bits::part(block, 0, 0);
     put_tables(block, h, s, cap, shared, t, work, floats);

@@ -23,4 +23,5 @@ pub mod LineSoup
 pub mod Shapes
 pub mod ShapeRows
 pub mod Within
+pub mod Seam
 pub mod Budget

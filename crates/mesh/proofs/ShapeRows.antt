@@ -29,7 +29,7 @@ use Rattle.block.proofs.TableRows.{gridHeader, gridRest, grid}
 use Rattle.lists.specs.Loops.{tab}
 use Rattle.lists.specs.Lists.{mapN, joinN, has, place, meet, firsts, sameWords, flat}
 use Rattle.mesh.specs.Words.{words3, no2, no3, no4, floats, bits, pointWords}
-use Rattle.mesh.specs.Soup.{Corner, Frame}
+use Rattle.mesh.specs.Soup.{Corner, gathered, pointsOf, Frame}
 use Rattle.mesh.specs.Vertices.{sameKey}
 use Rattle.mesh.specs.Normals.{orElse}
 use Rattle.mesh.specs.Mesh.{Mesh, slicesOf}
@@ -40,7 +40,7 @@ use Rattle.mesh.specs.Grid.{gridPoint, gridPoints, gridOf, gridDefault, 
 use Rattle.mesh.specs.Frames.{Axes, at, firstOf, lastOf, closed, alongEnd, yOwn, firstY, yAt, bend, zEnd, zOwn, firstZ, pickZ, prevZ, upright, bent, straight, axesAt}
 use Rattle.mesh.specs.SourceFrames.{forward, backward, first, ys, zRaw, copyEnds, zs, walk, sourceFrames}
 use Rattle.mesh.specs.Arcs.{at2, arcs2, arcs3, lengthTo, share, arcs, step3, step2}
-use Rattle.mesh.specs.Extrusion.{sectionOf, extrusionOf, turnIn, scaleAt, turnAt, local, placed, rowWords, rowAt, extrusionPoints, sideTexture, capFit, capTexture, cornerAt, sideCorner, capCorner, sides, closes, capLength, capFace, caps, extrusionFaces}
+use Rattle.mesh.specs.Extrusion.{twos, sectionOf, extrusionOf, turnIn, scaleAt, turnAt, local, placed, rowWords, rowAt, extrusionPoints, sideTexture, capFit, capTexture, cornerAt, sideCorner, capCorner, sides, closes, ringOf, capLength, capFace, caps, extrusionFaces}
 use Rattle.mesh.specs.Lines.{somes, joined, itemOf, itemsOf, lineKeys, lineEnds, lineVertices, lineIndices, linesOf, lineSetMesh}
 use Rattle.mesh.specs.Sizes.{Sizes, named, linesAfter, lineSetSizes, gridSizes, extrusionSizes, sizesOf, isNoShape, isOverCorners}
 use Rattle.mesh.specs.Result.{blockMesh, madeOf, made}
@@ -172,7 +172,7 @@ pub prism-soup : (extrusionPoints (extrusionOf prism)
     ≡ map (map plain) ((0 ∷ 1 ∷ 4 ∷ 3 ∷ []) ∷ (1 ∷ 2 ∷ 5 ∷ 4 ∷ []) ∷ (2 ∷ 1 ∷ 0 ∷ []) ∷ (3 ∷ 4 ∷ 5 ∷ []) ∷ []))
     × (sizesOf prism (headerOf prism) ≡ record { points = 6; corners = 14; indices = 18 })
     × (isNoShape (headerOf prism) ≡ false)
-unfolding extrusionPoints rowAt rowWords extrusionOf sectionOf turnIn scaleAt turnAt local placed at axesAt firstY yAt firstZ firstOf lastOf yOwn alongEnd closed zOwn zEnd bend prevZ pickZ orElse straight between turnTo halfTurn shortestArc unitOf vlen rootOf extrusionFaces sides caps capFace capLength closes sideCorner capCorner cornerAt at2 tabs tab flat quad headerOf countsOf editionOf edition1 settingsOf transformOf finiteTransform pairOr creaseOf placeOf listAt listSize widths wordsIn field ofInt ofBits toBits add sub mul div neg lt le eq sizesOf extrusionSizes isNoShape
+unfolding extrusionPoints rowAt rowWords extrusionOf sectionOf turnIn scaleAt turnAt local placed at axesAt firstY yAt firstZ firstOf lastOf yOwn alongEnd closed zOwn zEnd bend prevZ pickZ orElse straight between turnTo halfTurn shortestArc unitOf vlen rootOf extrusionFaces sides caps capFace capLength closes ringOf gathered sideCorner capCorner cornerAt at2 tabs tab flat quad headerOf countsOf editionOf edition1 settingsOf transformOf finiteTransform pairOr creaseOf placeOf listAt listSize widths wordsIn field ofInt ofBits toBits add sub mul div neg lt le eq sizesOf extrusionSizes isNoShape
 prism-soup = (refl, refl, refl, refl)
 
 -- parts of the triangle's outline: 1 and 1 + √5 of 3 + √5
@@ -192,6 +192,26 @@ pub prism-texture : map (map (λ (c : Corner). c .texture)) (extrusionFaces (ext
     ∷ []
 unfolding extrusionOf sectionOf at extrusionFaces sides caps capFace capLength closes sideCorner capCorner cornerAt sideTexture capTexture capFit uvWords arcs share lengthTo step3 step2 widened spanOf divisor minOf maxOf choice isZero negative isNan at2 tabs tab flat quad vlen rootOf headerOf countsOf editionOf edition1 settingsOf transformOf finiteTransform pairOr creaseOf placeOf listAt listSize widths wordsIn field ofInt ofBits toBits add sub mul div lt le eq
 prism-texture = refl
+
+-- the last column, points 3 and 7, is gathered by the first's numbers, 0 and 4; the points are its own
+pub prism-seam : (map (map (λ (c : Corner). c .gather)) (extrusionFaces (extrusionOf closedPrism))
+    ≡ (0 ∷ 1 ∷ 5 ∷ 4 ∷ []) ∷ (1 ∷ 2 ∷ 6 ∷ 5 ∷ []) ∷ (2 ∷ 0 ∷ 4 ∷ 6 ∷ []) ∷ (2 ∷ 1 ∷ 0 ∷ []) ∷ (4 ∷ 5 ∷ 6 ∷ []) ∷ [])
+    × (map pointsOf (extrusionFaces (extrusionOf closedPrism))
+    ≡ (0 ∷ 1 ∷ 5 ∷ 4 ∷ []) ∷ (1 ∷ 2 ∷ 6 ∷ 5 ∷ []) ∷ (2 ∷ 3 ∷ 7 ∷ 6 ∷ []) ∷ (2 ∷ 1 ∷ 0 ∷ []) ∷ (4 ∷ 5 ∷ 6 ∷ []) ∷ [])
+unfolding extrusionOf sectionOf extrusionFaces sides caps capFace capLength closes ringOf gathered sideCorner capCorner cornerAt at2 tabs tab flat quad headerOf countsOf editionOf edition1 placeOf listAt listSize widths wordsIn field ofBits eq
+prism-seam = (refl, refl)
+
+-- FORMAT 8.4: more than two points; -0 equals 0; a NaN equals nothing, not itself, and elsewhere prevents nothing
+abbrev pairs : List ℕ → ℕ → List Pair
+pairs ws n = twos (bytesOf ws) n
+
+pub closing-rows : (closes (pairs (0 ∷ w1 ∷ 0 ∷ w1 ∷ []) 2) ≡ false)
+    × (closes (pairs (0 ∷ 0 ∷ w1 ∷ 0 ∷ 0x8000_0000 ∷ 0 ∷ []) 3) ≡ true)
+    × (closes (pairs (0x7fc0_0000 ∷ 0 ∷ w1 ∷ 0 ∷ 0x7fc0_0000 ∷ 0 ∷ []) 3) ≡ false)
+    × (closes (pairs (0 ∷ 0 ∷ 0x7fc0_0000 ∷ 0 ∷ 0 ∷ 0 ∷ []) 3) ≡ true)
+    × (closes (pairs (0 ∷ 0 ∷ w1 ∷ 0 ∷ 0 ∷ w1 ∷ []) 3) ≡ false)
+unfolding closes at2 tab field ofBits toBits eq
+closing-rows = (refl, refl, refl, refl, refl)
 
 -- ---- points along other spines, as the source makes them
 

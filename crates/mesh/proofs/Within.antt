@@ -19,17 +19,18 @@ use Rattle.lists.specs.Loops.{tab, All}
 use Rattle.lists.proofs.Tabs.{tab-at}
 use Rattle.lists.specs.Lists.{mapN}
 use Rattle.mesh.specs.Words.{no2, no3, floats}
-use Rattle.mesh.specs.Soup.{Corner, Face}
+use Rattle.mesh.specs.Soup.{Corner, gathered, Face}
 use Rattle.mesh.specs.Vertices.{Key}
 use Rattle.mesh.specs.FaceSet.{Rest, pointCount, colourOf, cornerBy, cornerOf, faceOf, facesOf}
 use Rattle.mesh.specs.Quads.{tabs, quad}
 use Rattle.mesh.specs.Grid.{xDimension, zDimension, gridCorner, gridFace, gridFaces}
 use Rattle.mesh.specs.Frames.{at}
-use Rattle.mesh.specs.Extrusion.{Extrusion, extrusionOf, spineCount, pointNumber, cornerAt, sideCorner, capCorner, sides, closes, capLength, capFace, faceIf, hasCap, caps, extrusionFaces}
+use Rattle.mesh.specs.Extrusion.{Extrusion, extrusionOf, spineCount, pointNumber, cornerAt, sideCorner, capCorner, sides, closes, ringOf, capLength, capFace, faceIf, hasCap, caps, extrusionFaces}
 use Rattle.mesh.specs.Lines.{these, somes, itemOf, itemsOf, lineKeys, cornerFor, lineFaces}
 use Rattle.lists.proofs.Lists.{All-append, All-by, All-flat, All-mapN}
 use Rattle.lists.proofs.Numbers.{cell}
 use Rattle.lists.proofs.Totals.{tab-reverse}
+use Rattle.mesh.proofs.Gathered.{gathered-le}
 
 -- a face whose corners are within n points
 abbrev pub Within : ℕ → Face → Type 0
@@ -39,10 +40,9 @@ pub All-tabs : {A : Type 0} (Q : A → Type 0) (f : ℕ → ℕ → A) (n m : �
 unfolding tabs
 All-tabs Q f n m h = All-flat Q _ (All-by (λ (x : List _). All Q x) (λ i. tab (f i) m 0) n (λ i l. All-by Q (f i) m (λ j k. h i j l k)))
 
-quad-within : (n : ℕ) (f : ℕ → ℕ → Corner) (a b : ℕ) → ((i j : ℕ) → i < a → j < b → (f i j .point < n) × (f i j .gather < n))
-    → (i j : ℕ) → i + 1 < a → j + 1 < b → Within n (quad f i j)
+quad-all : (P : Corner → Type 0) (f : ℕ → ℕ → Corner) (a b : ℕ) → ((i j : ℕ) → i < a → j < b → P (f i j)) → (i j : ℕ) → i + 1 < a → j + 1 < b → All P (quad f i j)
 unfolding quad
-quad-within n f a b h i j p q =
+quad-all P f a b h i j p q =
     (h i j (omega arith) (omega arith), (h i (j + 1) (omega arith) q, (h (i + 1) (j + 1) p q, (h (i + 1) j p (omega arith), tt))))
 
 -- ---- face set and line set
@@ -108,7 +108,7 @@ grid-within missing G =
     let z : ℕ = zDimension (G .head) in
     All-tabs (Within (x * z)) (gridFace missing G) (z - 1) (x - 1)
     (λ j i p q.
-    quad-within (x * z) (gridCorner missing G (i + j * (x - 1))) x z (grid-corner missing G (i + j * (x - 1))) i j (omega arith) (omega arith))
+    quad-all (λ (c : Corner). (c .point < x * z) × (c .gather < x * z)) (gridCorner missing G (i + j * (x - 1))) x z (grid-corner missing G (i + j * (x - 1))) i j (omega arith) (omega arith))
 
 -- ---- extrusion
 
@@ -121,46 +121,49 @@ module _ (E : Extrusion) where
       go true = omega arith
       go false = omega arith
 
+  -- what holds of the corners of sides and caps holds of all
+  module _ (P : Corner → Type 0) (side : (i j : ℕ) → i < length (E .spine) → j < length (E .section) → P (sideCorner E i j))
+      (cap : (i j : ℕ) → i < length (E .spine) → j < length (E .section) → P (capCorner E i j)) where
+    cap-all : (i : ℕ) → i < length (E .spine) → All P (capFace E i)
+    unfolding capFace
+    cap-all i p = All-by P (capCorner E i) (capLength (E .section)) (λ j q. cap i j p (omega (arith, cap-fits)))
+
+    turned-all : (i : ℕ) → i < length (E .spine) → All P (reverse (capFace E i))
+    unfolding capFace
+    turned-all i p =
+        subst (λ (f : Face). All P f) (sym (tab-reverse (capCorner E i) (capLength (E .section))))
+        (All-by P (λ j. capCorner E i (capLength (E .section) - 1 - j)) (capLength (E .section))
+        (λ j q. cap i (capLength (E .section) - 1 - j) p (omega (arith, cap-fits))))
+
+    if-all : (b : Bool) (f : Face) → All P f → All (λ (f : Face). All P f) (faceIf b f)
+    if-all true f h = (h, tt)
+    if-all false f h = tt
+
+    pub extrusion-all : 1 ≤ length (E .spine) → All (λ (f : Face). All P f) (extrusionFaces E)
+    unfolding extrusionFaces sides caps
+    extrusion-all h =
+        let n : ℕ = length (E .spine) in
+        let m : ℕ = length (E .section) in
+        let k : ℕ = capLength (E .section) in
+        All-append (λ (f : Face). All P f) (sides E) (caps E)
+        (All-tabs (λ (f : Face). All P f) (quad (sideCorner E)) (n - 1) (m - 1) (λ i j p q. quad-all P (sideCorner E) n m side i j (omega arith) (omega arith)))
+        (All-append (λ (f : Face). All P f) (faceIf (hasCap (E .head .«begin_cap») k) (reverse (capFace E 0))) (faceIf (hasCap (E .head .«end_cap») k) (capFace E (n - 1)))
+        (if-all (hasCap (E .head .«begin_cap») k) (reverse (capFace E 0)) (turned-all 0 (omega arith)))
+        (if-all (hasCap (E .head .«end_cap») k) (capFace E (n - 1)) (cap-all (n - 1) (omega arith))))
+
   point-below : (i j : ℕ) → i < length (E .spine) → j < length (E .section) → pointNumber (length (E .section)) i j < length (E .spine) * length (E .section)
   point-below i j p q = omega (arith, cell j i (length (E .section)) (length (E .spine)) q p)
 
-  side-corner : (i j : ℕ) → i < length (E .spine) → j < length (E .section)
-      → (sideCorner E i j .point < length (E .spine) * length (E .section)) × (sideCorner E i j .gather < length (E .spine) * length (E .section))
-  unfolding sideCorner cornerAt
-  side-corner i j p q = (point-below i j p q, point-below i j p q)
-
-  cap-corner : (i j : ℕ) → i < length (E .spine) → j < capLength (E .section)
-      → (capCorner E i j .point < length (E .spine) * length (E .section)) × (capCorner E i j .gather < length (E .spine) * length (E .section))
-  unfolding capCorner cornerAt
-  cap-corner i j p q = let h : j < length (E .section) = omega (arith, cap-fits) in (point-below i j p h, point-below i j p h)
-
-  cap-within : (i : ℕ) → i < length (E .spine) → Within (length (E .spine) * length (E .section)) (capFace E i)
-  unfolding capFace
-  cap-within i p = All-by _ (capCorner E i) (capLength (E .section)) (λ j q. cap-corner i j p q)
-
-  turned-within : (i : ℕ) → i < length (E .spine) → Within (length (E .spine) * length (E .section)) (reverse (capFace E i))
-  unfolding capFace
-  turned-within i p =
-      subst (λ (f : Face). Within (length (E .spine) * length (E .section)) f) (sym (tab-reverse (capCorner E i) (capLength (E .section))))
-      (All-by _ (λ j. capCorner E i (capLength (E .section) - 1 - j)) (capLength (E .section))
-      (λ j q. cap-corner i (capLength (E .section) - 1 - j) p (omega arith)))
-
-  if-within : (n : ℕ) (b : Bool) (f : Face) → Within n f → All (Within n) (faceIf b f)
-  if-within n true f h = (h, tt)
-  if-within n false f h = tt
+  -- a corner is gathered by its point, or by one before it
+  gather-below : (i j : ℕ) → i < length (E .spine) → j < length (E .section)
+      → gathered (ringOf (E .section)) (pointNumber (length (E .section)) i j) < length (E .spine) * length (E .section)
+  gather-below i j p q = omega (arith, point-below i j p q, gathered-le (ringOf (E .section)) (pointNumber (length (E .section)) i j))
 
   pub extrusion-within : 1 ≤ length (E .spine) → All (Within (length (E .spine) * length (E .section))) (extrusionFaces E)
-  unfolding extrusionFaces sides caps
+  unfolding sideCorner capCorner cornerAt
   extrusion-within h =
-      let n : ℕ = length (E .spine) in
-      let m : ℕ = length (E .section) in
-      let k : ℕ = capLength (E .section) in
-      All-append (Within (n * m)) (sides E) (caps E)
-      (All-tabs (Within (n * m)) (quad (sideCorner E)) (n - 1) (m - 1)
-      (λ i j p q. quad-within (n * m) (sideCorner E) n m side-corner i j (omega arith) (omega arith)))
-      (All-append (Within (n * m)) (faceIf (hasCap (E .head .«begin_cap») k) (reverse (capFace E 0))) (faceIf (hasCap (E .head .«end_cap») k) (capFace E (n - 1)))
-      (if-within (n * m) (hasCap (E .head .«begin_cap») k) (reverse (capFace E 0)) (turned-within 0 (omega arith)))
-      (if-within (n * m) (hasCap (E .head .«end_cap») k) (capFace E (n - 1)) (cap-within (n - 1) (omega arith))))
+      let n : ℕ = length (E .spine) * length (E .section) in
+      extrusion-all (λ (c : Corner). (c .point < n) × (c .gather < n)) (λ i j p q. (point-below i j p q, gather-below i j p q)) (λ i j p q. (point-below i j p q, gather-below i j p q)) h
 
 -- ---- what an extrusion reads
 

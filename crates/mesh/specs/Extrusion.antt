@@ -22,7 +22,7 @@ use Rattle.block.specs.Texture.{pairOf, uvWords}
 use Rattle.lists.specs.Loops.{tab}
 use Rattle.lists.specs.Lists.{flat}
 use Rattle.mesh.specs.Words.{words3 as wordsOf, no2, no3, no4, floats, bits}
-use Rattle.mesh.specs.Soup.{Corner, Face, Frame}
+use Rattle.mesh.specs.Soup.{Corner, gathered, Face, Frame}
 use Rattle.mesh.specs.Mesh.{Mesh, mesh}
 use Rattle.mesh.specs.declared.texture.Span.{Span}
 use Rattle.mesh.specs.declared.texture.Fit.{Fit}
@@ -136,11 +136,28 @@ capTexture f p = record { s = along (p .s) (f .«s_low») (f .by); t = along (p 
 
 -- ---- faces
 
+-- FORMAT 8.4, extrusion (cs_closed): more than two points, and the last equal to the first as f32
+unfoldable pub closes : List Pair → Bool
+closes cs =
+    let a = at2 cs 0 in
+    let b = at2 cs (length cs - 1) in
+    ltb 2 (length cs) && (eq (a .s) (b .s) && eq (a .t) (b .t))
+
+-- FORMAT 8.4, 10.2: where the cross-section closes, the points at a spine point are a ring
+unfoldable pub ringOf : List Pair → ℕ
+ringOf cs = cond (closes cs) (length cs) 0
+
 -- FORMAT 8.4, 7.3: no colour and no normal; texture where it is wanted
 unfoldable pub cornerAt : Extrusion → ℕ → Words2 → Corner
 cornerAt E p st =
     let uv = uvWords (E .head .transformed) (E .settings .transform) st in
-    record { point = p; gather = p; given = no3; colour = no4; texture = cond (E .head .«need_uvs») uv no2 }
+    record {
+      point = p;
+      gather = gathered (ringOf (E .section)) p;
+      given = no3;
+      colour = no4;
+      texture = cond (E .head .«need_uvs») uv no2;
+    }
 
 -- FORMAT 8.4: the number of point j in row i, of rows of m
 abbrev pub pointNumber : ℕ → ℕ → ℕ → ℕ
@@ -156,13 +173,6 @@ capCorner E i j = cornerAt E (pointNumber (length (E .section)) i j) (capTexture
 -- FORMAT 8.4, extrusion (faces): the sides, row by row
 unfoldable pub sides : Extrusion → List Face
 sides E = tabs (quad (sideCorner E)) (length (E .spine) - 1) (length (E .section) - 1)
-
--- FORMAT 8.4, extrusion (cs_closed): more than two points, and the last equal to the first as f32
-unfoldable pub closes : List Pair → Bool
-closes cs =
-    let a = at2 cs 0 in
-    let b = at2 cs (length cs - 1) in
-    ltb 2 (length cs) && (eq (a .s) (b .s) && eq (a .t) (b .t))
 
 -- FORMAT 8.4, extrusion (cap_len): without a closing point
 unfoldable pub capLength : List Pair → ℕ

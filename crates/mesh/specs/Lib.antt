@@ -14,6 +14,7 @@ pub mod Frames
 pub mod SourceFrames
 pub mod Arcs
 pub mod Extrusion
+pub mod SourceGather
 pub mod Lines
 pub mod Primitives
 pub mod Sizes

@@ -14,8 +14,8 @@ use Rattle.tables.specs.Listed.{Use, Listing, noUse, noListing, usesAt}
 use Rattle.soups.specs.Keyed.{Reads}
 use Rattle.build.specs.declared.shared.Shared.{Shared}
 
--- FORMAT 5, 7: of a block with header h and with coordIndex `coord`: each listed face has three corners or more; points stand in rings of `ring`; a corner reads its normal and colour from the
--- block, and its texture is what f writes, or nothing where none is made; what is made is what the header asks for
+-- FORMAT 5, 7: of a block with header h and with coordIndex `coord`: each listed face has three corners or more; points stand in rings of `ring`; a corner
+-- reads its normal and colour from the block, and its texture is what f writes, or nothing where none is made; what is made is what the header asks for
 pub record Shape (bs coord : List ℕ) (h : Header) (sh : Shared) (ring : ℕ) (ls : List Listing) (f : ℕ → Use → Words2) (corner : ℕ → Use → Corner) : Type 0 where
   pub long : (j : ℕ) → j < length ls → 3 ≤ length (usesAt ls j)
   pub reads : (floats : List Float) → Reads (record { block = bs; coord = coord; floats = floats }) (sh .attributes) (sh .widths) ring corner

@@ -17,7 +17,8 @@ use Rattle.corners.specs.Corner.{textureAt}
 use Rattle.soups.specs.Prepared.{Prepared}
 use Rattle.build.specs.declared.shared.Shared.{Shared}
 
--- FORMAT 4: t is the plan of P points, in rings of `ring`, C corners and n faces, where z has P and C; a face has three corners or more, and z room for the indices of its triangles
+-- FORMAT 4: t is the plan of P points, in rings of `ring`, C corners and n faces, where z has P and C; a face has three corners or more, and z room for the
+-- indices of its triangles
 pub record Counted (z : Sizes) (n ring : ℕ) (t : Plan) : Type 0 where
   pub plan : t ≡ planOf (z .points) (z .corners) n ring
   pub third : n * 3 ≤ z .corners

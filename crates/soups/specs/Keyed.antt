@@ -17,7 +17,8 @@ use Rattle.corners.specs.declared.attributes.Attributes.{Attributes}
 use Rattle.corners.specs.Laid.{tablesOf}
 use Rattle.corners.specs.Corner.{Lent, textureAt}
 
--- what a corner is made of: its point, and the number that it is gathered by, where points stand in rings of `ring`; where normals are supplied, the one that the block has at its place or face; its colour and texture, where they are made
+-- what a corner is made of: its point; the number that it is gathered by, where points stand in rings of `ring`; where normals are supplied, the one that the
+-- block has at its place or face; its colour and texture, where they are made
 pub record Reads (L : Lent) (a : Attributes) (widths : Widths) (ring : ℕ) (corner : ℕ → Use → Corner) : Type 0 where
   pub point : (n : ℕ) (u : Use) → (corner n u .point ≡ u .point) × (corner n u .gather ≡ gathered ring (u .point))
   pub given : a .supplied ≡ true → (n : ℕ) (u : Use) → corner n u .given ≡ get3At (L .block) (L .coord) (a .normals) (u .place) n no3

@@ -42,7 +42,7 @@ plan-of-requires : tie.Need-plan-of-requires
 plan-of-requires c κs = let q = counts-low (c .before .before .before .args .h) (c .before .before .before .args .cap) (c .before .before .spine-count .ensures) (c .before .section-count .ensures) (c .cap-count .ensures .0) (c .before .before .before .pre) in (q .2, q .3, omega (arith, q .3, q .4))
 
 returns : tie.Need-returns
-returns c = c .plan-of .ensures ∙ plan-by (c .before .before .before .before .args .h) (c .before .before .before .before .args .cap) (c .before .before .before .spine-count .ensures) (c .before .before .section-count .ensures) (c .before .cap-count .ensures .0)
+returns c = c .plan-of .ensures ∙ plan-by (c .before .before .before .before .args .h) (c .before .before .before .before .args .cap) (c .before .before .before .spine-count .ensures) (c .before .before .section-count .ensures) (c .before .cap-count .ensures .0) (c .before .before .before .before .args .ring)
 
 pub plan-extrusion-spec : {M : Type 1} → statement M
 plan-extrusion-spec =

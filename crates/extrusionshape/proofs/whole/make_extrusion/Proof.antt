@@ -14,8 +14,11 @@ use Rattle.extrusionshape.proofs.whole.make_extrusion.Tie as tie
 cap-length-requires : tie.Need-cap-length-requires
 cap-length-requires c κs = given (c .before .before .before .before .before .before .before .before .before .pre)
 
+ring-width-requires : tie.Need-ring-width-requires
+ring-width-requires c κs = given (c .before .before .before .before .before .before .before .before .before .before .pre)
+
 plan-extrusion-requires : tie.Need-plan-extrusion-requires
-plan-extrusion-requires c κs = sized (c .before .before .before .before .before .before .before .before .before .before .pre) (c .cap-length .ensures)
+plan-extrusion-requires c κs = sized (c .before .before .before .before .before .before .before .before .before .before .before .pre) (c .before .cap-length .ensures)
 
 plain-shared-requires : tie.Need-plain-shared-requires
 plain-shared-requires c κs = search needs
@@ -27,8 +30,9 @@ put-tables-requires : tie.Need-put-tables-requires
 put-tables-requires c κs =
     let c4 = c .before .before .before .before in
     let c5 = c4 .before in
-    let c15 = c5 .before .before .before .before .before .before .before .before .before .before in
-    (given (c15 .pre), planned-at (c15 .pre) (c5 .cap-length .ensures) (c4 .plan-extrusion .ensures), arcs-room (c15 .pre) (c5 .cap-length .ensures) (c4 .plan-extrusion .ensures), rows-room (c15 .pre) (c5 .cap-length .ensures) (c4 .plan-extrusion .ensures))
+    let c6 = c5 .before in
+    let c16 = c6 .before .before .before .before .before .before .before .before .before .before in
+    (given (c16 .pre), planned-at (c16 .pre) (c6 .cap-length .ensures) (c5 .ring-width .ensures) (c4 .plan-extrusion .ensures), arcs-room (c16 .pre) (c6 .cap-length .ensures) (c5 .ring-width .ensures) (c4 .plan-extrusion .ensures), rows-room (c16 .pre) (c6 .cap-length .ensures) (c5 .ring-width .ensures) (c4 .plan-extrusion .ensures))
 
 texture-where-requires : tie.Need-texture-where-requires
 unfolding plainShared
@@ -37,20 +41,21 @@ texture-where-requires c κs =
     let c10 = c6 .before .before .before .before in
     let c11 = c10 .before in
     let c12 = c11 .before in
-    let c22 = c12 .before .before .before .before .before .before .before .before .before .before in
+    let c13 = c12 .before in
+    let c23 = c13 .before .before .before .before .before .before .before .before .before .before in
     let T = c6 .put-tables .ensures in
-    let G = roomy (c22 .pre) (c12 .cap-length .ensures) (c11 .plan-extrusion .ensures) in
-    (given (c22 .pre), c22 .pre .accepted .settings, ap (λ (x : Shared). x .widths) (c10 .plain-shared .ensures), T .1, omega (arith, G .floats, T .0 .size), textures-asked (planned-at (c22 .pre) (c12 .cap-length .ensures) (c11 .plan-extrusion .ensures)) (omega (arith, G .textures, T .0 .len)) (faces-held (T .0)))
+    let G = roomy (c23 .pre) (c13 .cap-length .ensures) (c12 .ring-width .ensures) (c11 .plan-extrusion .ensures) in
+    (given (c23 .pre), c23 .pre .accepted .settings, ap (λ (x : Shared). x .widths) (c10 .plain-shared .ensures), T .1, omega (arith, G .floats, T .0 .size), textures-asked (planned-at (c23 .pre) (c13 .cap-length .ensures) (c12 .ring-width .ensures) (c11 .plan-extrusion .ensures)) (omega (arith, G .textures, T .0 .len)) (faces-held (T .0)))
 
 build-requires : tie.Need-build-requires
 build-requires c κs =
     let c10 = c .before .before .before .before .before .before .before .before .before .before in
     let c17 = c10 .before .before .before .before .before .before .before in
     let c21 = c17 .before .before .before .before in
-    let c22 = c21 .before in
-    let c33 = c22 .before .before .before .before .before .before .before .before .before .before .before in
-    ready (c33 .pre) (sizes-are (c33 .pre)) (counted (c33 .pre) (c22 .before .cap-length .ensures) (c22 .plan-extrusion .ensures)) (c17 .put-tables .ensures .0) (c10 .texture-where .ensures)
-    (shape (given (c33 .pre)) (c21 .plain-shared .ensures) _ _)
+    let c23 = c21 .before .before in
+    let c34 = c23 .before .before .before .before .before .before .before .before .before .before .before in
+    ready (c34 .pre) (sizes-are (c34 .pre)) (counted (c34 .pre) (c23 .before .cap-length .ensures) (c23 .ring-width .ensures) (c21 .before .plan-extrusion .ensures)) (c17 .put-tables .ensures .0) (c10 .texture-where .ensures)
+    (shape (given (c34 .pre)) (c21 .plain-shared .ensures) _ _)
 
 same-length : tie.Need-same-length
 same-length c = search needs
@@ -87,17 +92,19 @@ returns c =
     let c27 = c16 .before .before .before .before .before .before .before .before .before .before .before in
     let c34 = c27 .before .before .before .before .before .before .before in
     let c38 = c34 .before .before .before .before in
-    let c40 = c38 .before .before in
-    let c50 = c40 .before .before .before .before .before .before .before .before .before .before in
-    let G = given (c50 .pre) in
-    shaped (c50 .pre) (sizes-are (c50 .pre)) (counted (c50 .pre) (c40 .cap-length .ensures) (c38 .before .plan-extrusion .ensures)) (c34 .put-tables .ensures .0) (c27 .texture-where .ensures)
-    (shape G (c38 .plain-shared .ensures) _ _) (mesh-is G (c38 .plain-shared .ensures) (c50 .pre .accepted .settings) (c40 .cap-length .ensures)) (c16 .build .ensures)
+    let c39 = c38 .before in
+    let c41 = c39 .before .before in
+    let c51 = c41 .before .before .before .before .before .before .before .before .before .before in
+    let G = given (c51 .pre) in
+    shaped (c51 .pre) (sizes-are (c51 .pre)) (counted (c51 .pre) (c41 .cap-length .ensures) (c39 .before .ring-width .ensures) (c39 .plan-extrusion .ensures)) (c34 .put-tables .ensures .0) (c27 .texture-where .ensures)
+    (shape G (c38 .plain-shared .ensures) _ _) (mesh-is G (c38 .plain-shared .ensures) (c51 .pre .accepted .settings) (c41 .cap-length .ensures)) (c16 .build .ensures)
 
 pub make-extrusion-spec : {M : Type 1} → statement M
 make-extrusion-spec =
     tie.close
     (tie.spec
     cap-length-requires
+    ring-width-requires
     plan-extrusion-requires
     plain-shared-requires
     part-requires
