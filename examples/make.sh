@@ -8,7 +8,7 @@ program=${SITEMESH:-target/bin/sitemesh}
 site='ground hospital duct mast ambulance paths'
 parts='drum cabinet beacon dome marks'
 bay='hall gables roof'
-for name in $site annex $bay wing gap; do
+for name in $site annex $bay wing gap pole; do
     python3 tools/block.py "examples/$name.txt" "examples/$name.block"
     "$program" < "examples/$name.block" > "examples/$name.mesh"
 done
@@ -22,6 +22,7 @@ python3 tools/mesh.py svg examples/{hall,gables,roof}.mesh > examples/bay.svg
 for name in wing gap; do
     python3 tools/mesh.py svg --open "examples/$name.mesh" > "examples/$name.svg"
 done
+python3 tools/mesh.py svg --smooth --turn 105 --tilt 20 examples/pole.mesh > docs/mast-after.svg
 cc -I hosts hosts/call.c target/staticlib/libhost.a -o target/call
 target/call examples/annex.block grey > examples/grey/annex.mesh
 python3 tools/mesh.py svg examples/grey/annex.mesh > examples/annex.svg

@@ -6,12 +6,14 @@
     python3 tools/mesh.py svg examples/site.scene > site.svg
     python3 tools/mesh.py closed examples/gap.mesh
     python3 tools/mesh.py svg --open examples/gap.mesh > gap.svg
+    python3 tools/mesh.py svg --smooth examples/pole.mesh > pole.svg
 
 NOT PROVED: this tool is plain Python for people. Nothing of the converter depends on it.
 
 It writes to standard output. Several meshes make one object file or one picture. The picture is seen along parallel
 lines, from --turn degrees round the Y axis and --tilt degrees above the ground; of a solid mesh only triangles that
-face the eye are drawn. An OBJ file has an object for each mesh, named after its file, with colours as three numbers
+face the eye are drawn. A triangle has one shade, by the mean of its corners' normals; with --smooth it is drawn as facets
+without edges, whose shades go from corner to corner, as a terminal shades it. An OBJ file has an object for each mesh, named after its file, with colours as three numbers
 more at each point, and without alpha. The points of a PointSet ('p' lines, which hosts/part.c prints) are dots, and
 points of the OBJ file.
 
@@ -232,6 +234,7 @@ PLAIN = [(0.83, 0.62, 0.36), (0.62, 0.68, 0.74), (0.56, 0.70, 0.58), (0.72, 0.60
 INK = (0.20, 0.24, 0.30)
 RED = (0.90, 0.0, 0.0)  # of open edges
 DOT = 3  # the radius of a dot
+FACETS = 6  # how many facets of a smooth triangle stand along an edge
 TRIED = 24  # how many planes are tried at a cut
 
 
@@ -285,17 +288,35 @@ def lit(colour, normal):
     return [min(1, tone * part) for part in colour]
 
 
-def triangle(mesh, shape, points, plain, view):
-    """The piece of a triangle; none for one edge-on or seen from the back of a solid."""
+def weights(facets):
+    """Of each facet of a triangle that has so many along an edge, its three corners as parts of the triangle's."""
+    def at(i, j):
+        return (facets - i - j) / facets, i / facets, j / facets
+    for i in range(facets):
+        for j in range(facets - i):
+            yield at(i, j), at(i + 1, j), at(i, j + 1)
+            if i + j < facets - 1:
+                yield at(i + 1, j), at(i + 1, j + 1), at(i, j + 1)
+
+
+def blend(values, parts):
+    return tuple(sum(part * x for part, x in zip(parts, column)) for column in zip(*values))
+
+
+def triangle(mesh, shape, points, plain, view, facets):
+    """The pieces of a triangle, with edges where it is one; none for one edge-on or seen from the back of a solid."""
     corners = [points[v] for v in shape]
     normal = unit(cross(less(corners[1], corners[0]), less(corners[2], corners[0])))
     if normal is None or abs(normal[2]) < 1e-6 or (mesh.solid and normal[2] < 0):
-        return None
-    shade = seen(mean([mesh.parts['n'][v] for v in shape]), view) if mesh.parts['n'] else normal
-    colour = mean([mesh.parts['c'][v][:3] for v in shape]) if mesh.parts['c'] else plain
+        return
+    shades = [seen(mesh.parts['n'][v], view) if mesh.parts['n'] else normal for v in shape]
+    colours = [mesh.parts['c'][v][:3] if mesh.parts['c'] else plain for v in shape]
     if normal[2] < 0:
         normal = tuple(-x for x in normal)
-    return Piece(corners, [True] * 3, lit(colour, shade), (normal, dot(normal, corners[0])))
+    for facet in weights(facets):
+        middle = mean(facet)
+        colour = lit(blend(colours, middle), blend(shades, middle))
+        yield Piece([blend(corners, at) for at in facet], [facets == 1] * 3, colour, (normal, dot(normal, corners[0])))
 
 
 def line(mesh, shape, points):
@@ -304,7 +325,7 @@ def line(mesh, shape, points):
     return Piece([points[v] for v in shape], [True], colour)
 
 
-def pieces(meshes, view):
+def pieces(meshes, view, facets=1):
     found, plain = [], 0
     for mesh in meshes:
         points = [seen(p, view) for p in mesh.points]
@@ -313,9 +334,9 @@ def pieces(meshes, view):
             if mesh.unlit:
                 found.append(line(mesh, shape, points))
             else:
-                found.append(triangle(mesh, shape, points, colour, view))
+                found.extend(triangle(mesh, shape, points, colour, view, facets))
         plain += not (mesh.unlit or mesh.parts['c'] or mesh.colour)
-    return [piece for piece in found if piece]
+    return found
 
 
 def open_pieces(meshes, view):
@@ -483,9 +504,9 @@ def svg_open(piece, said, frame):
     return f'<path class="l" color="{paint(piece.colour)}" d="M{a}L{b}"><title>{said}</title></path>'
 
 
-def svg(meshes, turn, tilt, is_open_marked=False):
+def svg(meshes, turn, tilt, facets, is_open_marked):
     view = axes(turn, tilt)
-    group = pieces(meshes, view)
+    group = pieces(meshes, view, facets)
     marked = open_pieces(meshes, view) if is_open_marked else []
     if not group and not marked:
         files.tell('mesh.py', 'the picture is empty: no dot, no line, and no triangle that faces the eye')
@@ -564,6 +585,7 @@ def work():
     parser.add_argument('--turn', default='30', metavar='DEGREES', help='where the eye is, round the Y axis (30)')
     parser.add_argument('--tilt', default='30', metavar='DEGREES', help='where the eye is, above the ground (30)')
     parser.add_argument('--open', action='store_true', help='draw open edges in red, over everything')
+    parser.add_argument('--smooth', action='store_true', help="shade triangles from corner to corner, by the normals")
     choice = parser.parse_intermixed_args()
     if choice.open and choice.form != 'svg':
         parser.error('--open is of svg alone')
@@ -573,7 +595,8 @@ def work():
     if choice.form == 'closed':
         return closed(choice.files or ['-'])
     meshes = read_all(choice.files or ['-'])
-    write(obj(meshes) if choice.form == 'obj' else svg(meshes, turn, tilt, choice.open))
+    facets = FACETS if choice.smooth else 1
+    write(obj(meshes) if choice.form == 'obj' else svg(meshes, turn, tilt, facets, choice.open))
     return 0
 
 

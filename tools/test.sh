@@ -100,7 +100,7 @@ for text in examples/*.txt tools/cases/*.txt; do
 done
 
 bay=(hall gables roof)
-for name in "${site[@]}" "${bay[@]}" "${parts[@]}" wing; do
+for name in "${site[@]}" "${bay[@]}" pole "${parts[@]}" wing; do
     python3 tools/block.py --strict "examples/$name.txt" "$work/made.block"
     tally "no warning: examples/$name.txt" $?
 done
@@ -114,7 +114,7 @@ python3 tools/block.py examples/gap.txt "$work/made.block" 2> "$work/said" &&
         'block.py: examples/gap.txt: line 22: warning: run 3 is not drawn: 100 names no point (there are 20, numbered from 0)' ]
 tally 'a warning for the dropped wall of examples/gap.txt, and no other' $?
 
-for name in "${site[@]}" annex "${bay[@]}" wing gap; do
+for name in "${site[@]}" annex "${bay[@]}" wing gap pole; do
     [ "$(wc -c < "examples/$name.block")" -le 8192 ] && grep -q '^mesh ' "examples/$name.mesh"
     tally "examples/$name fits what sitemesh lends" $?
 done
@@ -141,6 +141,14 @@ python3 tools/mesh.py svg examples/grey/annex.mesh | cmp - examples/annex.svg
 tally 'picture of the annex' $?
 python3 tools/mesh.py svg examples/{hall,gables,roof}.mesh | cmp - examples/bay.svg
 tally 'picture of the loading bay' $?
+python3 tools/mesh.py svg examples/pole.mesh > "$work/plain.svg"
+python3 tools/mesh.py svg --smooth examples/pole.mesh > "$work/smooth.svg"
+plain=$(grep -c '^<path color' "$work/plain.svg") smooth=$(grep -c '^<path color' "$work/smooth.svg")
+[ "$plain" -gt 0 ] && [ "$smooth" -eq $((36 * plain)) ] && ! grep -q 'class="e"' "$work/smooth.svg"
+tally 'a smooth picture: 36 facets for a triangle, and no edges' $?
+python3 tools/mesh.py svg --smooth --turn 105 --tilt 20 examples/pole.mesh | cmp - docs/mast-after.svg &&
+    ! cmp -s docs/mast-before.svg docs/mast-after.svg
+tally 'picture of the round mast, another than the one with the line' $?
 white='c 3f800000 3f800000 3f800000 3f800000' grey='c 3f4ccccd 3f4ccccd 3f4ccccd 3f800000'
 sed "s/$white/$grey/" examples/annex.mesh | cmp - examples/grey/annex.mesh && grep -q "$grey" examples/grey/annex.mesh
 tally 'the annex has grey where sitemesh put white' $?
@@ -245,7 +253,7 @@ python3 tools/mesh.py obj - < examples/mast.mesh > "$work/named"
 python3 tools/mesh.py obj < examples/mast.mesh | cmp - "$work/named" && grep -q '^o mesh' "$work/named"
 tally 'mesh.py from standard input' $?
 helps block.py FILE.txt OUT.block --strict 'standard input' 'standard output' 'python3 tools/block.py' textureScale bottomRadius
-helps mesh.py obj svg closed MESH scene --turn --tilt --open 'by their numbers' 'status is 0 where every mesh is closed' 'standard input' 'standard output' 'python3 tools/mesh.py'
+helps mesh.py obj svg closed MESH scene --turn --tilt --open --smooth 'by their numbers' 'status is 0 where every mesh is closed' 'standard input' 'standard output' 'python3 tools/mesh.py'
 python3 tools/block.py one.txt 2> "$work/said"
 [ $? -eq 2 ] && [ "$(wc -l < "$work/said")" -eq 1 ]
 tally 'a wrong command line has status 2' $?

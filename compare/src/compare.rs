@@ -8,12 +8,14 @@ use crate::cases;
 use crate::edges;
 use crate::expected::{Expected, expected};
 use crate::fixed;
+use crate::follow::given;
 use crate::format::{Block, LINES, accept, lengths};
 use crate::judge::judge;
 use crate::maker::Maker;
 use crate::ours::{self, Colour, GREY, Slices, WHITE};
 use crate::outline::Verdict;
 use crate::rng::Rng;
+use crate::seam;
 
 const MOST_SHOWN: usize = 10;
 const ANY: [usize; 8] = [usize::MAX; 8];
@@ -24,6 +26,9 @@ const FEWER: &str = "with another colour, fewer vertices than with white";
 const MORE: &str = "with another colour, more vertices than with white";
 /// coordIndex is not the reference's own there (follow.rs).
 const BELOW: &str = "meshes with a value below -1 in coordIndex";
+/// The changed copy judges these (seam.rs).
+const JOINED: &str = "meshes with joined columns";
+const SMOOTHED: &str = "meshes with joined columns and other normals than the reference's own";
 
 #[derive(Default)]
 struct Run {
@@ -95,12 +100,26 @@ impl Run {
         }
     }
 
+    /// Counts accepted blocks of which the reference alone is not the judge.
+    fn count_judges(&mut self, block: &Block, made: bool, maker: &Maker) {
+        if block.has_below() {
+            self.count(BELOW.into());
+        }
+        if made && block.joins_columns() {
+            self.count(JOINED.into());
+            if given(block, &maker.angles).is_some_and(|fields| seam::shows(&fields)) {
+                self.count(SMOOTHED.into());
+            }
+        }
+    }
+
     fn base(&mut self, block: &[u8], maker: &Maker) -> Expected {
         self.blocks += 1;
         let base = expected(block, &ANY, &maker.angles, WHITE);
-        let kind = Block::read(block).map_or(9, |b| b.kind);
-        if !matches!(base, Expected::Refused(_)) && Block::read(block).is_ok_and(|b| b.has_below()) {
-            self.count(BELOW.into());
+        let read = Block::read(block);
+        let kind = read.as_ref().map_or(9, |b| b.kind);
+        if let (Ok(read), false) = (&read, matches!(base, Expected::Refused(_))) {
+            self.count_judges(read, matches!(base, Expected::Made(..)), maker);
         }
         self.count(match &base {
             Expected::Refused(n) => format!("blocks refused by {n}"),
@@ -222,6 +241,7 @@ pub fn compare(count: u64, seed: u64, first: u64, folder: &str) -> bool {
     let seconds = start.elapsed().as_secs_f32();
     println!("edges of {} meshes counted, {} exceptions", run.edged, run.exceptions);
     println!("{} blocks, {} calls, {} differ, {seconds:.1} s", run.blocks, run.calls, run.differ);
-    let met = [FEWER, MORE, BELOW].iter().chain(&edges::MET).all(|&what| run.counts.contains_key(what));
+    let asked = [FEWER, MORE, BELOW, JOINED, SMOOTHED];
+    let met = asked.iter().chain(&edges::MET).all(|&what| run.counts.contains_key(what));
     run.differ == 0 && run.exceptions == 0 && (first > 0 || met)
 }

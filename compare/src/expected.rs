@@ -8,6 +8,7 @@ use crate::format::{Block, EXTRUSION, accept, flag};
 use crate::missing::filled;
 use crate::ours::{Colour, WHITE};
 use crate::outline::{Outline, outline};
+use crate::seam;
 use reference::scene::{Given, Mesh, Scene};
 
 const NAN: u32 = 0x7fc0_0000;
@@ -119,9 +120,13 @@ fn converted(given: Given) -> Mesh {
     Scene::new(given).convert().expect("the reference made no mesh of an accepted block").mesh()
 }
 
-/// The reference's mesh. White it has by itself. For another colour it is given a scene that lists that colour where one
-/// is missing; with white listed there, the scene has to give what the block's own gives.
+/// The reference's mesh; of an extrusion, which has no colours, that of `seam`. White the reference has by itself. For another
+/// colour it is given a scene that lists that colour where one is missing; with white listed there, the scene has to give
+/// what the block's own gives.
 fn reference_mesh(block: &Block, given: Given, colour: Colour) -> Mesh {
+    if block.kind == EXTRUSION {
+        return seam::mesh(block, &given);
+    }
     if colour == WHITE {
         return converted(given);
     }

@@ -5,6 +5,7 @@ use std::f32::consts::PI;
 use crate::format::{EXTRUSION, FACES, FANS, GRID, LIMIT, LINES, QUADS, STRIPS, TRIANGLES, flag, widths};
 use crate::maker::{Maker, Taste};
 use crate::outlines;
+use crate::seams;
 use crate::shape::Shape;
 
 pub type Named = (String, Vec<u8>);
@@ -329,5 +330,6 @@ pub fn blocks(maker: &mut Maker) -> Vec<Named> {
     corners(maker, &mut out);
     great(maker, &mut out);
     primitives(maker, &mut out);
+    seams::blocks(&mut out);
     out
 }

@@ -188,6 +188,19 @@ impl<'a> Block<'a> {
         !matches!(self.kind, GRID | EXTRUSION | TRIANGLES | QUADS) && self.entries(1).iter().any(|&v| v < -1)
     }
 
+    /// Whether the cross-section of an extrusion closes (FORMAT 8.4).
+    fn closes(&self) -> bool {
+        let (m, section) = (self.counts[1], self.floats(1));
+        m > 2 && section[..2] == section[2 * m - 2..]
+    }
+
+    /// Whether the first and the last column of an extrusion are one point to generated normals: its cross-section closes,
+    /// and the crease angle as read is above 0 (FORMAT 10.2).
+    pub fn joins_columns(&self) -> bool {
+        let crease = f32::from_bits(self.word(0));
+        self.kind == EXTRUSION && crease.is_finite() && crease > 0.0 && self.closes()
+    }
+
     fn face_sizes(&self) -> Sizes {
         let (mut corners, mut indices) = (0, 0);
         for run in runs(&self.coord_index()) {
@@ -220,9 +233,8 @@ impl<'a> Block<'a> {
 
     /// Corners of a cap: the cross-section of 2 points or more without its closing point (FORMAT 8.4).
     pub fn cap(&self) -> usize {
-        let (m, section) = (self.counts[1], self.floats(1));
-        let closes = m > 2 && section[..2] == section[2 * m - 2..];
-        if closes { m - 1 } else { m }
+        let m = self.counts[1];
+        if self.closes() { m - 1 } else { m }
     }
 
     fn extrusion_sizes(&self) -> Result<Sizes, u32> {

@@ -22,6 +22,7 @@ mod partfuzz;
 mod partjudge;
 mod partmaker;
 mod rng;
+mod seams;
 mod shape;
 mod solids;
 mod stack;

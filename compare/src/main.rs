@@ -31,6 +31,8 @@ mod partjudge;
 mod parts;
 mod record;
 mod rng;
+mod seam;
+mod seams;
 #[path = "../../bench/search.rs"]
 mod search;
 mod shape;

@@ -155,6 +155,7 @@ fn features(block: &Block, mesh: &Mesh) -> Vec<&'static str> {
     let caps = block.kind == EXTRUSION;
     put(caps && on(flag::BEGIN_CAP) && on(flag::END_CAP), "both caps");
     put(caps && on(flag::BEGIN_CAP) != on(flag::END_CAP), "one cap");
+    put(block.joins_columns(), "joined columns");
     let largest = largest_face(block);
     put(largest > 4096, "face above 4096 corners");
     put(largest == 4096 && !on(flag::CONVEX), "face of 4096 corners, not convex");
@@ -398,12 +399,12 @@ fn take_part<'a>(bytes: &mut &'a [u8]) -> &'a [u8] {
     part
 }
 
-/// Keeps the blocks of a file and works out their texts anew. Where coordIndex has no value below -1 the text has to stay;
-/// the answer is whether it did.
+/// Keeps the blocks of a file and works out their texts anew. Where coordIndex has no value below -1 and no columns are joined
+/// the text has to stay; the answer is whether it did.
 pub fn again(file: &str) -> bool {
     let old = std::fs::read(file).unwrap_or_else(|why| panic!("{file}: {why}"));
     let (angles, mut store, mut rest) = (drawn_angles(), Store::new(), &old[..]);
-    let (mut below, mut changed, mut wrong) = (0, 0, 0);
+    let (mut below, mut joined, mut changed, mut wrong) = (0, 0, 0, 0);
     while let Some((corners, after)) = rest.split_first_chunk::<4>() {
         rest = after;
         let (block, text) = (take_part(&mut rest), take_part(&mut rest));
@@ -411,11 +412,12 @@ pub fn again(file: &str) -> bool {
         let start = store.bytes.len();
         assert!(put(&mut store, block, corners, &angles), "a block that the reference follows");
         let other = &store.bytes[start + 12 + block.len()..] != text;
-        let has_below = Block::read(block).is_ok_and(|b| b.has_below());
+        let [has_below, joins] = Block::read(block).map_or([false; 2], |b| [b.has_below(), b.joins_columns()]);
         below += has_below as usize;
+        joined += (joins && text.starts_with(b"mesh")) as usize;
         changed += other as usize;
-        wrong += (other && !has_below) as usize;
+        wrong += (other && !has_below && !joins) as usize;
     }
-    println!("{below} cases with a value below -1, {changed} texts changed, {wrong} of other cases");
+    println!("{below} cases with a value below -1, {joined} with joined columns, {changed} texts changed, {wrong} of other cases");
     wrong == 0 && store.write(file)
 }

@@ -82,10 +82,19 @@ impl Maker {
         }
         if self.rng.coin() {
             list[m - 1] = list[0];
-            // Zeros of either sign are equal.
-            if self.rng.one_in(8) {
-                list[0][0] = 0.0;
-                list[m - 1][0] = -0.0;
+            let k = self.rng.below(2);
+            match self.rng.below(16) {
+                // Zeros of either sign are equal, a NaN is not itself, and numbers next to each other are not equal.
+                0 | 1 => {
+                    list[0][k] = 0.0;
+                    list[m - 1][k] = -0.0;
+                }
+                2 => {
+                    list[0][k] = f32::NAN;
+                    list[m - 1][k] = f32::NAN;
+                }
+                3 => list[m - 1][k] = f32::from_bits(list[0][k].to_bits() ^ 1),
+                _ => {}
             }
         }
         match self.rng.below(16) {
