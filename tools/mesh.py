@@ -12,10 +12,10 @@ NOT PROVED: this tool is plain Python for people. Nothing of the converter depen
 
 It writes to standard output. Several meshes make one object file or one picture. The picture is seen along parallel
 lines, from --turn degrees round the Y axis and --tilt degrees above the ground; of a solid mesh only triangles that
-face the eye are drawn. A triangle has one shade, by the mean of its corners' normals; with --smooth it is drawn as facets
-without edges, whose shades go from corner to corner, as a terminal shades it. An OBJ file has an object for each mesh, named after its file, with colours as three numbers
-more at each point, and without alpha. The points of a PointSet ('p' lines, which hosts/part.c prints) are dots, and
-points of the OBJ file.
+face the eye are drawn. A triangle has one shade, by the mean of its corners' normals; with --smooth it is drawn as
+facets without edges, whose shades go from corner to corner, as a terminal shades it. An OBJ file has an object for
+each mesh, named after its file, with colours as three numbers more at each point, and without alpha. The points of a
+PointSet ('p' lines, which hosts/part.c prints) are dots, and points of the OBJ file.
 
 A scene is a text whose first line is 'scene'; after it each line names a mesh and, if need be, turns, moves and colours it:
 
@@ -587,8 +587,9 @@ def work():
     parser.add_argument('--open', action='store_true', help='draw open edges in red, over everything')
     parser.add_argument('--smooth', action='store_true', help="shade triangles from corner to corner, by the normals")
     choice = parser.parse_intermixed_args()
-    if choice.open and choice.form != 'svg':
-        parser.error('--open is of svg alone')
+    for option in ('open', 'smooth'):
+        if getattr(choice, option) and choice.form != 'svg':
+            parser.error(f'--{option} is of svg alone')
     turn, tilt = degrees('--turn', choice.turn), degrees('--tilt', choice.tilt)
     if choice.files.count('-') > 1:
         raise Fault('standard input is named twice')
