@@ -154,7 +154,7 @@ END
 fi
 
 # README's lines, as they stand there: each compiles, and the programs say the same of the duct.
-duct='96 vertices, 372 indices
+duct='100 vertices, 372 indices
 first corner at 29.920 12.000 42.620'
 line() { # how it begins, and what it has to print
     local line printed
