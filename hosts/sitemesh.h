@@ -12,7 +12,7 @@
  *   changes that for the whole program, and so did, with gcc 12.2, a shared library linked with it. Then the mesh
  *   may be another: a duct whose cross-section is (0, 0), (1, 0), (1, 1), (0, 1), (1e-40, 0) lost two of its fourteen
  *   triangles. A host that cannot be sure puts _mm_setcsr(0x1f80) before the call and its own mode back after it.
- * - Stack. Some 3.7 KiB: 3,720 bytes were the most in 1.3 million fuzzed calls, arguments included, and there is no
+ * - Stack. Some 3.6 KiB: 3,672 bytes were the most in 1.3 million fuzzed calls, arguments included, and there is no
  *   recursion. Leave 8 KiB, which is all that the fuzzing gives a call (compare/README.md).
  *
  * There is no state outside the arguments, so threads may call at the same time, each with slices of its own; they may
@@ -116,10 +116,10 @@ sitemesh_sincos sitemesh_sin_cos(float angle);
 
 /*
  * Parts (docs/FORMAT.md 17): PointSet, Box, Sphere, Cylinder and Cone of VRML97, of numbers in place of a block. What is
- * said above of slices, floats, stack and threads holds here too, for what is read as for the block; filling pairs by
- * sitemesh_sin_cos takes its 4.1 KiB of stack. A call returns SITEMESH_OK and writes `result` as above; or
- * SITEMESH_CORNERS, SITEMESH_PAIRS or SITEMESH_BUFFER, tried in this order, and then every lent element is what it was.
- * hosts/part.c is a program that calls them.
+ * said above of slices, floats, stack and threads holds here too, for what is read as for the block; 872 bytes of stack were
+ * the most in 2.2 million fuzzed calls, and filling pairs by sitemesh_sin_cos takes its 4.1 KiB. A call returns
+ * SITEMESH_OK and writes `result` as above; or SITEMESH_CORNERS, SITEMESH_PAIRS or SITEMESH_BUFFER, tried in this order,
+ * and then every lent element is what it was. hosts/part.c is a program that calls them.
  *
  * - All but a PointSet lie round the origin, the axis along Y, and have no colour: place and colour are the host's.
  * - A size that is not finite or not above 0 is the standard's default: 2 for a side of a box or a height, 1 for a radius;
