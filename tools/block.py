@@ -44,6 +44,7 @@ Warnings, each a line on standard error with the line of the text; the block is 
   - a run, point or quad that is drawn without its colour, normal or texture point (FORMAT 7); a missing colour is the
     one that the caller chooses: sitemesh passes white, a terminal grey;
   - a shape that draws nothing, a cap that is asked for and not drawn, a list that is not read or is too short;
+  - a crossSection whose last point lies beside the first, within a thousandth of its extent, and does not close;
   - a size of a part that is not above 0, where the standard's default is taken, and slices or stacks beyond their range
     (FORMAT 17.2); colours of a PointSet that are too few, which are left out whole (17.5);
   - with --table, an angle above 1024 in size, of an orientation half of it (FORMAT 16).
@@ -55,6 +56,10 @@ there. The runs of a fan or strip set end as those of a face set do. Attributes 
 
 A window in a wall is no face of its own: an outline that goes in to it and back along the same edge covers it. Leave a
 slit between the two ways, or lay several faces round it (docs/DIFFERENCES.md, 12).
+
+A crossSection closes where it has more than 2 points and its last is written as its first: then its sides are smoothed
+across the closing edge, by a creaseAngle above the angle between two sides, and caps leave the last point out (FORMAT
+8.4). A computed 2.4e-16 for 0 does not close it.
 
 Errors, each a line on standard error, status 1, nothing written: a text that is not understood, and a block that
 would be refused for what it says (FORMAT 3, rows 4, 6, 7 and 9: list limit, no shape, corners, attributes), or a PointSet

@@ -301,7 +301,17 @@ def grid_losses(text):
             yield text.line_number(name), f'{entries_of(text.name(name), count)} for the {needed} {what} of the grid'
 
 
+def nearly_closes(values):
+    """Whether the last of more than two points lies beside the first and is not the same, as a computed ring's may."""
+    apart = [abs(a - b) for a, b in zip(values[:2], values[-2:])]
+    extent = max(max(values[k::2]) - min(values[k::2]) for k in (0, 1))
+    return 4 < len(values) and 0 < max(apart) <= extent / 1000
+
+
 def extrusion_losses(text):
+    if nearly_closes(text.values('crossSection')):
+        yield (text.line_number('crossSection'),
+               'crossSection ends beside its first point and does not close: write the last point as the first')
     rings = text.count('spine')
     for name in ('scale', 'orientation'):
         if 1 < text.count(name) < rings:

@@ -48,7 +48,7 @@ error says how many of each there were; the status is 0.
 
 Errors, each a line on standard error, status 1, nothing written: a file that cannot be read (it is named), something
 that is not a mesh or a scene, a refusal ('no N') or 'long' in place of a mesh, and, to be drawn, meshes of which no
-vertex is finite.
+vertex is finite. A call that is not understood, or --open or --smooth without svg, has the status 2.
 """
 import math
 import os
@@ -584,8 +584,8 @@ def work():
                         help="a file with what sitemesh printed, or a scene; '-', or no file, is standard input")
     parser.add_argument('--turn', default='30', metavar='DEGREES', help='where the eye is, round the Y axis (30)')
     parser.add_argument('--tilt', default='30', metavar='DEGREES', help='where the eye is, above the ground (30)')
-    parser.add_argument('--open', action='store_true', help='draw open edges in red, over everything')
-    parser.add_argument('--smooth', action='store_true', help="shade triangles from corner to corner, by the normals")
+    parser.add_argument('--open', action='store_true', help='in a picture, draw open edges in red, over everything')
+    parser.add_argument('--smooth', action='store_true', help="in a picture, shade triangles from corner to corner, by the normals")
     choice = parser.parse_intermixed_args()
     for option in ('open', 'smooth'):
         if getattr(choice, option) and choice.form != 'svg':

@@ -113,6 +113,11 @@ python3 tools/block.py examples/gap.txt "$work/made.block" 2> "$work/said" &&
     [ "$(cat "$work/said")" = \
         'block.py: examples/gap.txt: line 22: warning: run 3 is not drawn: 100 names no point (there are 20, numbered from 0)' ]
 tally 'a warning for the dropped wall of examples/gap.txt, and no other' $?
+# A ring that was computed ends beside its first point.
+printf '%s\n' 'shape Extrusion' 'spine 0 0 0, 0 1 0' 'crossSection 1 0, 0 -1, -1 0, 0 1, 1 2.4e-16' > "$work/ring.txt"
+python3 tools/block.py "$work/ring.txt" "$work/made.block" 2> "$work/said" &&
+    grep -q 'line 3: warning: crossSection ends beside its first point and does not close' "$work/said"
+tally 'a warning for a cross-section that nearly closes' $?
 
 for name in "${site[@]}" annex "${bay[@]}" wing gap pole; do
     [ "$(wc -c < "examples/$name.block")" -le 8192 ] && grep -q '^mesh ' "examples/$name.mesh"
