@@ -5,7 +5,7 @@ use geometry::Call;
 use lent::Answer;
 
 // The answer of a call, and what it left in the six slices of the mesh.
-#[derive(Drop)]
+#[derive(Clone, Copy)]
 pub struct Conversion {
     pub answer: Answer,
     pub indices: [u32; 768],

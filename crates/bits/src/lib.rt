@@ -3,20 +3,20 @@ ghost use Rattle.std.specs.Prelude.{◌≡◌, ℕ, ◌+◌, ◌*◌, ◌/◌, �
 ghost use Rattle.bits.specs.Bits.{field, word_at, entries};
 
 // The bits of two, three and four f32: a texture point, a point or a normal, a colour.
-#[derive(Drop)]
+#[derive(Clone, Copy)]
 pub struct Words2 {
     pub s: u32,
     pub t: u32,
 }
 
-#[derive(Drop)]
+#[derive(Clone, Copy)]
 pub struct Words3 {
     pub x: u32,
     pub y: u32,
     pub z: u32,
 }
 
-#[derive(Drop)]
+#[derive(Clone, Copy)]
 pub struct Words4 {
     pub r: u32,
     pub g: u32,

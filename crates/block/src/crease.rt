@@ -2,7 +2,7 @@
 ghost use Rattle.std.specs.Prelude.{◌≡◌};
 ghost use Rattle.block.specs.Crease.{crease_of};
 
-#[derive(Drop)]
+#[derive(Clone, Copy)]
 pub enum CreaseRule {
     Own,
     Every,

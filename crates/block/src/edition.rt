@@ -3,7 +3,7 @@ ghost use Rattle.std.specs.Prelude.{◌≡◌};
 ghost use Rattle.block.specs.Edition.{edition_of, edition_in, is_known, limit_of};
 
 // The words of the header, its counts, the bits of each, the zero bits after them, and the limit of the refusals 4 and 7.
-#[derive(Drop)]
+#[derive(Clone, Copy)]
 pub struct Edition {
     pub header_words: u32,
     pub counts: u32,

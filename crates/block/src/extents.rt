@@ -7,7 +7,7 @@ use crate::header::Header;
 use crate::kind::Kind;
 
 // Where a list lies, in bytes.
-#[derive(Drop)]
+#[derive(Clone, Copy)]
 pub struct Place {
     pub at: usize,
     pub len: usize,

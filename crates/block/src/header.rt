@@ -7,7 +7,7 @@ ghost use Rattle.block.specs.Header.{flag_at, count_at, counts_of, Narrow, heade
 use crate::edition::{Edition, edition_of};
 use crate::kind::{Kind, kind_of};
 
-#[derive(Drop)]
+#[derive(Clone, Copy)]
 pub struct Header {
     pub edition: u32,
     pub kind: Kind,

@@ -5,7 +5,7 @@ ghost use Rattle.block.specs.Kind.{kind_of, is_primitives, is_indexed, is_lines}
 use crate::topology::Topology;
 
 // The number of a kind has three bits, so every number is a kind's.
-#[derive(Drop)]
+#[derive(Clone, Copy)]
 pub enum Kind {
     FaceSet,
     LineSet,

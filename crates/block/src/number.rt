@@ -1,9 +1,9 @@
 // Three counters that are never exchanged (FORMAT 11): of a point in its list, of a corner, of a vertex that is made.
-#[derive(Drop)]
+#[derive(Clone, Copy)]
 pub struct PointNumber(pub usize);
 
-#[derive(Drop)]
+#[derive(Clone, Copy)]
 pub struct CornerNumber(pub usize);
 
-#[derive(Drop)]
+#[derive(Clone, Copy)]
 pub struct VertexNumber(pub usize);

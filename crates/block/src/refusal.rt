@@ -9,7 +9,7 @@ use crate::extents::block_bytes;
 use crate::header::Header;
 use crate::kind::is_primitives;
 
-#[derive(Drop)]
+#[derive(Clone, Copy)]
 pub enum Refusal {
     Stub,
     Edition,

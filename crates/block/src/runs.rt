@@ -66,7 +66,7 @@ pub fn is_kept(run: &[u8], points: u32) -> bool
 }
 
 // What the kept faces of an index list have together.
-#[derive(Drop)]
+#[derive(Clone, Copy)]
 pub struct Totals {
     pub faces: usize,
     pub corners: usize,

@@ -6,7 +6,7 @@ use crate::crease::{CreaseRule, crease_of};
 use crate::edition::edition_in;
 use crate::texture::{Pair, TexTransform};
 
-#[derive(Drop)]
+#[derive(Clone, Copy)]
 pub struct Settings {
     pub crease: CreaseRule,
     pub x_spacing: f32,

@@ -9,7 +9,7 @@ use crate::value::{Found, value2, value3, value4};
 use bits::{Words2, Words3, Words4};
 
 // An attribute of a block: where its values and its own index list lie, in bytes.
-#[derive(Drop)]
+#[derive(Clone, Copy)]
 pub struct Stream {
     pub per_vertex: bool,
     pub values_at: usize,

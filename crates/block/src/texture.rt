@@ -4,14 +4,14 @@ ghost use Rattle.block.specs.Texture.{applied, uv_words};
 
 use bits::Words2;
 
-#[derive(Drop)]
+#[derive(Clone, Copy)]
 pub struct Pair {
     pub s: f32,
     pub t: f32,
 }
 
 // The rotation is given by its sine and cosine.
-#[derive(Drop)]
+#[derive(Clone, Copy)]
 pub struct TexTransform {
     pub center_s: f32,
     pub center_t: f32,

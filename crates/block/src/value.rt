@@ -5,7 +5,7 @@ ghost use Rattle.block.specs.Value.{words3, value2_at, value3_at, value4_at};
 use bits::{Words2, Words3, Words4};
 
 // The number of the value to read, or that there is none.
-#[derive(Drop)]
+#[derive(Clone, Copy)]
 pub enum Found {
     At(u32),
     Missing,

@@ -5,7 +5,7 @@ ghost use Rattle.boxes.specs.Box.{face, face_at};
 use math::V3;
 
 // The outward normal, right and up.
-#[derive(Drop)]
+#[derive(Clone, Copy)]
 pub struct BoxFace {
     pub normal: V3,
     pub right: V3,

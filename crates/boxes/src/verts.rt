@@ -80,9 +80,9 @@ fn put_face(
     normals: &mut [u32],
     textures: &mut [u32],
 )
-    requires { (k < 6) × RoomFor c (k * 4 + 4) (record { positions = positions.now; normals = normals.old; textures = textures.old }) }
-    ensures { record { positions = positions.exit.now; normals = normals.new; textures = textures.new }
-        ≡ pushed c (k * 4) (spec.box_face h k) (record { positions = positions.entry.now; normals = normals.old; textures = textures.old }) }
+    requires { (k < 6) × RoomFor c (k * 4 + 4) (record { positions = positions.old; normals = normals.old; textures = textures.old }) }
+    ensures { record { positions = positions.new; normals = normals.new; textures = textures.new }
+        ≡ pushed c (k * 4) (spec.box_face h k) (record { positions = positions.old; normals = normals.old; textures = textures.old }) }
 {
     let f = face_at(k);
     let mut i = 0;
@@ -101,9 +101,9 @@ pub fn put_faces(
     normals: &mut [u32],
     textures: &mut [u32],
 )
-    requires { RoomFor c (0 + 6 * 4) (record { positions = positions.now; normals = normals.old; textures = textures.old }) }
-    ensures { record { positions = positions.exit.now; normals = normals.new; textures = textures.new }
-        ≡ pushed c 0 (flat (tab (spec.box_face h) 6 0)) (record { positions = positions.entry.now; normals = normals.old; textures = textures.old }) }
+    requires { RoomFor c (0 + 6 * 4) (record { positions = positions.old; normals = normals.old; textures = textures.old }) }
+    ensures { record { positions = positions.new; normals = normals.new; textures = textures.new }
+        ≡ pushed c 0 (flat (tab (spec.box_face h) 6 0)) (record { positions = positions.old; normals = normals.old; textures = textures.old }) }
 {
     let mut k = 0;
     while k < 6 {

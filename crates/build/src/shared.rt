@@ -2,7 +2,7 @@
 use corners::Attributes;
 use vertices::Widths;
 
-#[derive(Drop)]
+#[derive(Clone, Copy)]
 pub struct Shared {
     pub ccw: bool,
     pub convex: bool,

@@ -24,10 +24,10 @@ pub fn build<'a>(
     floats: &mut [f32],
 ) -> Counts
     requires { Ready (record { block = block.now; coord = coord.now; floats = floats.old }) s t work.old
-        (record { sources = sources.now; positions = positions.old; normals = normals.old; colours = colours.old; textures = textures.old; indices = indices.old }) }
-    ensures { Built (record { block = block.entry.now; coord = coord.now; floats = floats.old }) s t work.old
-        (record { sources = sources.entry.now; positions = positions.old; normals = normals.old; colours = colours.old; textures = textures.old; indices = indices.old })
-        (record { sources = sources.exit.now; positions = positions.new; normals = normals.new; colours = colours.new; textures = textures.new; indices = indices.new })
+        (record { sources = sources.old; positions = positions.old; normals = normals.old; colours = colours.old; textures = textures.old; indices = indices.old }) }
+    ensures { Built (record { block = block.old; coord = coord.now; floats = floats.old }) s t work.old
+        (record { sources = sources.old; positions = positions.old; normals = normals.old; colours = colours.old; textures = textures.old; indices = indices.old })
+        (record { sources = sources.new; positions = positions.new; normals = normals.new; colours = colours.new; textures = textures.new; indices = indices.new })
         work.new floats.new result }
 {
     let w = s.widths;

@@ -11,7 +11,7 @@ use math::square_root::roots;
 use math::{Unit, V3};
 
 // The bits of the first of the four, and their roots.
-#[derive(Drop)]
+#[derive(Clone, Copy)]
 pub struct Lengths {
     pub first: u32,
     pub a: f32,

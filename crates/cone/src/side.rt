@@ -43,7 +43,7 @@ fn or_up(u: Unit) -> V3
 }
 
 // The normals of a slice: at its two places of the foot, and at the apex.
-#[derive(Drop)]
+#[derive(Clone, Copy)]
 pub struct SliceNormals {
     pub from: V3,
     pub to: V3,
@@ -154,9 +154,9 @@ fn put_slice(
     normals: &mut [u32],
     textures: &mut [u32],
 )
-    requires { (n ≤ 1024) × (i < n) × Roots known × RoomFor c (i * 3 + 3) (record { positions = positions.now; normals = normals.old; textures = textures.old }) }
-    ensures { record { positions = positions.exit.now; normals = normals.new; textures = textures.new }
-        ≡ pushed c (i * 3) (cone_verts pairs.now r height n i) (record { positions = positions.entry.now; normals = normals.old; textures = textures.old }) }
+    requires { (n ≤ 1024) × (i < n) × Roots known × RoomFor c (i * 3 + 3) (record { positions = positions.old; normals = normals.old; textures = textures.old }) }
+    ensures { record { positions = positions.new; normals = normals.new; textures = textures.new }
+        ≡ pushed c (i * 3) (cone_verts pairs.now r height n i) (record { positions = positions.old; normals = normals.old; textures = textures.old }) }
 {
     let s0 = share(i, n);
     let s1 = share(i + 1, n);
@@ -184,9 +184,9 @@ fn put_slices(
     normals: &mut [u32],
     textures: &mut [u32],
 )
-    requires { (n ≤ 1024) × RoomFor c (0 + n * 3) (record { positions = positions.now; normals = normals.old; textures = textures.old }) }
-    ensures { record { positions = positions.exit.now; normals = normals.new; textures = textures.new }
-        ≡ pushed c 0 (flat (tab (cone_verts pairs.now r height n) n 0)) (record { positions = positions.entry.now; normals = normals.old; textures = textures.old }) }
+    requires { (n ≤ 1024) × RoomFor c (0 + n * 3) (record { positions = positions.old; normals = normals.old; textures = textures.old }) }
+    ensures { record { positions = positions.new; normals = normals.new; textures = textures.new }
+        ≡ pushed c 0 (flat (tab (cone_verts pairs.now r height n) n 0)) (record { positions = positions.old; normals = normals.old; textures = textures.old }) }
 {
     let known = lengths_near(r, height);
     let mut i = 0;
@@ -227,10 +227,10 @@ pub fn put_side(
     textures: &mut [u32],
     indices: &mut [u32],
 )
-    requires { (n ≤ 1024) × Roomy c (cone_side pairs.now r height n) 0 0 (record { positions = positions.now; normals = normals.old; textures = textures.old }) indices.old }
+    requires { (n ≤ 1024) × Roomy c (cone_side pairs.now r height n) 0 0 (record { positions = positions.old; normals = normals.old; textures = textures.old }) indices.old }
     ensures { Written c (cone_side pairs.now r height n) 0 0
-        (record { positions = positions.entry.now; normals = normals.old; textures = textures.old })
-        (record { positions = positions.exit.now; normals = normals.new; textures = textures.new })
+        (record { positions = positions.old; normals = normals.old; textures = textures.old })
+        (record { positions = positions.new; normals = normals.new; textures = textures.new })
         indices.old indices.new }
 {
     put_slices(c, pairs, r, height, n, positions, normals, textures);

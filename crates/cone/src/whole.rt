@@ -25,7 +25,7 @@ fn side_sizes(n: usize) -> PartSizes
 }
 
 // What there is before the bottom, and in all.
-#[derive(Drop)]
+#[derive(Clone, Copy)]
 pub struct ConeMarks {
     pub bottom: PartSizes,
     pub all: PartSizes,
@@ -53,10 +53,10 @@ fn put_side_where(
     textures: &mut [u32],
     indices: &mut [u32],
 )
-    requires { (n ≤ 1024) × Roomy c (cone_side_at pairs.now side r height n) 0 0 (record { positions = positions.now; normals = normals.old; textures = textures.old }) indices.old }
+    requires { (n ≤ 1024) × Roomy c (cone_side_at pairs.now side r height n) 0 0 (record { positions = positions.old; normals = normals.old; textures = textures.old }) indices.old }
     ensures { Written c (cone_side_at pairs.now side r height n) 0 0
-        (record { positions = positions.entry.now; normals = normals.old; textures = textures.old })
-        (record { positions = positions.exit.now; normals = normals.new; textures = textures.new })
+        (record { positions = positions.old; normals = normals.old; textures = textures.old })
+        (record { positions = positions.new; normals = normals.new; textures = textures.new })
         indices.old indices.new }
 {
     if side {
@@ -81,10 +81,10 @@ fn put_cone(
     textures: &mut [u32],
     indices: &mut [u32],
 )
-    requires { (n ≤ 1024) × (m ≡ cone_marks_of n side bottom) × Roomy c (cone_part pairs.now r height n side bottom) 0 0 (record { positions = positions.now; normals = normals.old; textures = textures.old }) indices.old }
+    requires { (n ≤ 1024) × (m ≡ cone_marks_of n side bottom) × Roomy c (cone_part pairs.now r height n side bottom) 0 0 (record { positions = positions.old; normals = normals.old; textures = textures.old }) indices.old }
     ensures { Written c (cone_part pairs.now r height n side bottom) 0 0
-        (record { positions = positions.entry.now; normals = normals.old; textures = textures.old })
-        (record { positions = positions.exit.now; normals = normals.new; textures = textures.new })
+        (record { positions = positions.old; normals = normals.old; textures = textures.old })
+        (record { positions = positions.new; normals = normals.new; textures = textures.new })
         indices.old indices.new }
 {
     put_side_where(

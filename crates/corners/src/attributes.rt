@@ -3,7 +3,7 @@ use bits::Words4;
 use block::Stream;
 
 // Normals are read from the block where they are supplied. `missing` is the colour of a missing entry.
-#[derive(Drop)]
+#[derive(Clone, Copy)]
 pub struct Attributes {
     pub supplied: bool,
     pub normals: Stream,

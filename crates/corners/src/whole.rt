@@ -27,11 +27,11 @@ fn number_corner(
     c: CornerNumber,
     key: &[u32],
 ) -> VertexNumber
-    requires { adding.Ready w (chains_of t) (record { sources = sources.now; normals = normals.old; colours = colours.old; textures = textures.old }) positions.old work.old n.0 (point_at work.old t c.0) key.now
+    requires { adding.Ready w (chains_of t) (record { sources = sources.old; normals = normals.old; colours = colours.old; textures = textures.old }) positions.old work.old n.0 (point_at work.old t c.0) key.now
         × Laid t (length work.old) × (c.0 < t.count) }
     ensures { Numbered w t n.0 c.0 key.now
-        (record { sources = sources.entry.now; normals = normals.old; colours = colours.old; textures = textures.old }) positions.old work.old
-        (record { sources = sources.exit.now; normals = normals.new; colours = colours.new; textures = textures.new }) positions.new work.new result.0 }
+        (record { sources = sources.old; normals = normals.old; colours = colours.old; textures = textures.old }) positions.old work.old
+        (record { sources = sources.new; normals = normals.new; colours = colours.new; textures = textures.new }) positions.new work.new result.0 }
 {
     let chains = Chains {
         points: t.points,
@@ -65,10 +65,10 @@ pub fn all_vertices<'a>(
     t: CornerTables,
 ) -> VertexNumber
     requires { Ready (record { block = block.now; coord = coord.now; floats = floats.now }) w work.old t
-        (record { sources = sources.now; normals = normals.old; colours = colours.old; textures = textures.old }) positions.old }
-    ensures { Cornered (record { block = block.entry.now; coord = coord.now; floats = floats.now }) a w t
-        (record { sources = sources.entry.now; normals = normals.old; colours = colours.old; textures = textures.old }) positions.old work.old
-        (record { sources = sources.exit.now; normals = normals.new; colours = colours.new; textures = textures.new }) positions.new work.new result.0 }
+        (record { sources = sources.old; normals = normals.old; colours = colours.old; textures = textures.old }) positions.old }
+    ensures { Cornered (record { block = block.old; coord = coord.now; floats = floats.now }) a w t
+        (record { sources = sources.old; normals = normals.old; colours = colours.old; textures = textures.old }) positions.old work.old
+        (record { sources = sources.new; normals = normals.new; colours = colours.new; textures = textures.new }) positions.new work.new result.0 }
 {
     fill(work, t.heads, t.buckets, 0);
     let mut n = VertexNumber(0);

@@ -49,9 +49,9 @@ fn put_two_verts(
     normals: &mut [u32],
     textures: &mut [u32],
 )
-    requires { (n ≤ 1024) × (i ≤ n) × RoomFor c (i * 2 + 2) (record { positions = positions.now; normals = normals.old; textures = textures.old }) }
-    ensures { record { positions = positions.exit.now; normals = normals.new; textures = textures.new }
-        ≡ pushed c (i * 2) (side_verts pairs.now r h n i) (record { positions = positions.entry.now; normals = normals.old; textures = textures.old }) }
+    requires { (n ≤ 1024) × (i ≤ n) × RoomFor c (i * 2 + 2) (record { positions = positions.old; normals = normals.old; textures = textures.old }) }
+    ensures { record { positions = positions.new; normals = normals.new; textures = textures.new }
+        ≡ pushed c (i * 2) (side_verts pairs.now r h n i) (record { positions = positions.old; normals = normals.old; textures = textures.old }) }
 {
     let below = side_vert(pairs, r, n, i, -h, 0.0);
     put_vert(c, i * 2, below, positions, normals, textures);
@@ -69,9 +69,9 @@ fn put_side_verts(
     normals: &mut [u32],
     textures: &mut [u32],
 )
-    requires { (n ≤ 1024) × RoomFor c (0 + (n + 1) * 2) (record { positions = positions.now; normals = normals.old; textures = textures.old }) }
-    ensures { record { positions = positions.exit.now; normals = normals.new; textures = textures.new }
-        ≡ pushed c 0 (flat (tab (side_verts pairs.now r h n) (n + 1) 0)) (record { positions = positions.entry.now; normals = normals.old; textures = textures.old }) }
+    requires { (n ≤ 1024) × RoomFor c (0 + (n + 1) * 2) (record { positions = positions.old; normals = normals.old; textures = textures.old }) }
+    ensures { record { positions = positions.new; normals = normals.new; textures = textures.new }
+        ≡ pushed c 0 (flat (tab (side_verts pairs.now r h n) (n + 1) 0)) (record { positions = positions.old; normals = normals.old; textures = textures.old }) }
 {
     let mut i = 0;
     while i < n + 1 {
@@ -116,10 +116,10 @@ pub fn put_side(
     textures: &mut [u32],
     indices: &mut [u32],
 )
-    requires { (n ≤ 1024) × Roomy c (side_part pairs.now r h n) 0 0 (record { positions = positions.now; normals = normals.old; textures = textures.old }) indices.old }
+    requires { (n ≤ 1024) × Roomy c (side_part pairs.now r h n) 0 0 (record { positions = positions.old; normals = normals.old; textures = textures.old }) indices.old }
     ensures { Written c (side_part pairs.now r h n) 0 0
-        (record { positions = positions.entry.now; normals = normals.old; textures = textures.old })
-        (record { positions = positions.exit.now; normals = normals.new; textures = textures.new })
+        (record { positions = positions.old; normals = normals.old; textures = textures.old })
+        (record { positions = positions.new; normals = normals.new; textures = textures.new })
         indices.old indices.new }
 {
     put_side_verts(c, pairs, r, h, n, positions, normals, textures);

@@ -28,7 +28,7 @@ fn side_sizes(n: usize) -> PartSizes
 }
 
 // What there is before the top, before the bottom, and in all.
-#[derive(Drop)]
+#[derive(Clone, Copy)]
 pub struct Marks {
     pub top: PartSizes,
     pub bottom: PartSizes,
@@ -62,10 +62,10 @@ fn put_side_where(
     textures: &mut [u32],
     indices: &mut [u32],
 )
-    requires { (n ≤ 1024) × Roomy c (side_at pairs.now side r h n) 0 0 (record { positions = positions.now; normals = normals.old; textures = textures.old }) indices.old }
+    requires { (n ≤ 1024) × Roomy c (side_at pairs.now side r h n) 0 0 (record { positions = positions.old; normals = normals.old; textures = textures.old }) indices.old }
     ensures { Written c (side_at pairs.now side r h n) 0 0
-        (record { positions = positions.entry.now; normals = normals.old; textures = textures.old })
-        (record { positions = positions.exit.now; normals = normals.new; textures = textures.new })
+        (record { positions = positions.old; normals = normals.old; textures = textures.old })
+        (record { positions = positions.new; normals = normals.new; textures = textures.new })
         indices.old indices.new }
 {
     if side {
@@ -90,10 +90,10 @@ fn put_side_and_top(
 )
     requires { (n ≤ 1024) × (a ≡ sizes_where side (side_sizes n))
         × Roomy c (followed (side_at pairs.now side r h n) (cap_at pairs.now top h r n true)) 0 0
-        (record { positions = positions.now; normals = normals.old; textures = textures.old }) indices.old }
+        (record { positions = positions.old; normals = normals.old; textures = textures.old }) indices.old }
     ensures { Written c (followed (side_at pairs.now side r h n) (cap_at pairs.now top h r n true)) 0 0
-        (record { positions = positions.entry.now; normals = normals.old; textures = textures.old })
-        (record { positions = positions.exit.now; normals = normals.new; textures = textures.new })
+        (record { positions = positions.old; normals = normals.old; textures = textures.old })
+        (record { positions = positions.new; normals = normals.new; textures = textures.new })
         indices.old indices.new }
 {
     put_side_where(
@@ -128,10 +128,10 @@ fn put_cylinder(
     textures: &mut [u32],
     indices: &mut [u32],
 )
-    requires { (n ≤ 1024) × (m ≡ marks_of n side top bottom) × Roomy c (cylinder_part pairs.now r h n side top bottom) 0 0 (record { positions = positions.now; normals = normals.old; textures = textures.old }) indices.old }
+    requires { (n ≤ 1024) × (m ≡ marks_of n side top bottom) × Roomy c (cylinder_part pairs.now r h n side top bottom) 0 0 (record { positions = positions.old; normals = normals.old; textures = textures.old }) indices.old }
     ensures { Written c (cylinder_part pairs.now r h n side top bottom) 0 0
-        (record { positions = positions.entry.now; normals = normals.old; textures = textures.old })
-        (record { positions = positions.exit.now; normals = normals.new; textures = textures.new })
+        (record { positions = positions.old; normals = normals.old; textures = textures.old })
+        (record { positions = positions.new; normals = normals.new; textures = textures.new })
         indices.old indices.new }
 {
     let a = m.top;

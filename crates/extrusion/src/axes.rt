@@ -10,7 +10,7 @@ use crate::frames::or;
 use math::{Unit, V3};
 
 // X and Z span the plane, and Y goes along the spine.
-#[derive(Drop)]
+#[derive(Clone, Copy)]
 pub struct PlaneAxes {
     pub x: V3,
     pub y: V3,

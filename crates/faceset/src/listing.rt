@@ -14,7 +14,7 @@ use block::{CornerNumber, is_kept, next_start, point_at, run_at};
 use tables::{Plan, narrow};
 
 // The start of the next run, how many runs were passed and faces listed before it, and the next corner.
-#[derive(Drop)]
+#[derive(Clone, Copy)]
 pub struct Progress {
     pub start: usize,
     pub runs: usize,

@@ -31,11 +31,11 @@ pub fn make_face_set(
     floats: &mut [f32],
 ) -> Counts
     requires { Asked FaceSet block.now h s
-        (record { sources = sources.now; positions = positions.old; normals = normals.old; colours = colours.old; textures = textures.old; indices = indices.old })
+        (record { sources = sources.old; positions = positions.old; normals = normals.old; colours = colours.old; textures = textures.old; indices = indices.old })
         (length work.old) (length floats.old) × Counted block.now h z }
     ensures { Shaped h (face_set_mesh missing block.now)
-        (record { sources = sources.entry.now; positions = positions.old; normals = normals.old; colours = colours.old; textures = textures.old; indices = indices.old })
-        (record { sources = sources.exit.now; positions = positions.new; normals = normals.new; colours = colours.new; textures = textures.new; indices = indices.new })
+        (record { sources = sources.old; positions = positions.old; normals = normals.old; colours = colours.old; textures = textures.old; indices = indices.old })
+        (record { sources = sources.new; positions = positions.new; normals = normals.new; colours = colours.new; textures = textures.new; indices = indices.new })
         result × Cleared work.old work.new floats.old floats.new }
 {
     let t = plan_of(z.points, z.corners, z.faces, 0);

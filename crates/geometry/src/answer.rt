@@ -2,7 +2,7 @@
 use bits::Words4;
 
 // What the caller chooses: the colour of a missing entry (FORMAT 7.2).
-#[derive(Drop)]
+#[derive(Clone, Copy)]
 pub struct Call {
     pub colour: Words4,
 }
@@ -24,7 +24,7 @@ pub const WHITE: Words4 = Words4 {
 };
 
 // The lengths of the eight lent slices.
-#[derive(Drop)]
+#[derive(Clone, Copy)]
 pub struct Lengths {
     pub positions: usize,
     pub normals: usize,

@@ -27,11 +27,11 @@ fn make(
     floats: &mut [f32],
 ) -> Report
     requires { (h ≡ header_of block.now) × Counted block.now h z × (number_for block.now
-        (record { slices = record { positions = positions.now; normals = normals.old; colours = colours.old; textures = textures.old; sources = sources.old; indices = indices.old }; words = words.old; floats = floats.old })
+        (record { slices = record { positions = positions.old; normals = normals.old; colours = colours.old; textures = textures.old; sources = sources.old; indices = indices.old }; words = words.old; floats = floats.old })
         ≡ 0) }
     ensures { Converted call block.now
-        (record { slices = record { positions = positions.entry.now; normals = normals.old; colours = colours.old; textures = textures.old; sources = sources.old; indices = indices.old }; words = words.old; floats = floats.old })
-        (record { slices = record { positions = positions.exit.now; normals = normals.new; colours = colours.new; textures = textures.new; sources = sources.new; indices = indices.new }; words = words.new; floats = floats.new })
+        (record { slices = record { positions = positions.old; normals = normals.old; colours = colours.old; textures = textures.old; sources = sources.old; indices = indices.old }; words = words.old; floats = floats.old })
+        (record { slices = record { positions = positions.new; normals = normals.new; colours = colours.new; textures = textures.new; sources = sources.new; indices = indices.new }; words = words.new; floats = floats.new })
         (Answer.Made result) }
 {
     let s = block::read_settings(block);
@@ -64,8 +64,8 @@ pub fn convert(
     floats: &mut [f32],
 ) -> Answer
     ensures { Converted call block.now
-        (record { slices = record { positions = positions.entry.now; normals = normals.old; colours = colours.old; textures = textures.old; sources = sources.old; indices = indices.old }; words = words.old; floats = floats.old })
-        (record { slices = record { positions = positions.exit.now; normals = normals.new; colours = colours.new; textures = textures.new; sources = sources.new; indices = indices.new }; words = words.new; floats = floats.new })
+        (record { slices = record { positions = positions.old; normals = normals.old; colours = colours.old; textures = textures.old; sources = sources.old; indices = indices.old }; words = words.old; floats = floats.old })
+        (record { slices = record { positions = positions.new; normals = normals.new; colours = colours.new; textures = textures.new; sources = sources.new; indices = indices.new }; words = words.new; floats = floats.new })
         result }
 {
     let h = block::read_header(block);

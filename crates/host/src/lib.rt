@@ -16,7 +16,7 @@ mod solids;
 
 // A colour as a host has it: the bits of four f32, laid out as in C.
 #[repr(C)]
-#[derive(Drop)]
+#[derive(Clone, Copy)]
 pub struct Colour {
     pub r: u32,
     pub g: u32,
@@ -26,7 +26,7 @@ pub struct Colour {
 
 // What a host chooses.
 #[repr(C)]
-#[derive(Drop)]
+#[derive(Clone, Copy)]
 pub struct Choice {
     pub colour: Colour,
 }
@@ -61,8 +61,8 @@ pub extern "C" fn sitemesh_convert(
     res: &mut [usize],
 ) -> u32
     ensures { Hosted (Converted (call_of choice) block.now
-        (record { slices = record { positions = positions.entry.now; normals = normals.old; colours = colours.old; textures = textures.old; sources = sources.old; indices = indices.old }; words = words.old; floats = floats.old })
-        (record { slices = record { positions = positions.exit.now; normals = normals.new; colours = colours.new; textures = textures.new; sources = sources.new; indices = indices.new }; words = words.new; floats = floats.new }))
+        (record { slices = record { positions = positions.old; normals = normals.old; colours = colours.old; textures = textures.old; sources = sources.old; indices = indices.old }; words = words.old; floats = floats.old })
+        (record { slices = record { positions = positions.new; normals = normals.new; colours = colours.new; textures = textures.new; sources = sources.new; indices = indices.new }; words = words.new; floats = floats.new }))
         res.old res.new result }
 {
     let a = geometry::convert(

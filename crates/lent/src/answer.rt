@@ -2,7 +2,7 @@
 use block::Refusal;
 
 // What a mesh has.
-#[derive(Drop)]
+#[derive(Clone, Copy)]
 pub struct Report {
     pub vertices: usize,
     pub indices: usize,
@@ -11,7 +11,7 @@ pub struct Report {
     pub has_colors: bool,
 }
 
-#[derive(Drop)]
+#[derive(Clone, Copy)]
 pub enum Answer {
     Refused(Refusal),
     Made(Report),

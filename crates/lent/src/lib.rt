@@ -4,7 +4,7 @@ mod answer;
 pub use answer::{Answer, Report};
 
 // How many vertices and how many indices.
-#[derive(Drop)]
+#[derive(Clone, Copy)]
 pub struct Counts {
     pub vertices: usize,
     pub indices: usize,

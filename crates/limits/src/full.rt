@@ -6,7 +6,7 @@ use geometry::Call;
 use lent::Answer;
 
 // The refusal's number, the number of indices, and the first triangle.
-#[derive(Drop)]
+#[derive(Clone, Copy)]
 pub struct Seen {
     pub number: u32,
     pub indices: usize,

@@ -12,7 +12,7 @@ use block::{CornerNumber, PointNumber, VertexNumber, next_start, point_at, run_a
 use tables::wide;
 
 // How far the lines are put: the next place for an index, the next corner, and whether the entry before names a point, with its vertex number.
-#[derive(Drop)]
+#[derive(Clone, Copy)]
 pub struct Progress {
     pub at: usize,
     pub corner: CornerNumber,

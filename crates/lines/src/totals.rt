@@ -7,7 +7,7 @@ ghost use Rattle.lines.specs.Totals.{Counted};
 
 use block::{next_start, run_at};
 
-#[derive(Drop)]
+#[derive(Clone, Copy)]
 pub struct LineTotals {
     pub corners: usize,
     pub lines: usize,

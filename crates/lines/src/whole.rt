@@ -25,10 +25,10 @@ pub fn make_lines<'a>(
     floats: &mut [f32],
 ) -> Counts
     requires { Ready (record { block = block.now; coord = coord.now; floats = floats.old }) a w work.old t points
-        (record { sources = sources.now; normals = normals.old; colours = colours.old; textures = textures.old }) positions.old indices.old }
-    ensures { Done (record { block = block.entry.now; coord = coord.now; floats = floats.old }) a w work.old t points
-        (record { sources = sources.entry.now; normals = normals.old; colours = colours.old; textures = textures.old }) positions.old indices.old
-        (record { sources = sources.exit.now; normals = normals.new; colours = colours.new; textures = textures.new }) positions.new indices.new
+        (record { sources = sources.old; normals = normals.old; colours = colours.old; textures = textures.old }) positions.old indices.old }
+    ensures { Done (record { block = block.old; coord = coord.now; floats = floats.old }) a w work.old t points
+        (record { sources = sources.old; normals = normals.old; colours = colours.old; textures = textures.old }) positions.old indices.old
+        (record { sources = sources.new; normals = normals.new; colours = colours.new; textures = textures.new }) positions.new indices.new
         work.new floats.new result }
 {
     let n = all_vertices(

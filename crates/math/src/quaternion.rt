@@ -7,7 +7,7 @@ use crate::square_root::root;
 use crate::vector::{Unit, V3, add, cross, dot, normalize, scale};
 use crate::word::is_finite;
 
-#[derive(Drop)]
+#[derive(Clone, Copy)]
 pub struct Quat {
     pub x: f32,
     pub y: f32,

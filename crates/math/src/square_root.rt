@@ -8,7 +8,7 @@ ghost use Rattle.math.specs.Digit.{Digit, Bit, Plain, tall, plain};
 ghost use Rattle.math.specs.Nearest.{Rooted};
 
 // A root so far, and what its square leaves of the number so far.
-#[derive(Drop)]
+#[derive(Clone, Copy)]
 struct Partial {
     q: u32,
     r: u32,
@@ -110,7 +110,7 @@ pub fn root(x: f32) -> f32
 // ---- four at once
 
 // Four numbers, or what is made of each.
-#[derive(Drop)]
+#[derive(Clone, Copy)]
 struct Words {
     a: u32,
     b: u32,
@@ -118,7 +118,7 @@ struct Words {
     d: u32,
 }
 
-#[derive(Drop)]
+#[derive(Clone, Copy)]
 pub struct FourRoots {
     pub a: f32,
     pub b: f32,

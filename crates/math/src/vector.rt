@@ -5,7 +5,7 @@ ghost use Rattle.math.specs.Vector.{vadd, vsub, vscale, vdot, vcross, vlen, unit
 use crate::square_root::{root, roots};
 use crate::word::is_finite;
 
-#[derive(Drop)]
+#[derive(Clone, Copy)]
 pub struct V3 {
     pub x: f32,
     pub y: f32,
@@ -13,7 +13,7 @@ pub struct V3 {
 }
 
 // A direction: a vector scaled to length 1, or none.
-#[derive(Drop)]
+#[derive(Clone, Copy)]
 pub enum Unit {
     Of(V3),
     Nothing,
@@ -89,7 +89,7 @@ pub fn normalize(a: V3) -> Unit
     unit_by(a, len(a))
 }
 
-#[derive(Drop)]
+#[derive(Clone, Copy)]
 pub struct Units {
     pub a: Unit,
     pub b: Unit,

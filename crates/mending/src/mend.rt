@@ -197,7 +197,7 @@ fn make_table(positions: &[u32], indices: &[u32], count: usize, made: bool, tabl
 }
 
 // A normal after mending, and whether the table is made.
-#[derive(Drop)]
+#[derive(Clone, Copy)]
 struct Mended {
     words: Words3,
     made: bool,

@@ -15,7 +15,7 @@ use lists::put_three;
 use math::V3;
 
 // Height, radius and slices, top or bottom; the numbers of its first vertex and of its first pair.
-#[derive(Drop)]
+#[derive(Clone, Copy)]
 pub struct Cap {
     pub y: f32,
     pub r: f32,
@@ -104,9 +104,9 @@ fn put_cap_ring(
     normals: &mut [u32],
     textures: &mut [u32],
 )
-    requires { (k.pair < 2 ^ 24) × (k.first < 2 ^ 24) × (k.slices ≤ 1024) × RoomFor c (k.first + 1 + k.slices) (record { positions = positions.now; normals = normals.old; textures = textures.old }) }
-    ensures { record { positions = positions.exit.now; normals = normals.new; textures = textures.new }
-        ≡ pushed c (k.first + 1) (tab (cap_vert pairs.now k) k.slices 0) (record { positions = positions.entry.now; normals = normals.old; textures = textures.old }) }
+    requires { (k.pair < 2 ^ 24) × (k.first < 2 ^ 24) × (k.slices ≤ 1024) × RoomFor c (k.first + 1 + k.slices) (record { positions = positions.old; normals = normals.old; textures = textures.old }) }
+    ensures { record { positions = positions.new; normals = normals.new; textures = textures.new }
+        ≡ pushed c (k.first + 1) (tab (cap_vert pairs.now k) k.slices 0) (record { positions = positions.old; normals = normals.old; textures = textures.old }) }
 {
     let mut i = 0;
     while i < k.slices {
@@ -159,9 +159,9 @@ pub fn put_cap(
     textures: &mut [u32],
     indices: &mut [u32],
 )
-    requires { Capped c k at (record { positions = positions.now; normals = normals.old; textures = textures.old }) (length indices.old) }
-    ensures { (record { positions = positions.exit.now; normals = normals.new; textures = textures.new }
-        ≡ pushed c k.first (cap_verts pairs.now k) (record { positions = positions.entry.now; normals = normals.old; textures = textures.old }))
+    requires { Capped c k at (record { positions = positions.old; normals = normals.old; textures = textures.old }) (length indices.old) }
+    ensures { (record { positions = positions.new; normals = normals.new; textures = textures.new }
+        ≡ pushed c k.first (cap_verts pairs.now k) (record { positions = positions.old; normals = normals.old; textures = textures.old }))
         × (indices.new ≡ spliced indices.old at (cap_indices k)) }
 {
     put_vert(c, k.first, cap_centre(k), positions, normals, textures);
@@ -193,10 +193,10 @@ pub fn put_cap_at(
     textures: &mut [u32],
     indices: &mut [u32],
 )
-    requires { Numbered k × Roomy c (cap_at pairs.now there k.y k.r k.slices k.top k.first k.pair) k.first at (record { positions = positions.now; normals = normals.old; textures = textures.old }) indices.old }
+    requires { Numbered k × Roomy c (cap_at pairs.now there k.y k.r k.slices k.top k.first k.pair) k.first at (record { positions = positions.old; normals = normals.old; textures = textures.old }) indices.old }
     ensures { Written c (cap_at pairs.now there k.y k.r k.slices k.top k.first k.pair) k.first at
-        (record { positions = positions.entry.now; normals = normals.old; textures = textures.old })
-        (record { positions = positions.exit.now; normals = normals.new; textures = textures.new })
+        (record { positions = positions.old; normals = normals.old; textures = textures.old })
+        (record { positions = positions.new; normals = normals.new; textures = textures.new })
         indices.old indices.new }
 {
     if there {

@@ -4,7 +4,7 @@ ghost use Rattle.std.specs.Float.{nan};
 ghost use Rattle.mesh.specs.Grid.{whole};
 ghost use Rattle.parts.specs.Ring.{sine_at, cosine_at, ring_at, share_of};
 
-#[derive(Drop)]
+#[derive(Clone, Copy)]
 pub struct Ring {
     pub x: f32,
     pub z: f32,

@@ -9,7 +9,7 @@ use block::Refusal;
 use lent::Report;
 
 // How many vertices and indices a part makes, and how many pairs it takes.
-#[derive(Drop)]
+#[derive(Clone, Copy)]
 pub struct PartSizes {
     pub vertices: usize,
     pub indices: usize,
@@ -17,7 +17,7 @@ pub struct PartSizes {
 }
 
 // The lengths of the lent slices, and of the list of pairs in floats.
-#[derive(Drop)]
+#[derive(Clone, Copy)]
 pub struct PartLengths {
     pub positions: usize,
     pub normals: usize,

@@ -11,7 +11,7 @@ use lists::{put_three, put_two};
 use math::V3;
 
 // GeomCtx: whether texture is wanted, whether there is a transform, and which.
-#[derive(Drop)]
+#[derive(Clone, Copy)]
 pub struct GeomCtx {
     pub need_uvs: bool,
     pub has_transform: bool,
@@ -19,7 +19,7 @@ pub struct GeomCtx {
 }
 
 // A position, a normal, and a texture point before FORMAT 7.3.
-#[derive(Drop)]
+#[derive(Clone, Copy)]
 pub struct Vert {
     pub position: V3,
     pub normal: V3,
@@ -79,9 +79,9 @@ pub fn put_vert(
     normals: &mut [u32],
     textures: &mut [u32],
 )
-    requires { RoomFor c (k + 1) (record { positions = positions.now; normals = normals.old; textures = textures.old }) }
-    ensures { record { positions = positions.exit.now; normals = normals.new; textures = textures.new }
-        ≡ pushed c k (v ∷ []) (record { positions = positions.entry.now; normals = normals.old; textures = textures.old }) }
+    requires { RoomFor c (k + 1) (record { positions = positions.old; normals = normals.old; textures = textures.old }) }
+    ensures { record { positions = positions.new; normals = normals.new; textures = textures.new }
+        ≡ pushed c k (v ∷ []) (record { positions = positions.old; normals = normals.old; textures = textures.old }) }
 {
     put_vector(positions, 3 * k, v.position);
     put_vector(normals, 3 * k, v.normal);

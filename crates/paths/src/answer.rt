@@ -2,7 +2,7 @@
 ghost use Rattle.std.specs.Prelude.{◌≡◌};
 ghost use Rattle.paths.specs.Paths.{number_of};
 
-#[derive(Drop)]
+#[derive(Clone, Copy)]
 pub enum PathsAnswer {
     Refused,
     Tested,

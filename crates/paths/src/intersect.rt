@@ -9,14 +9,14 @@ ghost use Rattle.paths.specs.Intersect.{crossing_of, is_hit, hits};
 use math::{V3, cross, dot, sub};
 
 // Where it starts, and where it leads to less that.
-#[derive(Drop)]
+#[derive(Clone, Copy)]
 pub struct Ray {
     pub orig: V3,
     pub dir: V3,
 }
 
 // A corner, and from there to the second and to the third.
-#[derive(Drop)]
+#[derive(Clone, Copy)]
 pub struct Triangle {
     pub vert0: V3,
     pub edge1: V3,
@@ -24,7 +24,7 @@ pub struct Triangle {
 }
 
 // The determinant, the place u, v in the triangle and the place t on the ray.
-#[derive(Drop)]
+#[derive(Clone, Copy)]
 pub struct Crossing {
     pub det: f32,
     pub u: f32,

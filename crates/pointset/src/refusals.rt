@@ -9,7 +9,7 @@ ghost use Rattle.pointset.specs.Numbers.{is_short};
 use block::{LIMIT, Refusal};
 
 // The lengths of the lent slices.
-#[derive(Drop)]
+#[derive(Clone, Copy)]
 pub struct Lengths {
     pub positions: usize,
     pub colours: usize,

@@ -10,7 +10,7 @@ ghost use Rattle.polygon.specs.Memo.{xy, dot_of, spot_of, in_way, hits, Clear, T
 use lists::{get, put};
 
 // A corner: its number, and where it lies in the plane.
-#[derive(Drop)]
+#[derive(Clone, Copy)]
 pub struct Dot {
     pub j: u32,
     pub x: f32,

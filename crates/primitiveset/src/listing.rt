@@ -14,7 +14,7 @@ use primitives::{count_in, is_present, place_of, stretch_at, width_of};
 use tables::{Plan, narrow};
 
 // The start of the stretch, how many faces were listed, and the next corner.
-#[derive(Drop)]
+#[derive(Clone, Copy)]
 pub struct Progress {
     pub start: usize,
     pub faces: usize,

@@ -2,7 +2,7 @@
 use crate::lending::put_converted;
 use crate::reading::{Case, Stored, read_case};
 
-#[derive(Drop)]
+#[derive(Clone, Copy)]
 pub(crate) enum Verdict {
     Same,
     Differs,

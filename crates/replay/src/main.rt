@@ -24,7 +24,7 @@ fn more(n: u64) -> u64 {
 }
 
 // The cases met, those that agree, and whether more may follow.
-#[derive(Drop)]
+#[derive(Clone, Copy)]
 struct Tally {
     cases: u64,
     same: u64,

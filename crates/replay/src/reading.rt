@@ -2,21 +2,21 @@
 // Numbers are four bytes, most significant first.
 use block::LIMIT;
 
-#[derive(Drop)]
+#[derive(Clone, Copy)]
 pub enum Part {
     Got(u32),
     End,
     Bad,
 }
 
-#[derive(Drop)]
+#[derive(Clone, Copy)]
 pub struct Stored {
     pub corners: u32,
     pub block: u32,
     pub text: u32,
 }
 
-#[derive(Drop)]
+#[derive(Clone, Copy)]
 pub enum Case {
     Whole(Stored),
     End,

@@ -142,7 +142,7 @@ pub fn entry(k: usize) -> u32
 }
 
 // The entries of sine and cosine at two points.
-#[derive(Drop)]
+#[derive(Clone, Copy)]
 pub struct Entries {
     pub sin: u32,
     pub next_sin: u32,

@@ -9,7 +9,7 @@ use crate::table::four_entries;
 
 // Laid out as in C, for hosts.
 #[repr(C)]
-#[derive(Drop)]
+#[derive(Clone, Copy)]
 pub struct SinCos {
     pub sin: f32,
     pub cos: f32,

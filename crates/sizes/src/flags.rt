@@ -5,7 +5,7 @@ ghost use Rattle.sizes.specs.Flagged.{Flagged};
 
 use block::{Header, Kind, is_lines};
 
-#[derive(Drop)]
+#[derive(Clone, Copy)]
 pub struct Flags {
     pub solid: bool,
     pub unlit: bool,

@@ -9,7 +9,7 @@ use block::{Header, Kind, Topology};
 use tables::wide;
 
 // They are counted once a call, and handed on: what the tables of listed faces are planned by is counted with them.
-#[derive(Drop)]
+#[derive(Clone, Copy)]
 pub struct Sizes {
     pub points: usize,
     pub corners: usize,
@@ -18,7 +18,7 @@ pub struct Sizes {
 }
 
 // The points of a grid or an extrusion, and the quads between them.
-#[derive(Drop)]
+#[derive(Clone, Copy)]
 struct Net {
     points: usize,
     quads: usize,

@@ -47,7 +47,7 @@ pub fn is_no_shape(h: Header) -> bool
 }
 
 // What the rows tested so far say of a block: the first that holds, or the sizes, which are counted for them.
-#[derive(Drop)]
+#[derive(Clone, Copy)]
 pub enum Verdict {
     Refused(Refusal),
     Passed(Sizes),

@@ -45,9 +45,9 @@ fn put_row(
     normals: &mut [u32],
     textures: &mut [u32],
 )
-    requires { (n ≤ 1024) × (k ≤ 1024) × (j ≤ k) × RoomFor c (j * (n + 1) + (n + 1)) (record { positions = positions.now; normals = normals.old; textures = textures.old }) }
-    ensures { record { positions = positions.exit.now; normals = normals.new; textures = textures.new }
-        ≡ pushed c (j * (n + 1)) (sphere_row r n k pairs.now j) (record { positions = positions.entry.now; normals = normals.old; textures = textures.old }) }
+    requires { (n ≤ 1024) × (k ≤ 1024) × (j ≤ k) × RoomFor c (j * (n + 1) + (n + 1)) (record { positions = positions.old; normals = normals.old; textures = textures.old }) }
+    ensures { record { positions = positions.new; normals = normals.new; textures = textures.new }
+        ≡ pushed c (j * (n + 1)) (sphere_row r n k pairs.now j) (record { positions = positions.old; normals = normals.old; textures = textures.old }) }
 {
     let mut i = 0;
     while i < n + 1 {
@@ -68,9 +68,9 @@ pub fn put_rows(
     normals: &mut [u32],
     textures: &mut [u32],
 )
-    requires { (n ≤ 1024) × (k ≤ 1024) × RoomFor c (0 + (k + 1) * (n + 1)) (record { positions = positions.now; normals = normals.old; textures = textures.old }) }
-    ensures { record { positions = positions.exit.now; normals = normals.new; textures = textures.new }
-        ≡ pushed c 0 (flat (tab (sphere_row r n k pairs.now) (k + 1) 0)) (record { positions = positions.entry.now; normals = normals.old; textures = textures.old }) }
+    requires { (n ≤ 1024) × (k ≤ 1024) × RoomFor c (0 + (k + 1) * (n + 1)) (record { positions = positions.old; normals = normals.old; textures = textures.old }) }
+    ensures { record { positions = positions.new; normals = normals.new; textures = textures.new }
+        ≡ pushed c 0 (flat (tab (sphere_row r n k pairs.now) (k + 1) 0)) (record { positions = positions.old; normals = normals.old; textures = textures.old }) }
 {
     let mut j = 0;
     while j < k + 1 {

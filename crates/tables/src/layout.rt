@@ -2,7 +2,7 @@
 ghost use Rattle.std.specs.Prelude.{◌≡◌, ◌≤◌};
 ghost use Rattle.tables.specs.Layout.{most, plan_of};
 
-#[derive(Drop)]
+#[derive(Clone, Copy)]
 pub struct Plan {
     pub spots: usize,
     pub count: usize,

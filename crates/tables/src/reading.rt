@@ -8,7 +8,7 @@ use crate::layout::Plan;
 use block::{CornerNumber, PointNumber};
 
 // The first corner of a kept face, and the one after its last.
-#[derive(Drop)]
+#[derive(Clone, Copy)]
 pub struct Stretch {
     pub from: CornerNumber,
     pub to: CornerNumber,

@@ -11,7 +11,7 @@ use block::VertexNumber;
 use lists::get;
 
 // Which attributes stand on a vertex line, and whether the indices are lines in twos or triangles in threes.
-#[derive(Drop)]
+#[derive(Clone, Copy)]
 pub struct Parts {
     pub normals: bool,
     pub colours: bool,

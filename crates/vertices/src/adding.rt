@@ -38,11 +38,11 @@ pub fn append(
     bucket: Bucket,
     key: &[u32],
 )
-    requires { Room w t (record { sources = sources.now; normals = normals.old; colours = colours.old; textures = textures.old }) positions.old work.old (n.0 + 1)
+    requires { Room w t (record { sources = sources.old; normals = normals.old; colours = colours.old; textures = textures.old }) positions.old work.old (n.0 + 1)
         × (v.0 < t.spots) × (bucket.0 < t.buckets) × (9 ≤ length key.now) }
     ensures { Appended w t n.0 v.0 bucket.0 key.now
-        (record { sources = sources.entry.now; normals = normals.old; colours = colours.old; textures = textures.old }) positions.old work.old
-        (record { sources = sources.exit.now; normals = normals.new; colours = colours.new; textures = textures.new }) positions.new work.new }
+        (record { sources = sources.old; normals = normals.old; colours = colours.old; textures = textures.old }) positions.old work.old
+        (record { sources = sources.new; normals = normals.new; colours = colours.new; textures = textures.new }) positions.new work.new }
 {
     let i = n.0;
     let at = t.points + 3 * v.0;
@@ -68,10 +68,10 @@ pub fn vertex(
     point: PointNumber,
     key: &[u32],
 ) -> VertexNumber
-    requires { Ready w t (record { sources = sources.now; normals = normals.old; colours = colours.old; textures = textures.old }) positions.old work.old n.0 point.0 key.now }
+    requires { Ready w t (record { sources = sources.old; normals = normals.old; colours = colours.old; textures = textures.old }) positions.old work.old n.0 point.0 key.now }
     ensures { Vertexed w t n.0 (corner_key w point.0 key.now)
-        (record { sources = sources.entry.now; normals = normals.old; colours = colours.old; textures = textures.old }) positions.old work.old
-        (record { sources = sources.exit.now; normals = normals.new; colours = colours.new; textures = textures.new }) positions.new work.new result.0 }
+        (record { sources = sources.old; normals = normals.old; colours = colours.old; textures = textures.old }) positions.old work.old
+        (record { sources = sources.new; normals = normals.new; colours = colours.new; textures = textures.new }) positions.new work.new result.0 }
 {
     let bucket = bucket_of(w, t.buckets, point, key);
     let known = find(

@@ -1,7 +1,7 @@
 // Where vertices are kept (FORMAT 5) and the tables for the search among them.
 
 // How many words of a vertex each slice holds: 3, 4 and 2, or 0 for an attribute that is not made.
-#[derive(Drop)]
+#[derive(Clone, Copy)]
 pub struct Widths {
     pub normal: usize,
     pub colour: usize,
@@ -10,7 +10,7 @@ pub struct Widths {
 
 // In the working slice: where the words of the points stand, how many points there are, into how many buckets vertices are put,
 // and where the chains' heads stand, one for each bucket, and the nexts, one for each vertex.
-#[derive(Drop)]
+#[derive(Clone, Copy)]
 pub struct Chains {
     pub points: usize,
     pub spots: usize,
@@ -20,5 +20,5 @@ pub struct Chains {
 }
 
 // The number of a bucket, which is none of the three of FORMAT 11.
-#[derive(Drop)]
+#[derive(Clone, Copy)]
 pub struct Bucket(pub usize);
