@@ -1,4 +1,6 @@
 // The whole answer of the program to an input, as a text (FORMAT 14).
+#![tactic(auto)]
+
 mod lending;
 mod parts;
 mod texts;

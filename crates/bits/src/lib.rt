@@ -1,4 +1,6 @@
 // Fields of bits, words and the entries of index lists in a block's bytes.
+#![tactic(auto)]
+
 ghost use Rattle.std.specs.Prelude.{◌≡◌, ℕ, ◌+◌, ◌*◌, ◌/◌, ◌<◌, ◌≤◌, length, get_or, take, drop};
 ghost use Rattle.bits.specs.Bits.{field, word_at, entries};
 

@@ -1,4 +1,6 @@
 // The block of a shape (FORMAT 2, 3, 6 and 7): its header, lists and twelve words, what is refused of it, its runs, and what an attribute gives at a corner.
+#![tactic(auto)]
+
 pub mod crease;
 pub mod edition;
 pub mod extents;

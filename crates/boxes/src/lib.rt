@@ -1,4 +1,6 @@
 // FORMAT 17.6, box_prim.
+#![tactic(auto)]
+
 mod faces;
 mod tris;
 mod verts;

@@ -1,1 +1,2 @@
 // No code: the outlines of a block's faces, and what the triangles of its mesh have of them.
+#![tactic(auto)]

@@ -1,4 +1,6 @@
 // FORMAT 17.9, cone.
+#![tactic(auto)]
+
 mod lengths;
 mod side;
 mod whole;

@@ -1,4 +1,6 @@
 // The vertices of all corners, one corner after another (FORMAT 11): the key of a corner from the block and the tables, and its vertex number.
+#![tactic(auto)]
+
 mod attributes;
 mod key;
 mod laid;

@@ -1,4 +1,6 @@
 // FORMAT 17.8, cylinder.
+#![tactic(auto)]
+
 mod side;
 mod whole;
 

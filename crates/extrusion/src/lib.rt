@@ -1,4 +1,6 @@
 // The extrusion (FORMAT 8.4; extrusion, extrusion_frames, arc_params). Its lists stay in the block's bytes.
+#![tactic(auto)]
+
 mod arcs;
 mod axes;
 mod caps;

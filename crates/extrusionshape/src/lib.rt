@@ -1,4 +1,6 @@
 // FORMAT 8.4, extrusion: an accepted extrusion, from its block to the mesh in the lent slices.
+#![tactic(auto)]
+
 mod filling;
 mod planning;
 mod whole;

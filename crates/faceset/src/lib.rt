@@ -1,4 +1,6 @@
 // The tables of a face set (FORMAT 6.1, 6.2, 8.1; split_runs, indexed_face_set): its points, and its kept faces.
+#![tactic(auto)]
+
 mod listing;
 mod points;
 

@@ -1,4 +1,6 @@
 // FORMAT 8.1, indexed_face_set: an accepted face set, from its block to the mesh in the lent slices.
+#![tactic(auto)]
+
 mod filling;
 mod whole;
 

@@ -1,4 +1,6 @@
 // The conversion of a block (FORMAT 3, 4, 5).
+#![tactic(auto)]
+
 mod answer;
 mod kinds;
 mod refusals;

@@ -1,4 +1,6 @@
 // The conversion for hosts in other languages (FORMAT 15), and the parts (FORMAT 17.12).
+#![tactic(auto)]
+
 ghost use Rattle.std.specs.Prelude.{◌≡◌};
 ghost use Rattle.geometry.specs.Converted.{Converted};
 ghost use Rattle.sine.specs.SinCos.{sin_cos_of};

@@ -1,4 +1,6 @@
 // What is made in the lent slices, and what a call answers (FORMAT 3, 4, 5).
+#![tactic(auto)]
+
 mod answer;
 
 pub use answer::{Answer, Report};

@@ -1,4 +1,6 @@
 // Cases at the edge of a rule (FORMAT 3, 6.2, 6.4, 12.1), converted with slices for the largest block; each is compared with what the rule says.
+#![tactic(auto)]
+
 mod blocks;
 mod full;
 

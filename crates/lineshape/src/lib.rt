@@ -1,4 +1,6 @@
 // FORMAT 8.2, indexed_line_set: an accepted line set, from its block to the mesh in the lent slices.
+#![tactic(auto)]
+
 mod filling;
 mod whole;
 

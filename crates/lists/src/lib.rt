@@ -1,4 +1,6 @@
 // Words read and written at any place of a table.
+#![tactic(auto)]
+
 ghost use Rattle.std.specs.Prelude.{◌≡◌, [], ◌∷◌, ◌+◌, ◌≤◌, length, get_or, set};
 ghost use Rattle.lists.specs.Parts.{spliced};
 

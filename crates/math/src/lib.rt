@@ -1,5 +1,7 @@
 // The arithmetic of the conversion (FORMAT 9; src/convert/math.rs): vectors, square root, quaternions, minimum and maximum.
 // Every operation is f32, in the order of the Rust source. Bits are read and written by `word`.
+#![tactic(auto)]
+
 pub mod order;
 pub mod quaternion;
 pub mod square_root;

@@ -1,4 +1,6 @@
 // The normals of the corners of a soup, from its tables (FORMAT 10.1, 10.2; generate_normals).
+#![tactic(auto)]
+
 mod facing;
 mod groups;
 mod mirror;

@@ -1,4 +1,6 @@
 // What the parts have in common (FORMAT 17; Builder, ring, cap and dim of geometry.rs): vertices and triangles as they are built, sizes, caps and refusals.
+#![tactic(auto)]
+
 mod cap;
 mod ring;
 mod sizes;

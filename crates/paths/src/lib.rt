@@ -1,4 +1,6 @@
 // FORMAT 19: up to 64 paths against the triangles of a mesh, each triangle read once.
+#![tactic(auto)]
+
 mod answer;
 mod intersect;
 mod pass;

@@ -1,4 +1,6 @@
 // FORMAT 17.5, point_set.
+#![tactic(auto)]
+
 mod copies;
 mod refusals;
 mod whole;

@@ -1,4 +1,6 @@
 // The triangles of one face: its facing normal, its points in a plane, and its triangles.
+#![tactic(auto)]
+
 mod ears;
 mod face;
 mod facing;

@@ -1,4 +1,6 @@
 // The primitives of a triangle, fan, strip or quad set, as they lie in its index list (FORMAT 6.4).
+#![tactic(auto)]
+
 mod places;
 mod stretches;
 mod totals;

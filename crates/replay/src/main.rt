@@ -1,4 +1,6 @@
 // Converts the stored blocks of the file `cases`, and tells which texts are not the stored ones and how many are.
+#![tactic(auto)]
+
 mod judging;
 mod lending;
 mod reading;

@@ -1,5 +1,7 @@
 // The square root for programs in other languages, on the bits of f32 (FORMAT 9.2). It is there to be held against a machine's own root and
 // to be timed (compare/README.md, docs/BENCHMARKS.md); a host has no use for it.
+#![tactic(auto)]
+
 ghost use Rattle.std.specs.Prelude.{◌≡◌};
 ghost use Rattle.std.specs.Float.{binary32};
 ghost use Rattle.std.specs.Float.Ieee.{of_bits, to_bits};

@@ -1,4 +1,6 @@
 // Sine and cosine of f32 angles from a table of a quarter turn (FORMAT 16), for terminals that have no maths library.
+#![tactic(auto)]
+
 mod angle;
 pub mod table;
 mod whole;

@@ -1,4 +1,6 @@
 // Prints the table of the sine (FORMAT 16.1): an entry to a line, from entry 0.
+#![tactic(auto)]
+
 mod lines;
 
 use crate::lines::{ROOM, put_table};

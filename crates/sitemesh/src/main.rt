@@ -1,4 +1,6 @@
 // Reads a block on standard input and prints its mesh, or why it has none (FORMAT 14).
+#![tactic(auto)]
+
 use libc::{STDIN_FILENO, STDOUT_FILENO};
 
 // Where read_full stopped before its buffer was full, a further read tells the end of the input from a failure.

@@ -1,4 +1,6 @@
 // FORMAT 3, 4: P, C and N of a block, and the refusals that they and the shape decide.
+#![tactic(auto)]
+
 mod flags;
 mod kinds;
 mod refusals;

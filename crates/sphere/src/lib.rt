@@ -1,4 +1,6 @@
 // FORMAT 17.7, sphere.
+#![tactic(auto)]
+
 mod bands;
 mod rows;
 mod whole;

@@ -1,4 +1,6 @@
 // Where the tables of a soup lie in the one working slice of words (FORMAT 4), and how they are read and filled.
+#![tactic(auto)]
+
 pub mod layout;
 pub mod reading;
 pub mod writing;

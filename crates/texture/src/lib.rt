@@ -1,4 +1,6 @@
 // FORMAT 7.3, 7.4: the default texture of a face set, the texture of a corner, and the table of the corners' textures.
+#![tactic(auto)]
+
 mod corner;
 mod extents;
 mod filling;

@@ -1,4 +1,6 @@
 // The vertices made so far, in the output slices, and the search among them (FORMAT 11; PolyMesh::build, dedup).
+#![tactic(auto)]
+
 mod adding;
 mod hash;
 mod parts;

@@ -1,0 +1,6 @@
+use Rattle.block.specs.Edition.{edition_in}
+use borrow.Author.Rules.{rules}
+use Rattle.block.proofs.edition.edition_in.Goals as goal
+
+pub returns : goal.returns
+returns c = rw (c.edition_of.ensures, c.field_at.ensures)

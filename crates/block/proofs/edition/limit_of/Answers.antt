@@ -1,0 +1,5 @@
+use borrow.Author.Rules.{rules}
+use Rattle.block.proofs.edition.limit_of.Goals as goal
+
+pub returns : goal.returns
+returns c = rw c.edition_of.ensures

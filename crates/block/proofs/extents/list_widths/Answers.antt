@@ -1,0 +1,17 @@
+use borrow.Author.Rules.{rules}
+use Rattle.block.proofs.extents.list_widths.Reads as reads
+use Rattle.block.proofs.extents.list_widths.Lts as lts
+use Rattle.block.proofs.extents.color_width.Reads as color-width-reads
+use Rattle.block.proofs.extents.list_widths.Goals as goal
+
+pub returns-in-FaceSet : goal.returns-in-FaceSet
+returns-in-FaceSet c = rw (c.color_width-c.ensures, c.enum_told-1.given.1)
+
+pub returns-in-LineSet : goal.returns-in-LineSet
+returns-in-LineSet c = rw (c.color_width-c.ensures, c.enum_told-in-LineSet-1.given.1)
+
+pub returns-in-Grid : goal.returns-in-Grid
+returns-in-Grid c = rw (c.color_width-c.ensures, c.enum_told-in-Grid-1.given.1)
+
+pub returns-in-Primitives : goal.returns-in-Primitives
+returns-in-Primitives c = rw (c.color_width-c.ensures, c.enum_told-in-Primitives-1.given.1)

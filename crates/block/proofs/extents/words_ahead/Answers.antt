@@ -1,0 +1,7 @@
+use native.Mathlib.Omega.{arith}
+use Rattle.block.specs.Edition.{words_ahead}
+use borrow.Author.Rules.{rules}
+use Rattle.block.proofs.extents.words_ahead.Goals as goal
+
+pub returns : goal.returns
+returns c = (rw c.edition_of-e.ensures, omega arith)

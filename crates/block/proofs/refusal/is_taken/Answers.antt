@@ -1,0 +1,5 @@
+use borrow.Author.Rules.{rules}
+use Rattle.block.proofs.refusal.is_taken.Goals as goal
+
+pub returns : goal.returns
+returns c = rw c.number_of.ensures

@@ -1,0 +1,5 @@
+use borrow.Author.Rules.{rules}
+use Rattle.block.proofs.stream.get3.Goals as goal
+
+pub returns : goal.returns
+returns c = rw (← c.part.ensures, ← c.found_at-found.ensures) c.value3.ensures

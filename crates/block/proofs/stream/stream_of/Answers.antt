@@ -1,0 +1,7 @@
+use Rattle.block.specs.Stream.{stream_of}
+use borrow.Author.Rules.{rules}
+use Rattle.block.proofs.stream.stream_of.Goals as goal
+
+pub returns : goal.returns
+unfolding stream_of
+returns c = rw (c.index_bytes.ensures, c.list_place-values.ensures, c.list_place-index.ensures)

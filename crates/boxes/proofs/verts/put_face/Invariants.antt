@@ -1,0 +1,14 @@
+use mathlib.Core.Path.{refl, ap, ◌∙◌}
+use mathlib.Core.List.{[], ◌∷◌}
+use Prim.Native.Nat.{ℕ, ◌*◌, ◌-◌}
+use Rattle.parts.proofs.Pushing.{Filling, ones_none, ones_more, ones_room, ones_all}
+use Rattle.boxes.specs.declared.faces.BoxFace.{BoxFace}
+use Rattle.boxes.specs.Box.{face_at, box_vert, box_face}
+use borrow.Author.Rules.{rules}
+use Rattle.boxes.proofs.verts.put_face.Given as goal
+
+abbrev pub invariant-loop-i : goal.invariant-loop-i
+invariant-loop-i l = Filling l.c (l.k * 4) (λ (j : ℕ). box_vert l.h (face_at l.k) j ∷ []) 1 4 (record { l.positions = l.initial.positions; l.normals = l.initial.normals; l.textures = l.initial.textures }) l.i (record { l.positions = l.positions; l.normals = l.normals; l.textures = l.textures })
+
+abbrev pub decreases-loop-i : goal.decreases-loop-i
+decreases-loop-i l = 4 - l.i

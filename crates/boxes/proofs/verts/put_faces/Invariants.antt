@@ -1,0 +1,14 @@
+use mathlib.Core.Path.{sym}
+use Prim.Native.Nat.{◌-◌}
+use native.Mathlib.Nat.{zero-add}
+use Rattle.parts.proofs.Pushing.{Filling, filling_none, filling_more, filling_all}
+use Rattle.boxes.specs.Box.{box_face}
+use Rattle.boxes.proofs.Sized.{face_wide, face_room}
+use borrow.Author.Rules.{rules}
+use Rattle.boxes.proofs.verts.put_faces.Given as goal
+
+abbrev pub invariant-loop-k : goal.invariant-loop-k
+invariant-loop-k l = Filling l.c 0 (box_face l.h) 4 6 (record { l.positions = l.initial.positions; l.normals = l.initial.normals; l.textures = l.initial.textures }) l.k (record { l.positions = l.positions; l.normals = l.normals; l.textures = l.textures })
+
+abbrev pub decreases-loop-k : goal.decreases-loop-k
+decreases-loop-k l = 6 - l.k

@@ -1,0 +1,7 @@
+use Rattle.cone.specs.Cone.{cone_foot}
+use borrow.Author.Rules.{rules}
+use Rattle.cone.proofs.side.cone_foot.Goals as goal
+
+pub returns : goal.returns
+unfolding cone_foot
+returns c = rw (e, c.ring_at-x.ensures)

@@ -1,0 +1,7 @@
+use Rattle.cone.specs.Cone.{cone_normal}
+use borrow.Author.Rules.{rules}
+use Rattle.cone.proofs.side.cone_slope.Goals as goal
+
+pub returns : goal.returns
+unfolding cone_normal
+returns c = rw c.ring_at-q.ensures

@@ -1,0 +1,14 @@
+use native.Mathlib.Omega.{arith}
+use mathlib.Core.Path.{refl, sym}
+use Prim.Native.Nat.{◌-◌}
+use native.Mathlib.Nat.{zero-add}
+use Rattle.cone.specs.Cone.{cone_verts}
+use Rattle.parts.proofs.Pushing.{Filling, filling_none, filling_more, filling_all, room_less}
+use borrow.Author.Rules.{rules}
+use Rattle.cone.proofs.side.put_slices.Given as goal
+
+abbrev pub invariant-loop-i : goal.invariant-loop-i
+invariant-loop-i l = Filling l.c 0 (cone_verts l.pairs l.r l.height l.n) 3 l.n (record { l.positions = l.initial.positions; l.normals = l.initial.normals; l.textures = l.initial.textures }) l.i (record { l.positions = l.positions; l.normals = l.normals; l.textures = l.textures })
+
+abbrev pub decreases-loop-i : goal.decreases-loop-i
+decreases-loop-i l = l.n - l.i

@@ -1,0 +1,11 @@
+use Rattle.corners.specs.Corner.{normal_at}
+use borrow.Author.Rules.{rules}
+use Rattle.corners.proofs.key.normal_of.Goals as goal
+
+pub returns-then-a : goal.returns-then-a
+unfolding normal_at
+returns-then-a c = rw (c.get3.ensures, c.place_of-place.ensures, c.number_of-face.ensures, c.if-a.true)
+
+pub returns : goal.returns
+unfolding normal_at
+returns c = rw (c.generated_of.ensures, c.if-a.false)

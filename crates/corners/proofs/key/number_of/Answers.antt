@@ -1,0 +1,7 @@
+use Rattle.corners.specs.Corner.{number_at}
+use borrow.Author.Rules.{rules}
+use Rattle.corners.proofs.key.number_of.Goals as goal
+
+pub returns : goal.returns
+unfolding number_at
+returns c = search rules

@@ -1,0 +1,7 @@
+use Rattle.corners.specs.Corner.{place_at}
+use borrow.Author.Rules.{rules}
+use Rattle.corners.proofs.key.place_of.Goals as goal
+
+pub returns : goal.returns
+unfolding place_at
+returns c = search rules

@@ -1,0 +1,9 @@
+use Rattle.extrusion.proofs.Planes.{by_bent, by_straight}
+use borrow.Author.Rules.{rules}
+use Rattle.extrusion.proofs.axes.axes_by.Goals as goal
+
+pub returns-in-Of : goal.returns-in-Of
+returns-in-Of c = by_bent _ _ _ _ _ _ _ _ c.enum_told-1.given.1 c.upward.ensures c.or_else.ensures c.bent.ensures
+
+pub returns-in-Nothing : goal.returns-in-Nothing
+returns-in-Nothing c = by_straight _ _ _ _ _ c.enum_told-in-Nothing-1.given.1 c.straight.ensures

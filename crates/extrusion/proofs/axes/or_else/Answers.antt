@@ -1,0 +1,12 @@
+use Rattle.mesh.specs.Normals.{or_else}
+use borrow.Author.Rules.{rules}
+use mathlib.Core.Path.{refl}
+use Rattle.extrusion.proofs.axes.or_else.Goals as goal
+
+pub returns-in-Of : goal.returns-in-Of
+unfolding or_else
+returns-in-Of c = rw c.u-1.given.1 refl
+
+pub returns-in-Nothing : goal.returns-in-Nothing
+unfolding or_else
+returns-in-Nothing c = rw c.enum_told-1.given.1 refl

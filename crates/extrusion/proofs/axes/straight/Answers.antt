@@ -1,0 +1,7 @@
+use Rattle.extrusion.proofs.Planes.{straight_is}
+use borrow.Author.Rules.{rules}
+use Rattle.extrusion.proofs.axes.straight.Goals as goal
+
+pub returns : goal.returns
+returns c =
+    straight_is _ _ _ _ _ _ _ _ _ c.upward.ensures c.upward-2.ensures c.or_else.ensures c.quat_between-q.ensures c.quat_rotate.ensures c.upward-3.ensures c.quat_rotate-2.ensures c.quat_rotate-3.ensures

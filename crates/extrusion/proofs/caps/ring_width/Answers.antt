@@ -1,0 +1,14 @@
+use Rattle.extrusion.proofs.Blocks.{section_room}
+use Rattle.extrusion.proofs.Fitting.{ring_closed, ring_open}
+use Rattle.extrusion.proofs.Values.{count2}
+use borrow.Author.Rules.{rules}
+use Rattle.extrusion.proofs.caps.ring_width.Goals as goal
+
+pub closes-requires : goal.closes-requires
+closes-requires c = (section_room c.requires _ _ c.list_part.ensures c.section_count-m.ensures, rw c.section_count-m.ensures c.requires.section)
+
+pub returns-then-closes : goal.returns-then-closes
+returns-then-closes c = ring_closed _ _ _ _ c.list_part.ensures c.section_count-m.ensures _ (count2 _ _) c.closes.ensures c.if-closes.true
+
+pub returns : goal.returns
+returns c = ring_open _ _ _ _ c.list_part.ensures c.section_count-m.ensures _ c.closes.ensures c.if-closes.false

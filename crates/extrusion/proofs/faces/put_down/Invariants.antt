@@ -1,0 +1,12 @@
+use Prim.Native.Nat.{◌-◌}
+use Rattle.lists.proofs.Pieces.{Singles, singles_none, singles_more, singles_all}
+use mathlib.Core.Path.{refl}
+use native.Mathlib.Omega.{arith}
+use borrow.Author.Rules.{rules}
+use Rattle.extrusion.proofs.faces.put_down.Given as goal
+
+abbrev pub invariant-loop-j : goal.invariant-loop-j
+invariant-loop-j l = Singles (λ j'. l.cap - 1 - j') l.cap l.initial.work l.k j' l.work
+
+abbrev pub decreases-loop-j : goal.decreases-loop-j
+decreases-loop-j l = l.cap - l.j

@@ -1,0 +1,16 @@
+use Prim.Native.Nat.{◌-◌, ◌≤◌}
+use Rattle.extrusion.proofs.Planes.{first_step}
+use Rattle.extrusion.proofs.Values.{count3}
+use Rattle.mesh.specs.Extrusion.{threes}
+use Rattle.mesh.specs.Frames.{first_of, first_z, z_own}
+use borrow.Author.Rules.{rules}
+use lib.ListN.{length}
+use mathlib.Core.Path.{◌≡◌, refl}
+use native.Mathlib.Omega.{arith}
+use Rattle.extrusion.proofs.frames.first_z.Given as goal
+
+abbrev pub invariant-loop-i : goal.invariant-loop-i
+invariant-loop-i l = (l.i ≤ l.n) × (l.z ≡ first_of (z_own (threes l.s l.n)) l.i)
+
+abbrev pub decreases-loop-i : goal.decreases-loop-i
+decreases-loop-i l = l.n - l.i

@@ -1,0 +1,6 @@
+use borrow.Author.Rules.{rules}
+use mathlib.Core.Path.{refl}
+use Rattle.extrusion.proofs.frames.or.Goals as goal
+
+pub returns-in-Of : goal.returns-in-Of
+returns-in-Of c = rw c.a-1.given.1 refl

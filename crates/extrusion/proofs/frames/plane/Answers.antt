@@ -1,0 +1,6 @@
+use Rattle.extrusion.proofs.Planes.{bend_is}
+use borrow.Author.Rules.{rules}
+use Rattle.extrusion.proofs.frames.plane.Goals as goal
+
+pub returns : goal.returns
+returns c = bend_is _ _ _ _ _ _ _ _ c.step.ensures c.step-2.ensures c.cross.ensures c.normalize.ensures

@@ -1,0 +1,28 @@
+use Rattle.extrusion.proofs.Tabled.{faces_put, room_corners, room_numbers, room_places, room_starts, sides_most, starts_room, uses_room}
+use borrow.Author.Rules.{rules}
+use mathlib.Core.Path.{refl}
+use native.Mathlib.Omega.{arith}
+use Rattle.extrusion.proofs.listing.list_faces.Goals as goal
+
+pub put_uses-requires : goal.put_uses-requires
+put_uses-requires c = uses_room c.requires _ _ c.spine_count-n.ensures c.section_count-m.ensures _ _ (room_corners c.requires)
+
+pub overflow_mul-n : goal.overflow_mul-n
+overflow_mul-n c =
+    omega (arith, sides_most c.requires _ _ c.spine_count-n.ensures c.section_count-m.ensures)
+
+pub put_starts-requires : goal.put_starts-requires
+put_starts-requires c =
+    starts_room c.requires _ _ c.spine_count-n.ensures c.section_count-m.ensures _ (omega (arith, room_starts c.requires, c.work-1.given))
+
+pub put_uses-requires-2 : goal.put_uses-requires-2
+put_uses-requires-2 c =
+    uses_room c.requires _ _ c.spine_count-n.ensures c.section_count-m.ensures _ _ (omega (arith, room_places c.requires, c.work-1.given, c.work-2-1.given))
+
+pub put_numbers-requires : goal.put_numbers-requires
+put_numbers-requires c =
+    (c.requires.room.many, omega (arith, room_numbers c.requires, c.work-1.given, c.work-2-1.given, c.work-3-1.given))
+
+pub returns : goal.returns
+returns c =
+    faces_put c.requires _ _ c.spine_count-n.ensures c.section_count-m.ensures _ _ _ _ _ refl c.put_uses.ensures c.put_starts.ensures c.put_uses-2.ensures c.put_numbers.ensures

@@ -1,0 +1,11 @@
+use Prim.Native.Nat.{◌-◌}
+use Rattle.lists.proofs.Pieces.{Singles, singles_none, singles_more, singles_all}
+use borrow.Author.Rules.{rules}
+use native.Mathlib.Omega.{arith}
+use Rattle.extrusion.proofs.listing.put_numbers.Given as goal
+
+abbrev pub invariant-loop-j : goal.invariant-loop-j
+invariant-loop-j l = Singles (λ j'. j') l.faces l.initial.work l.k j' l.work
+
+abbrev pub decreases-loop-j : goal.decreases-loop-j
+decreases-loop-j l = l.faces - l.j

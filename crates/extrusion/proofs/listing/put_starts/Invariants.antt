@@ -1,0 +1,14 @@
+use Prim.Native.Nat.{◌+◌, ◌-◌}
+use Rattle.extrusion.proofs.Counting.{size_most, start_more, start_none, start_rises}
+use Rattle.extrusion.specs.Listings.{start_at}
+use Rattle.lists.proofs.Pieces.{Singles, singles_none, singles_more, singles_all}
+use borrow.Author.Rules.{rules}
+use mathlib.Core.Path.{◌∙◌, ◌≡◌}
+use native.Mathlib.Omega.{arith}
+use Rattle.extrusion.proofs.listing.put_starts.Given as goal
+
+abbrev pub invariant-loop-j : goal.invariant-loop-j
+invariant-loop-j l = (l.c ≡ start_at l.sides l.cap l.j) × Singles (start_at l.sides l.cap) (l.faces + 1) l.initial.work l.k l.j l.work
+
+abbrev pub decreases-loop-j : goal.decreases-loop-j
+decreases-loop-j l = l.faces + 1 - l.j

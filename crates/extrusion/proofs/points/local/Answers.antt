@@ -1,0 +1,7 @@
+use Rattle.mesh.specs.Extrusion.{local}
+use borrow.Author.Rules.{rules}
+use Rattle.extrusion.proofs.points.local.Goals as goal
+
+pub returns : goal.returns
+unfolding local
+returns c = c.quat_rotate.ensures

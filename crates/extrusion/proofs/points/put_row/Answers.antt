@@ -1,0 +1,29 @@
+use Prim.Native.Nat.{◌-◌}
+use Rattle.lists.proofs.Pieces.{Pieces, pieces_all, pieces_more, pieces_none}
+use Rattle.extrusion.proofs.Walking.{row_is, spot_is, spot_length, spot_of}
+use Rattle.extrusion.specs.Rows.{axes_of}
+use Rattle.mesh.specs.Extrusion.{twos}
+use Rattle.lists.specs.Parts.{spliced}
+use borrow.Author.Rules.{rules}
+use mathlib.Core.Path.{◌∙◌, refl, ap}
+use native.Mathlib.Omega.{arith}
+use Rattle.extrusion.proofs.points.put_row.Goals as goal
+
+pub loop-j-init : goal.loop-j-init
+loop-j-init c = pieces_none
+
+pub put_point-requires : goal.put_point-requires
+put_point-requires c =
+    omega (arith, c.loop-j.invariant.size, c.loop-j-test.true, c.requires.1)
+
+pub loop-j-preserved : goal.loop-j-preserved
+loop-j-preserved c =
+    pieces_more 3 (spot_length _ _ _ _ _) (omega (arith, c.requires.1)) c.loop-j.invariant c.loop-j-test.true refl
+    (spot_is _ _ _ _ _ _ _ _ _ c.pair_at.ensures c.local.ensures c.placed-p.ensures) c.put_point.ensures
+
+pub shape_of-work : goal.shape_of-work
+shape_of-work c = c.loop-j.invariant.size
+
+pub returns : goal.returns
+returns c =
+    pieces_all c.loop-j.invariant c.loop-j-test.false ∙ ap (spliced c.args.work.now c.args.k) (row_is _ _ _ _ c.args.section.now c.args.m)

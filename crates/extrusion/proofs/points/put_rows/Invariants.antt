@@ -1,0 +1,17 @@
+use Prim.Native.Nat.{◌*◌, ◌-◌, ◌<◌, ◌^◌}
+use Rattle.lists.proofs.Pieces.{pieces_all}
+use Rattle.extrusion.proofs.Values.{count2}
+use Rattle.extrusion.proofs.Walking.{Walked, walk_start, walk_step}
+use Rattle.mesh.specs.Extrusion.{threes, turn_in, twos}
+use Rattle.lists.specs.Loops.{tab}
+use Rattle.lists.proofs.Numbers.{piece_room}
+use borrow.Author.Rules.{rules}
+use lib.ListN.{length}
+use native.Mathlib.Omega.{arith}
+use Rattle.extrusion.proofs.points.put_rows.Given as goal
+
+abbrev pub invariant-loop-i : goal.invariant-loop-i
+invariant-loop-i l = (length l.initial.work < 2 ^ 64) × (l.n < 2 ^ 63) × Walked (threes l.spine l.n) (twos l.section l.m) (twos l.scales l.scale_count) (tab (turn_in l.turns) l.turn_count 0) l.n l.initial.work l.k l.i l.work l.y l.prev
+
+abbrev pub decreases-loop-i : goal.decreases-loop-i
+decreases-loop-i l = l.n - l.i

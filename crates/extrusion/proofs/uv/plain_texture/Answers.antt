@@ -1,0 +1,52 @@
+use Rattle.extrusion.proofs.Blocks.{section_room}
+use Rattle.extrusion.proofs.Textures.{column_lt, column_reach, on_cap, on_side, row_reach, sides_fit}
+use borrow.Author.Rules.{rules}
+use native.Mathlib.Omega.{arith}
+use Rattle.extrusion.proofs.uv.plain_texture.Goals as goal
+
+pub nonzero_rem-col : goal.nonzero_rem-col
+nonzero_rem-col c = omega (arith, c.section_count-m.ensures, c.requires.0.given.section)
+
+pub overflow_sub-n : goal.overflow_sub-n
+overflow_sub-n c = omega (arith, c.spine_count-n.ensures, c.requires.0.given.spine)
+
+pub overflow_sub-m : goal.overflow_sub-m
+overflow_sub-m c = omega (arith, c.section_count-m.ensures, c.requires.0.given.section)
+
+pub overflow_mul-n : goal.overflow_mul-n
+overflow_mul-n c = omega (arith, sides_fit c.requires.0.given _ _ c.spine_count-n.ensures c.section_count-m.ensures)
+
+pub overflow_add-at : goal.overflow_add-at
+overflow_add-at c =
+    omega (arith, column_reach c.requires.0 c.args.number c.args.point.0 _ _ c.spine_count-n.ensures c.section_count-m.ensures c.requires.1)
+
+pub nonzero_div-point : goal.nonzero_div-point
+nonzero_div-point c = omega (arith, c.section_count-m.ensures, c.requires.0.given.section)
+
+pub overflow_add-m : goal.overflow_add-m
+overflow_add-m c =
+    omega (arith, row_reach c.requires.0 c.args.number c.args.point.0 _ _ c.spine_count-n.ensures c.section_count-m.ensures c.requires.1)
+
+pub overflow_add-at-then-number-n : goal.overflow_add-at-then-number-n
+overflow_add-at-then-number-n c =
+    omega (arith, row_reach c.requires.0 c.args.number c.args.point.0 _ _ c.spine_count-n.ensures c.section_count-m.ensures c.requires.1)
+
+pub side_texture-requires : goal.side_texture-requires
+side_texture-requires c = (
+  column_reach c.requires.0 c.args.number c.args.point.0 _ _ c.spine_count-n.ensures c.section_count-m.ensures c.requires.1,
+  row_reach c.requires.0 c.args.number c.args.point.0 _ _ c.spine_count-n.ensures c.section_count-m.ensures c.requires.1,
+)
+
+pub returns-then-number-n : goal.returns-then-number-n
+returns-then-number-n c =
+    on_side c.requires.0 c.args.number c.args.point.0 _ _ c.spine_count-n.ensures c.section_count-m.ensures c.requires.1 _ c.if-number-n.true c.side_texture.ensures.0 c.side_texture.ensures.1
+
+pub pair_at-requires : goal.pair_at-requires
+pair_at-requires c = (
+  section_room c.requires.0.given _ _ c.list_part.ensures c.section_count-m.ensures,
+  column_lt c.requires.0 c.args.number c.args.point.0 _ _ c.spine_count-n.ensures c.section_count-m.ensures c.requires.1,
+)
+
+pub returns : goal.returns
+returns c =
+    on_cap c.requires.0 c.args.number c.args.point.0 _ _ c.spine_count-n.ensures c.section_count-m.ensures c.requires.1 _ _ _ c.if-number-n.false c.list_part.ensures c.pair_at.ensures c.cap_texture.ensures

@@ -1,0 +1,16 @@
+use Prim.Native.Nat.{◌-◌, ℕ}
+use Rattle.extrusion.proofs.Textures.{corner_within, texture_read}
+use Rattle.extrusion.specs.Corners.{extrusion_texture}
+use Rattle.mesh.specs.Extrusion.{extrusion_of}
+use borrow.Author.Rules.{rules}
+use mathlib.Core.Path.{ap, refl}
+use native.Mathlib.Omega.{arith}
+use Rattle.lists.proofs.Pieces.{Pieces, pieces_none, pieces_more, pieces_all, pieces_kept}
+use Rattle.mesh.specs.Words.{words2}
+use Rattle.extrusion.proofs.uv.put_textures.Given as goal
+
+abbrev pub invariant-loop-c : goal.invariant-loop-c
+invariant-loop-c l = Pieces (λ (j : ℕ). words2 (extrusion_texture (extrusion_of l.block) l.initial.work l.corners l.numbers j)) l.count l.initial.work l.textures l.c l.work
+
+abbrev pub decreases-loop-c : goal.decreases-loop-c
+decreases-loop-c l = l.count - l.c

@@ -1,0 +1,27 @@
+use mathlib.Core.Path.{◌∙◌}
+use native.Mathlib.Omega.{arith}
+use Rattle.tables.proofs.Listings.{listed_sound}
+use Rattle.shaping.proofs.Tabling.{prepared_front, tabled}
+use Rattle.extrusionshape.proofs.Tabling.{points_there}
+use borrow.Author.Rules.{rules}
+use Rattle.extrusionshape.proofs.filling.put_tables.Goals as goal
+
+pub put_points-requires : goal.put_points-requires
+put_points-requires c = let P = c.requires.1 in let R = P.room in (c.requires.0, omega (arith, P.spots))
+
+pub list_faces-requires : goal.list_faces-requires
+list_faces-requires c =
+    rw (points_there _ c.requires.0 c.requires.1 c.put_points.ensures).0 c.requires.1
+
+pub prepare-requires : goal.prepare-requires
+prepare-requires c = (listed_sound c.list_faces.ensures.1, c.requires.3)
+
+pub arcs_where-requires : goal.arcs_where-requires
+arcs_where-requires c =
+    (c.requires.0, omega (arith, c.requires.2, c.prepare.auto.1.1.1.1.1.0))
+
+pub returns : goal.returns
+returns c = (
+  tabled c.requires.1.room (points_there _ c.requires.0 c.requires.1 c.put_points.ensures) c.list_faces.ensures.0 c.list_faces.ensures.1 (prepared_front c.prepare.ensures c.arcs_where.ensures.1) (c.arcs_where.auto.1.1.1.0 ∙ c.prepare.auto.1.1.1.1.1.0),
+  c.arcs_where.ensures.0,
+)

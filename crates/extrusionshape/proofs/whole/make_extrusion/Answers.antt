@@ -1,0 +1,50 @@
+use mathlib.Core.Path.{ap, ◌∙◌}
+use native.Mathlib.Omega.{arith}
+use Rattle.build.specs.declared.shared.Shared.{Shared}
+use Rattle.shaping.specs.Shared.{plain_shared}
+use Rattle.shaping.proofs.Tabling.{faces_held}
+use Rattle.shaping.proofs.Theorem.{ready, shaped}
+use Rattle.extrusionshape.proofs.Bounds.{sizes_are, given, sized, counted, roomy, planned_at, arcs_room, rows_room}
+use Rattle.extrusionshape.proofs.Tabling.{textures_asked}
+use Rattle.extrusionshape.proofs.Shapes.{shape, mesh_is}
+use borrow.Author.Rules.{rules}
+use Rattle.extrusionshape.proofs.whole.make_extrusion.Goals as goal
+
+pub cap_length-cap-requires : goal.cap_length-cap-requires
+cap_length-cap-requires c = given c.requires
+
+pub ring_width-ring-requires : goal.ring_width-ring-requires
+ring_width-ring-requires c = given c.requires
+
+pub plan_extrusion-t-requires : goal.plan_extrusion-t-requires
+plan_extrusion-t-requires c = sized c.requires c.cap_length-cap.ensures
+
+pub put_tables-requires : goal.put_tables-requires
+put_tables-requires c =
+    (given c.requires, planned_at c.requires c.cap_length-cap.ensures c.ring_width-ring.ensures c.plan_extrusion-t.ensures, arcs_room c.requires c.cap_length-cap.ensures c.ring_width-ring.ensures c.plan_extrusion-t.ensures, rows_room c.requires c.cap_length-cap.ensures c.ring_width-ring.ensures c.plan_extrusion-t.ensures)
+
+pub texture_where-requires : goal.texture_where-requires
+unfolding plain_shared
+texture_where-requires c =
+    let T = c.put_tables.ensures in
+    let G = roomy c.requires c.cap_length-cap.ensures c.ring_width-ring.ensures c.plan_extrusion-t.ensures in
+    (given c.requires, c.requires.accepted.settings, ap (λ (x : Shared). x.widths) c.plain_shared-shared.ensures, T.1, omega (arith, G.floats, T.0.size), textures_asked (planned_at c.requires c.cap_length-cap.ensures c.ring_width-ring.ensures c.plan_extrusion-t.ensures) (omega (arith, G.textures, T.0.len)) (faces_held T.0))
+
+pub build-requires : goal.build-requires
+build-requires c =
+    ready c.requires (sizes_are c.requires) (counted c.requires c.cap_length-cap.ensures c.ring_width-ring.ensures c.plan_extrusion-t.ensures) c.put_tables.ensures.0 c.texture_where.ensures
+    (shape (given c.requires) c.plain_shared-shared.ensures _ _)
+
+pub shape_of-work : goal.shape_of-work
+shape_of-work c =
+    c.build.auto.1.1.1.1.1.1.1.1.1.1.0 ∙ c.texture_where.ensures.kept.len ∙ c.put_tables.ensures.0.len
+
+pub shape_of-floats : goal.shape_of-floats
+shape_of-floats c =
+    c.build.auto.1.1.1.1.1.1.1.1.1.1.1.0 ∙ c.put_tables.ensures.0.size
+
+pub returns : goal.returns
+returns c =
+    let G = given c.requires in
+    shaped c.requires (sizes_are c.requires) (counted c.requires c.cap_length-cap.ensures c.ring_width-ring.ensures c.plan_extrusion-t.ensures) c.put_tables.ensures.0 c.texture_where.ensures
+    (shape G c.plain_shared-shared.ensures _ _) (mesh_is G c.plain_shared-shared.ensures c.requires.accepted.settings c.cap_length-cap.ensures) c.build.ensures

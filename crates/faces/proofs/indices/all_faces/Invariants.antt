@@ -1,0 +1,12 @@
+use mathlib.Core.Path.{◌≡◌, refl, ◌∙◌}
+use Prim.Native.Nat.{◌-◌}
+use lib.ListN.{length}
+use Rattle.faces.proofs.Turning.{Facing, facing_start, facing_ready, facing_room, facing_go, facing_end}
+use borrow.Author.Rules.{rules}
+use Rattle.faces.proofs.indices.all_faces.Given as goal
+
+abbrev pub invariant-loop-g : goal.invariant-loop-g
+invariant-loop-g l = (length l.floats ≡ length l.initial.floats) × Facing l.initial.work l.t l.ccw l.convex l.initial.indices l.indices l.work l.initial.floats l.floats l.g l.at
+
+abbrev pub decreases-loop-g : goal.decreases-loop-g
+decreases-loop-g l = l.t.faces - l.g

@@ -1,0 +1,13 @@
+use mathlib.Core.Path.{refl}
+use Rattle.geometry.proofs.Refusing.{asked_by}
+use Rattle.geometry.proofs.Calls.{made_call}
+use borrow.Author.Rules.{rules}
+use Rattle.geometry.proofs.whole.make.Goals as goal
+
+pub make_kind-n-requires : goal.make_kind-n-requires
+make_kind-n-requires c =
+    (asked_by _ _ _ _ c.requires.0 c.read_settings-s.ensures c.requires.2, c.requires.1)
+
+pub returns : goal.returns
+returns c =
+    made_call _ _ _ _ _ _ c.requires.2 _ _ c.requires.0 refl c.make_kind-n.ensures c.flags_of-f.ensures

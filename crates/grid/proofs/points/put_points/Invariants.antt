@@ -1,0 +1,18 @@
+use mathlib.Core.List.{List}
+use lib.ListN.{length}
+use Rattle.lists.proofs.Pieces.{Pieces, pieces_none, pieces_more, pieces_all}
+use Rattle.mesh.specs.Grid.{x_dimension, z_dimension, grid_point, grid_points}
+use Rattle.mesh.specs.Words.{words3}
+use Rattle.block.specs.Extents.{list_bytes}
+use Rattle.bits.specs.Bits.{entries}
+use mathlib.Core.Path.{◌≡◌, refl, ap, ◌∙◌}
+use Prim.Native.Nat.{ℕ, ◌*◌, ◌-◌, ◌<◌}
+use native.Mathlib.Omega.{arith}
+use borrow.Author.Rules.{rules}
+use Rattle.grid.proofs.points.put_points.Given as goal
+
+abbrev pub invariant-loop-k : goal.invariant-loop-k
+invariant-loop-k l = (l.n ≡ x_dimension l.h * z_dimension l.h) × (l.heights ≡ list_bytes l.block l.h 3) × Pieces (λ (j : ℕ). words3 (grid_point l.h l.s (entries (list_bytes l.block l.h 3)) j)) (x_dimension l.h * z_dimension l.h) l.initial.work l.at l.k l.work
+
+abbrev pub decreases-loop-k : goal.decreases-loop-k
+decreases-loop-k l = l.n - l.k

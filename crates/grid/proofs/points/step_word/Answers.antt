@@ -1,0 +1,5 @@
+use borrow.Author.Rules.{rules}
+use Rattle.grid.proofs.points.step_word.Goals as goal
+
+pub returns : goal.returns
+returns c = rw (c.bits_of.ensures, c.whole_float.ensures)

@@ -1,0 +1,7 @@
+use Rattle.grid.specs.Textures.{grid_texture}
+use borrow.Author.Rules.{rules}
+use Rattle.grid.proofs.textures.texture_of.Goals as goal
+
+pub returns : goal.returns
+unfolding grid_texture
+returns c = rw (c.corner_texture.ensures, c.default_of-d.ensures)

@@ -1,0 +1,24 @@
+use native.Mathlib.Omega.{arith}
+use Rattle.lines.specs.Uses.{listed}
+use Rattle.lines.proofs.Usage.{use_here, use_past}
+use mathlib.Core.Path.{refl, sym}
+use native.Mathlib.Nat.{add-zero}
+use borrow.Author.Rules.{rules}
+use Rattle.lines.proofs.listing.list_entry.Goals as goal
+
+pub list_corner-requires : goal.list_corner-requires
+list_corner-requires c =
+    (c.requires.0, c.requires.1 c.if-e-points.true, omega (arith, c.if-e-points.true, c.requires.2), c.requires.3, c.requires.4)
+
+pub overflow_add-result : goal.overflow_add-result
+overflow_add-result c =
+    omega (arith, c.requires.1 c.if-e-points.true, c.requires.0)
+
+pub returns-then-e-points : goal.returns-then-e-points
+unfolding listed
+returns-then-e-points c =
+    rw (use_here c.args.line c.args.k c.if-e-points.true) (record { next = refl; made = c.list_corner.ensures })
+
+pub returns : goal.returns
+unfolding listed
+returns c = rw (use_past c.args.line c.args.k c.if-e-points.false) (record { next = sym (add-zero _); made = refl })

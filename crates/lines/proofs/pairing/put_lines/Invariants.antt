@@ -1,0 +1,17 @@
+use mathlib.Core.Path.{◌≡◌, refl, ◌∙◌}
+use Prim.Native.Nat.{◌+◌, ◌-◌, ◌/◌, ◌≤◌}
+use native.Mathlib.Nat.{zero-add}
+use native.Mathlib.Omega.{arith}
+use lib.ListN.{length}
+use Rattle.lists.specs.Parts.{seg, spliced}
+use Rattle.lists.proofs.Keep.{length_seg, part_seg}
+use Rattle.lists.proofs.Putting.{left_all}
+use Rattle.lines.proofs.Pairs.{Lining, lining_here, lining_room, lining_next, lining_end}
+use borrow.Author.Rules.{rules}
+use Rattle.lines.proofs.pairing.put_lines.Given as goal
+
+abbrev pub invariant-loop-start : goal.invariant-loop-start
+invariant-loop-start l = (l.n ≡ length l.coord / 4) × (l.to ≡ l.named + l.count) × (l.start ≤ l.n + 1) × Lining l.points l.coord (seg l.work l.named l.count) l.initial.indices l.start l.w l.indices
+
+abbrev pub decreases-loop-start : goal.decreases-loop-start
+decreases-loop-start l = l.n - l.start

@@ -1,0 +1,18 @@
+use mathlib.Core.Path.{ap, ◌∙◌}
+use Prim.Native.Nat.{ℕ}
+use native.Mathlib.Omega.{arith}
+use lib.ListN.{replicate}
+use Rattle.lines.proofs.Meshed.{told_count, lined_all}
+use borrow.Author.Rules.{rules}
+use Rattle.lines.proofs.whole.make_lines.Goals as goal
+
+pub all_vertices-n-requires : goal.all_vertices-n-requires
+all_vertices-n-requires c = c.requires.corners
+
+pub put_lines-made-requires : goal.put_lines-made-requires
+put_lines-made-requires c =
+    let R = c.requires in let Q = R.corners.laid in let l = c.all_vertices-n.ensures.kept.len in (omega (arith, Q.named, Q.places, Q.numbers, Q.textures, Q.heads, Q.nexts, l), told_count R.told, R.room)
+
+pub returns : goal.returns
+returns c =
+    let R = c.requires in let C = c.all_vertices-n.ensures in record { lined = λ missing rest T. lined_all T R.corners.laid C R.normal R.texture _ _ _ c.put_lines-made.ensures; words = c.clear_words.ensures ∙ ap (λ (n : ℕ). replicate n 0) C.kept.len; floats = c.clear_floats.ensures }

@@ -1,0 +1,17 @@
+use lib.ListN.{length-set}
+use native.Mathlib.Omega.{arith}
+use borrow.Author.Rules.{rules}
+use Rattle.lists.proofs.Splices.{put_four}
+use Rattle.lists.proofs.put_four.Goals as goal
+
+pub bounds-table-a-2 : goal.bounds-table-a-2
+bounds-table-a-2 c = simp length-set (omega arith)
+
+pub bounds-table-a-3 : goal.bounds-table-a-3
+bounds-table-a-3 c = simp length-set (omega arith)
+
+pub bounds-table-a-4 : goal.bounds-table-a-4
+bounds-table-a-4 c = simp length-set (omega arith)
+
+pub returns : goal.returns
+returns c = put_four _ _ _ _ _ _ c.requires

@@ -1,0 +1,7 @@
+use mathlib.Core.Path.{◌∙◌}
+use Rattle.math.proofs.Compare.{max_choice}
+use borrow.Author.Rules.{rules}
+use Rattle.math.proofs.order.max.Goals as goal
+
+pub returns : goal.returns
+returns c = c.choose.ensures ∙ max_choice c.args.a c.args.b

@@ -1,0 +1,11 @@
+use borrow.Author.Tests.{le-leb, lt-leb}
+use Rattle.mending.specs.Mend.{near_one}
+use Rattle.mending.proofs.mend.is_near_one.Goals as goal
+
+pub returns-then-square-lt1065353152 : goal.returns-then-square-lt1065353152
+unfolding near_one
+returns-then-square-lt1065353152 c = rw (lt-leb 0x3f7f_ffc0 _ c.if-square-lt1065353152.true)
+
+pub returns : goal.returns
+unfolding near_one
+returns c = rw (le-leb 0x3f7f_ffc0 _ c.if-square-lt1065353152.false)

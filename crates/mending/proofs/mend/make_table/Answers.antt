@@ -1,0 +1,9 @@
+use Rattle.mending.proofs.Fixing.{made_here}
+use borrow.Author.Rules.{rules}
+use Rattle.mending.proofs.mend.make_table.Goals as goal
+
+pub returns-then-made : goal.returns-then-made
+returns-then-made c = made_here _ _ _ _ _ c.requires.2 c.if-made.true
+
+pub returns : goal.returns
+returns c = c.first_normals.ensures

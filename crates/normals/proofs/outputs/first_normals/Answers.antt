@@ -1,0 +1,16 @@
+use Rattle.normals.proofs.Begun.{begun_none, summed_bound, begun_bound}
+use borrow.Author.Rules.{rules}
+use Rattle.normals.proofs.outputs.first_normals.Goals as goal
+
+pub returns-in-Own : goal.returns-in-Own
+returns-in-Own c = begun_none _ c.requires.2 c.requires.1
+
+pub returns-in-Every : goal.returns-in-Every
+returns-in-Every c = begun_none _ c.requires.2 c.requires.1
+
+pub near_normals-requires : goal.near_normals-requires
+near_normals-requires c =
+    (c.requires.0, summed_bound c.rule-1.given.1 c.requires.1, c.requires.2)
+
+pub returns-in-Bound : goal.returns-in-Bound
+returns-in-Bound c = begun_bound c.rule-1.given.1 c.near_normals.ensures

@@ -1,0 +1,17 @@
+use native.Mathlib.Omega.{arith}
+use mathlib.Core.Path.{◌≡◌, refl, ◌∙◌}
+use Prim.Native.Nat.{◌-◌, ◌≤◌}
+use lib.ListN.{length}
+use Rattle.normals.specs.Rows.{Summed}
+use Rattle.normals.specs.Written.{Continued}
+use Rattle.normals.proofs.Floats.{summed_put, vector_size}
+use Rattle.normals.proofs.Begun.{begun_next}
+use Rattle.normals.proofs.Soups.{corner_is}
+use borrow.Author.Rules.{rules}
+use Rattle.normals.proofs.outputs.normals_from.Given as goal
+
+abbrev pub invariant-loop-k : goal.invariant-loop-k
+invariant-loop-k l = (l.k ≤ l.t.count) × (length l.floats ≡ length l.initial.floats) × Summed l.work l.t l.rule l.floats × Continued l.initial.floats l.floats l.work l.t l.rule l.c l.k
+
+abbrev pub decreases-loop-k : goal.decreases-loop-k
+decreases-loop-k l = l.t.count - l.k

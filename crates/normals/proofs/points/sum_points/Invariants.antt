@@ -1,0 +1,15 @@
+use native.Mathlib.Omega.{arith}
+use mathlib.Core.Path.{◌≡◌}
+use Prim.Native.Nat.{◌-◌, ◌≤◌}
+use Rattle.lists.specs.Parts.{Kept}
+use Rattle.lists.proofs.Keep.{kept_all}
+use Rattle.normals.specs.Rows.{SummedTo}
+use Rattle.normals.proofs.Summing.{ready_kept, sums_none, sums_next}
+use borrow.Author.Rules.{rules}
+use Rattle.normals.proofs.points.sum_points.Given as goal
+
+abbrev pub invariant-loop-p : goal.invariant-loop-p
+invariant-loop-p l = (l.p ≤ l.t.spots) × Kept l.t.sums l.initial.work l.work × SummedTo l.initial.work l.work l.t l.p
+
+abbrev pub decreases-loop-p : goal.decreases-loop-p
+decreases-loop-p l = l.t.spots - l.p

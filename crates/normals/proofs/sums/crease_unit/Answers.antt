@@ -1,0 +1,35 @@
+use native.Mathlib.Omega.{arith}
+use mathlib.Core.Path.{refl}
+use Rattle.normals.specs.Rows.{sum_in}
+use Rattle.normals.proofs.Arms.{unit_own, unit_every, unit_bound, unit_bound_none}
+use Rattle.normals.proofs.Summing.{sums_read, rows_read}
+use borrow.Author.Rules.{rules}
+use Rattle.normals.proofs.sums.crease_unit.Goals as goal
+
+pub returns-in-Own : goal.returns-in-Own
+returns-in-Own c = unit_own _ _ _ _ _ c.enum_told-1.given.1 c.requires.4
+
+pub overflow_mul-p : goal.overflow_mul-p
+overflow_mul-p c = let R = c.requires.0.room in omega (arith, c.requires.2)
+
+pub overflow_add-t : goal.overflow_add-t
+overflow_add-t c = let R = c.requires.0.room in omega (arith, c.requires.2)
+
+pub load_unit-requires : goal.load_unit-requires
+load_unit-requires c = let R = c.requires.0.room in omega (arith, c.requires.2)
+
+pub returns-in-Every : goal.returns-in-Every
+unfolding sum_in
+returns-in-Every c =
+    unit_every _ _ _ _ _ c.enum_told-in-Every-1.given.1 (sums_read _ _ _ c.requires.1 c.enum_told-in-Every-1.given.1 c.requires.2 c.load_unit.ensures)
+
+pub sum_near-requires : goal.sum_near-requires
+sum_near-requires c =
+    (c.requires.0, c.requires.2, c.requires.3, rows_read _ _ c.requires.1 c.rule-1.given.1)
+
+pub returns-in-Of : goal.returns-in-Of
+returns-in-Of c =
+    unit_bound _ _ _ _ _ _ c.rule-1.given.1 _ c.requires.4 _ _ c.k-1.given.1 c.sum_near.ensures c.normalize.ensures
+
+pub returns-in-Nothing : goal.returns-in-Nothing
+returns-in-Nothing c = unit_bound_none _ _ _ _ _ _ c.rule-1.given.1 _ c.requires.4 c.enum_told-in-Nothing-1.given.1 refl

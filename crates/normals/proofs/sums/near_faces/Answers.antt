@@ -1,0 +1,53 @@
+use native.Mathlib.Omega.{arith}
+use Prim.Native.Nat.{◌-◌, ◌≤◌}
+use lib.ListN.{length}
+use Rattle.mesh.specs.Normals.{sum_near}
+use mathlib.Core.Path.{◌∙◌}
+use Rattle.lists.proofs.Lists.{all_low}
+use Rattle.normals.proofs.Walks.{Left, left_start, left_step, left_end, near_one_lem, near_nothing}
+use borrow.Author.Rules.{rules}
+use Rattle.normals.proofs.sums.near_faces.Goals as goal
+
+pub overflow_mul-t : goal.overflow_mul-t
+overflow_mul-t c = let R = c.requires.0.room in omega arith
+
+pub overflow_mul-own : goal.overflow_mul-own
+overflow_mul-own c = let R = c.requires.0.room in omega (arith, c.requires.2)
+
+pub overflow_add-t : goal.overflow_add-t
+overflow_add-t c = let R = c.requires.0.room in omega (arith, c.requires.2)
+
+pub get3-s-requires : goal.get3-s-requires
+get3-s-requires c = omega (arith, c.requires.2, c.requires.3.room)
+
+pub loop-k-init : goal.loop-k-init
+loop-k-init c = (omega arith, left_start (sum_near _ _ _))
+
+pub overflow_mul-t-in-loop-k : goal.overflow_mul-t-in-loop-k
+overflow_mul-t-in-loop-k c = let R = c.requires.0.room in omega arith
+
+pub overflow_mul-g : goal.overflow_mul-g
+overflow_mul-g c =
+    let R = c.requires.0.room in omega (arith, all_low c.args.t.faces c.args.faces.now c.requires.1 _ _ c.loop-k-test.true c.wide-g.ensures, c.requires.3.room)
+
+pub overflow_add-t-in-loop-k : goal.overflow_add-t-in-loop-k
+overflow_add-t-in-loop-k c =
+    let R = c.requires.0.room in omega (arith, all_low c.args.t.faces c.args.faces.now c.requires.1 _ _ c.loop-k-test.true c.wide-g.ensures, c.requires.3.room)
+
+pub near_step-s-requires : goal.near_step-s-requires
+near_step-s-requires c =
+    let R = c.requires.0.room in omega (arith, all_low c.args.t.faces c.args.faces.now c.requires.1 _ _ c.loop-k-test.true c.wide-g.ensures, c.requires.3.room)
+
+pub overflow_add-k : goal.overflow_add-k
+overflow_add-k c = omega (arith, c.loop-k-test.true, c.well_formed)
+
+pub loop-k-smaller : goal.loop-k-smaller
+loop-k-smaller c = omega arith
+
+pub loop-k-preserved : goal.loop-k-preserved
+loop-k-preserved c =
+    let l = all_low c.args.t.faces c.args.faces.now c.requires.1 _ _ c.loop-k-test.true c.wide-g.ensures in (omega arith, left_step (sum_near _ _ _) _ _ _ c.loop-k.invariant.1 c.loop-k-test.true (near_one_lem _ _ _ _ _ _ c.wide-g.ensures _ _ _ _ _ c.requires.0 l (c.requires.3.unit _ l) (c.requires.3.normal _ l) c.near_step-s.ensures))
+
+pub returns : goal.returns
+returns c =
+    left_end (sum_near _ _ _) _ _ _ (c.get3-s.ensures ∙ c.requires.3.normal _ c.requires.2) c.loop-k.invariant.1 (omega arith) (near_nothing _ _ _ _)

@@ -1,0 +1,11 @@
+use borrow.Author.Rules.{rules}
+use Rattle.mesh.specs.Normals.{or_else}
+use Rattle.normals.proofs.vectors.or_else.Goals as goal
+
+pub returns-in-Of : goal.returns-in-Of
+unfolding or_else
+returns-in-Of c = rw c.k-1.given.1
+
+pub returns-in-Nothing : goal.returns-in-Nothing
+unfolding or_else
+returns-in-Nothing c = rw c.enum_told-1.given.1

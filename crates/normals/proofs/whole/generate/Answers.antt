@@ -1,0 +1,24 @@
+use native.Mathlib.Omega.{arith}
+use mathlib.Core.Path.{refl, ap, ◌∙◌}
+use Rattle.normals.specs.Written.{spread}
+use Rattle.normals.proofs.Fills.{made_front}
+use Rattle.normals.proofs.Soups.{generated_all}
+use Rattle.normals.proofs.Summing.{made_kept}
+use borrow.Author.Rules.{rules}
+use Rattle.normals.proofs.whole.generate.Goals as goal
+
+pub share-requires : goal.share-requires
+share-requires c = (c.prepare.ensures.ready, c.requires.1)
+
+pub corner_normals-requires : goal.corner_normals-requires
+corner_normals-requires c =
+    let M = made_kept c.prepare.ensures c.share.ensures.0 in
+    (M.ready, c.share.ensures.1, omega (arith, c.requires.1, c.share.auto.1.1.1.0))
+
+pub returns : goal.returns
+returns c =
+    let M = made_kept c.prepare.ensures c.share.ensures.0 in
+    record {
+      kept = M.kept;
+      normals = made_front _ _ _ _ _ 0 c.corner_normals.ensures refl ∙ ap spread (generated_all c.requires.0 M _);
+    }

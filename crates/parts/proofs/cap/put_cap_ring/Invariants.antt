@@ -1,0 +1,17 @@
+use native.Mathlib.Omega.{arith}
+use mathlib.Core.Path.{◌≡◌, refl, ap, ◌∙◌}
+use mathlib.Core.List.{List, [], ◌∷◌}
+use Prim.Native.Nat.{ℕ, ◌+◌, ◌*◌, ◌-◌}
+use Rattle.lists.proofs.Pieces.{flat_ones}
+use Rattle.parts.specs.declared.vert.Vert.{Vert}
+use Rattle.parts.specs.Cap.{cap_vert}
+use Rattle.parts.specs.Pushed.{pushed}
+use Rattle.parts.proofs.Pushing.{Filling, ones_none, ones_more, ones_room, ones_all, room_less}
+use borrow.Author.Rules.{rules}
+use Rattle.parts.proofs.cap.put_cap_ring.Given as goal
+
+abbrev pub invariant-loop-i : goal.invariant-loop-i
+invariant-loop-i l = Filling l.c (l.k.first + 1) (λ (j : ℕ). cap_vert l.pairs l.k j ∷ []) 1 l.k.slices (record { l.positions = l.initial.positions; l.normals = l.initial.normals; l.textures = l.initial.textures }) l.i (record { l.positions = l.positions; l.normals = l.normals; l.textures = l.textures })
+
+abbrev pub decreases-loop-i : goal.decreases-loop-i
+decreases-loop-i l = l.k.slices - l.i

@@ -1,0 +1,7 @@
+use Rattle.parts.specs.Ring.{cosine_at}
+use borrow.Author.Rules.{rules}
+use Rattle.parts.proofs.ring.cosine_at.Goals as goal
+
+pub returns : goal.returns
+unfolding cosine_at
+returns c = c.float_at.ensures

@@ -1,0 +1,7 @@
+use Rattle.parts.specs.Ring.{sine_at}
+use borrow.Author.Rules.{rules}
+use Rattle.parts.proofs.ring.sine_at.Goals as goal
+
+pub returns : goal.returns
+unfolding sine_at
+returns c = c.float_at.ensures

@@ -1,0 +1,20 @@
+use borrow.Author.Tests.{lt-ltb, le-ltb}
+use Rattle.parts.specs.Sizes.{is_short_part}
+use borrow.Author.Rules.{rules}
+use Rattle.parts.proofs.sizes.is_short_part.Goals as goal
+
+pub returns-then-l-z : goal.returns-then-l-z
+unfolding is_short_part
+returns-then-l-z c = rw (lt-ltb _ _ c.if-l-z.true)
+
+pub returns-then-l-z-2 : goal.returns-then-l-z-2
+unfolding is_short_part
+returns-then-l-z-2 c = rw (le-ltb _ _ c.if-l-z.false, lt-ltb _ _ c.if-l-z-2.true)
+
+pub returns-then-is_short_texture : goal.returns-then-is_short_texture
+unfolding is_short_part
+returns-then-is_short_texture c = rw (le-ltb _ _ c.if-l-z.false, le-ltb _ _ c.if-l-z-2.false, ← c.is_short_texture.ensures, c.if-is_short_texture.true)
+
+pub returns : goal.returns
+unfolding is_short_part
+returns c = rw (le-ltb _ _ c.if-l-z.false, le-ltb _ _ c.if-l-z-2.false, ← c.is_short_texture.ensures, c.if-is_short_texture.false)

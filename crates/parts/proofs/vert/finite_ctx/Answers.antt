@@ -1,0 +1,7 @@
+use Rattle.parts.specs.Part.{finite_ctx}
+use borrow.Author.Rules.{rules}
+use Rattle.parts.proofs.vert.finite_ctx.Goals as goal
+
+pub returns : goal.returns
+unfolding finite_ctx
+returns c = rw c.finite_transform-transform.ensures

@@ -1,0 +1,17 @@
+use Prim.Native.Nat.{◌-◌}
+use Rattle.paths.specs.Pass.{step_at}
+use Rattle.paths.proofs.Updates.{Changing, changing_none, changing_more, changing_all}
+use borrow.Author.Rules.{rules}
+use Rattle.paths.proofs.pass.mark.Goals as goal
+
+pub loop-j-init : goal.loop-j-init
+loop-j-init c = changing_none
+
+pub loop-j-preserved : goal.loop-j-preserved
+loop-j-preserved c = changing_more c.loop-j.invariant c.loop-j-test.true c.verdict.ensures
+
+pub shape_of-answers : goal.shape_of-answers
+shape_of-answers c = c.loop-j.invariant.size
+
+pub returns : goal.returns
+returns c = changing_all c.loop-j.invariant c.loop-j-test.false

@@ -1,0 +1,15 @@
+use mathlib.Core.Path.{◌∙◌}
+use Prim.Native.Nat.{◌-◌}
+use lib.Dec.{eqb}
+use Rattle.paths.specs.Pass.{turn_of, hit_count}
+use Rattle.paths.proofs.Updates.{Running, running_none, running_more, running_all}
+use Rattle.paths.proofs.Passing.{turned}
+use Rattle.paths.proofs.Hitting.{turns_end}
+use borrow.Author.Rules.{rules}
+use Rattle.paths.proofs.pass.pass.Given as goal
+
+abbrev pub invariant-loop-t : goal.invariant-loop-t
+invariant-loop-t l = Running (turn_of l.positions l.indices l.rays l.m) l.n l.initial.answers l.t l.answers
+
+abbrev pub decreases-loop-t : goal.decreases-loop-t
+decreases-loop-t l = l.n - l.t

@@ -1,0 +1,16 @@
+use mathlib.Core.Path.{refl}
+use Prim.Native.Nat.{ℕ, ◌-◌}
+use native.Mathlib.Omega.{arith}
+use lib.ListN.{length}
+use Rattle.lists.proofs.Numbers.{piece_room}
+use Rattle.lists.proofs.Pieces.{Pieces, pieces_none, pieces_more, pieces_all}
+use Rattle.block.specs.Value.{opaque_of}
+use Rattle.mesh.specs.Words.{words4, point_words}
+use borrow.Author.Rules.{rules}
+use Rattle.pointset.proofs.copies.put_opaques.Given as goal
+
+abbrev pub invariant-loop-k : goal.invariant-loop-k
+invariant-loop-k l = Pieces (λ (j : ℕ). words4 (opaque_of (point_words l.listed j))) l.n l.initial.colours 0 l.k l.colours
+
+abbrev pub decreases-loop-k : goal.decreases-loop-k
+decreases-loop-k l = l.n - l.k

@@ -1,0 +1,19 @@
+use mathlib.Core.Path.{refl}
+use Prim.Native.Nat.{ℕ, ◌-◌}
+use native.Mathlib.Nat.{zero-add}
+use native.Mathlib.Omega.{arith}
+use Rattle.lists.proofs.Pieces.{Singles, singles_none, singles_more, singles_all}
+use borrow.Author.Rules.{rules}
+use Rattle.pointset.proofs.copies.put_sources.Goals as goal
+
+pub loop-k-init : goal.loop-k-init
+loop-k-init c = singles_none
+
+pub loop-k-preserved : goal.loop-k-preserved
+loop-k-preserved c = rw (zero-add c.loop-k.k) at (singles_more _ (omega arith) c.loop-k.invariant c.loop-k-test.true refl)
+
+pub shape_of-sources : goal.shape_of-sources
+shape_of-sources c = c.loop-k.invariant.size
+
+pub returns : goal.returns
+returns c = singles_all c.loop-k.invariant c.loop-k-test.false

@@ -1,0 +1,16 @@
+use mathlib.Core.Path.{◌≡◌, sym, ◌∙◌}
+use Prim.Native.Nat.{◌-◌, ◌≤◌}
+use native.Mathlib.Nat.{sub-zero}
+use native.Mathlib.Omega.{arith}
+use borrow.Author.Rules.{rules}
+use Rattle.polygon.specs.Ears.{area_term, area}
+use Rattle.lists.specs.Loops.{run}
+use Rattle.polygon.specs.Memo.{xy}
+use Rattle.lists.proofs.Loops.{run_go, run_end}
+use Rattle.polygon.proofs.ears.area_of.Given as goal
+
+abbrev pub invariant-loop-i : goal.invariant-loop-i
+invariant-loop-i l = (l.i ≤ l.n) × (run (area_term (xy l.p) l.n) (l.n - l.i) l.i l.s ≡ area (xy l.p) l.n)
+
+abbrev pub decreases-loop-i : goal.decreases-loop-i
+decreases-loop-i l = l.n - l.i

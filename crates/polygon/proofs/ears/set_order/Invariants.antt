@@ -1,0 +1,20 @@
+use mathlib.Core.List.{List}
+use mathlib.Core.Path.{◌≡◌, refl, sym, ap, ◌∙◌}
+use Prim.Native.Nat.{ℕ, ◌-◌, ◌≤◌}
+use native.Mathlib.Nat.{sub-zero}
+use native.Mathlib.Omega.{arith}
+use lib.ListN.{length, take}
+use lib.Seq.{sets}
+use borrow.Author.Rules.{rules}
+use Rattle.polygon.specs.Ears.{place, order}
+use Rattle.lists.specs.Loops.{tab}
+use Rattle.polygon.proofs.Count.{length_order}
+use Rattle.lists.proofs.Loops.{tab_go, tab_end}
+use Rattle.lists.proofs.Stores.{take_sets}
+use Rattle.polygon.proofs.ears.set_order.Given as goal
+
+abbrev pub invariant-loop-i : goal.invariant-loop-i
+invariant-loop-i l = (l.i ≤ l.n) × (length l.w ≡ length l.initial.w) × (sets l.w l.i (tab (place l.rev l.n) (l.n - l.i) l.i) ≡ sets l.initial.w 0 (order l.rev l.n))
+
+abbrev pub decreases-loop-i : goal.decreases-loop-i
+decreases-loop-i l = l.n - l.i

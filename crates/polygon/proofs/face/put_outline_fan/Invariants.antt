@@ -1,0 +1,15 @@
+use mathlib.Core.Path.{◌≡◌, refl, sym, ◌∙◌}
+use Prim.Native.Nat.{◌-◌, ◌≤◌}
+use native.Mathlib.Omega.{arith}
+use lib.ListN.{length}
+use lib.Seq.{sets}
+use borrow.Author.Rules.{rules}
+use Rattle.polygon.specs.Ears.{fan, outline, flat}
+use Rattle.polygon.proofs.Triangles.{Rest, outline_start, outline_go, outline_end}
+use Rattle.polygon.proofs.face.put_outline_fan.Given as goal
+
+abbrev pub invariant-loop-t : goal.invariant-loop-t
+invariant-loop-t l = (l.t ≤ l.n) × (length l.out ≡ length l.initial.out) × (Rest l.n l.out l.t ≡ sets l.initial.out 0 (flat (fan (outline l.n))))
+
+abbrev pub decreases-loop-t : goal.decreases-loop-t
+decreases-loop-t l = l.n - l.t

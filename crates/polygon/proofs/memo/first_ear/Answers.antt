@@ -1,0 +1,40 @@
+use mathlib.Core.Path.{◌≡◌, refl, sym, ◌∙◌}
+use Prim.Native.Nat.{◌-◌, ◌≤◌}
+use native.Mathlib.Nat.{sub-zero}
+use native.Mathlib.Omega.{arith}
+use lib.ListN.{length, take}
+use lib.Seq.{length-take-le}
+use borrow.Author.Rules.{rules}
+use Rattle.polygon.specs.Ears.{is_ear, first_ear}
+use Rattle.lists.specs.Loops.{first}
+use Rattle.polygon.specs.Memo.{xy, Searched}
+use Rattle.lists.proofs.Loops.{first_go, first_stop, first_end}
+use Rattle.polygon.proofs.Tables.{as_was}
+use Rattle.polygon.proofs.Turns.{searched_ear, searched_tells, searched_sound, searched_then}
+use Rattle.polygon.proofs.memo.first_ear.Goals as goal
+
+pub loop-i-init : goal.loop-i-init
+unfolding first_ear
+loop-i-init c =
+    let h : c.args.m ≤ length c.args.w.now = omega arith in (omega arith, rw (sub-zero, length-take-le c.args.m c.args.w.now h), refl, as_was _ _ _ c.requires.4)
+
+pub is_ear-requires : goal.is_ear-requires
+is_ear-requires c =
+    let S = c.loop-i.invariant.3 in (c.loop-i-test.true, c.requires.0, c.requires.1, omega arith, searched_tells _ _ _ _ S _ c.requires.0 c.requires.3, searched_sound _ _ _ _ S)
+
+pub shape_of-w-then-is_ear : goal.shape_of-w-then-is_ear
+shape_of-w-then-is_ear c = c.is_ear.auto.1.0 ∙ c.loop-i.invariant.2
+
+pub returns-then-is_ear : goal.returns-then-is_ear
+returns-then-is_ear c =
+    let S = c.loop-i.invariant.3 in (sym (first_stop _ _ _ c.loop-i-test.true (searched_ear _ _ _ _ S _ c.requires.0 _ _ c.is_ear.ensures.0 ∙ c.if-is_ear.true)) ∙ c.loop-i.invariant.1, searched_then _ _ _ _ S _ c.is_ear.ensures.1)
+
+pub loop-i-preserved : goal.loop-i-preserved
+loop-i-preserved c =
+    let S = c.loop-i.invariant.3 in (omega arith, sym (first_go _ _ _ c.loop-i-test.true (searched_ear _ _ _ _ S _ c.requires.0 _ _ c.is_ear.ensures.0 ∙ c.if-is_ear.false)) ∙ c.loop-i.invariant.1, c.is_ear.auto.1.0 ∙ c.loop-i.invariant.2, searched_then _ _ _ _ S _ c.is_ear.ensures.1)
+
+pub shape_of-w : goal.shape_of-w
+shape_of-w c = c.loop-i.invariant.2
+
+pub returns : goal.returns
+returns c = (sym (first_end _ _ _ c.loop-i-test.false) ∙ c.loop-i.invariant.1, c.loop-i.invariant.3)

@@ -1,0 +1,20 @@
+use mathlib.Core.Path.{◌≡◌, refl, sym, ◌∙◌}
+use Prim.Native.Nat.{◌-◌, ◌≤◌}
+use native.Mathlib.Nat.{sub-zero}
+use native.Mathlib.Omega.{arith}
+use lib.ListN.{length, take}
+use lib.Seq.{length-take-le}
+use borrow.Author.Rules.{rules}
+use Rattle.polygon.specs.Ears.{is_ear, first_ear}
+use Rattle.lists.specs.Loops.{first}
+use Rattle.polygon.specs.Memo.{xy, Searched}
+use Rattle.lists.proofs.Loops.{first_go, first_stop, first_end}
+use Rattle.polygon.proofs.Tables.{as_was}
+use Rattle.polygon.proofs.Turns.{searched_ear, searched_tells, searched_sound, searched_then}
+use Rattle.polygon.proofs.memo.first_ear.Given as goal
+
+abbrev pub invariant-loop-i : goal.invariant-loop-i
+invariant-loop-i l = (l.i ≤ l.m) × (first (is_ear (xy l.p) (take l.m l.initial.w)) (l.m - l.i) l.i ≡ first_ear (xy l.p) (take l.m l.initial.w)) × (length l.w ≡ length l.initial.w) × Searched (xy l.p) l.n l.initial.w l.w
+
+abbrev pub decreases-loop-i : goal.decreases-loop-i
+decreases-loop-i l = l.m - l.i

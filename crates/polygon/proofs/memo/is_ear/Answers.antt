@@ -1,0 +1,14 @@
+use mathlib.Core.Path.{◌∙◌}
+use native.Mathlib.Omega.{arith}
+use borrow.Author.Rules.{rules}
+use Rattle.polygon.proofs.Keep.{known_read}
+use Rattle.polygon.proofs.Turns.{ear_in}
+use Rattle.polygon.proofs.memo.is_ear.Goals as goal
+
+pub decide-requires : goal.decide-requires
+decide-requires c =
+    (c.requires.2, c.requires.3, known_read _ _ _ _ _ _ _ c.look-s.ensures c.requires.5, c.requires.5)
+
+pub returns : goal.returns
+returns c =
+    (c.decide.ensures.0 ∙ ear_in c.args.w.now c.args.m _ (omega arith) c.requires.0 _ _ _ _ _ _ _ c.place_before.ensures c.get-a.ensures c.get-b.ensures c.place_after.ensures c.get-c.ensures c.requires.4, c.decide.ensures.1)

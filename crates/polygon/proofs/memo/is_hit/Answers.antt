@@ -1,0 +1,15 @@
+use mathlib.Core.Path.{ap, ◌∙◌}
+use borrow.Author.Rules.{rules}
+use borrow.Author.Tests.{eq-eqb, ne_eqb}
+use Rattle.polygon.specs.Memo.{hits, in_way}
+use Rattle.polygon.specs.declared.memo.Dot.{Dot}
+use Rattle.polygon.proofs.memo.is_hit.Goals as goal
+
+pub returns-then-get-ne1 : goal.returns-then-get-ne1
+unfolding hits
+returns-then-get-ne1 c = simp (← c.get.ensures, ne_eqb _ _ c.if-get-ne1.true)
+
+pub returns : goal.returns
+unfolding hits
+returns c =
+    simp (← c.get.ensures, eq-eqb _ _ c.if-get-ne1.false) (c.is_in_way.ensures ∙ ap (λ (d : Dot). in_way d c.args.a c.args.b c.args.c) c.dot_at.ensures)

@@ -1,0 +1,23 @@
+use mathlib.Core.Path.{◌≡◌, refl, sym, ◌∙◌}
+use Prim.Native.Nat.{◌-◌}
+use native.Mathlib.Omega.{arith}
+use borrow.Author.Rules.{rules}
+use Rattle.lists.specs.Loops.{first}
+use Rattle.polygon.specs.Memo.{xy, dot_of, in_way, hits}
+use Rattle.lists.proofs.Loops.{first_go, first_stop, first_end}
+use Rattle.polygon.proofs.memo.scan.Goals as goal
+
+pub loop-k-init : goal.loop-k-init
+loop-k-init c = refl
+
+pub is_hit-requires : goal.is_hit-requires
+is_hit-requires c = omega arith
+
+pub returns-then-is_hit : goal.returns-then-is_hit
+returns-then-is_hit c = sym (first_stop _ _ _ c.loop-k-test.true (sym c.is_hit.ensures ∙ c.if-is_hit.true)) ∙ c.loop-k.invariant
+
+pub loop-k-preserved : goal.loop-k-preserved
+loop-k-preserved c = sym (first_go _ _ _ c.loop-k-test.true (sym c.is_hit.ensures ∙ c.if-is_hit.false)) ∙ c.loop-k.invariant
+
+pub returns : goal.returns
+returns c = sym (first_end _ _ _ c.loop-k-test.false) ∙ c.loop-k.invariant

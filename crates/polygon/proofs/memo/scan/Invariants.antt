@@ -1,0 +1,15 @@
+use mathlib.Core.Path.{◌≡◌, refl, sym, ◌∙◌}
+use Prim.Native.Nat.{◌-◌}
+use native.Mathlib.Omega.{arith}
+use borrow.Author.Rules.{rules}
+use Rattle.lists.specs.Loops.{first}
+use Rattle.polygon.specs.Memo.{xy, dot_of, in_way, hits}
+use Rattle.lists.proofs.Loops.{first_go, first_stop, first_end}
+use Rattle.polygon.proofs.memo.scan.Given as goal
+
+abbrev pub invariant-loop-k : goal.invariant-loop-k
+invariant-loop-k l =
+    first (hits l.left (λ j. in_way (dot_of (xy l.p) j) l.a l.b l.c)) (l.to - l.k) l.k ≡ first (hits l.left (λ j. in_way (dot_of (xy l.p) j) l.a l.b l.c)) (l.to - l.from) l.from
+
+abbrev pub decreases-loop-k : goal.decreases-loop-k
+decreases-loop-k l = l.to - l.k

@@ -1,0 +1,19 @@
+use Rattle.primitives.specs.Primitives.{primitive_count}
+use borrow.Author.Rules.{rules}
+use Rattle.primitives.proofs.places.count_in.Goals as goal
+
+pub returns-in-Triangles : goal.returns-in-Triangles
+unfolding primitive_count
+returns-in-Triangles c = rw c.enum_told-1.given.1
+
+pub returns-in-Fans : goal.returns-in-Fans
+unfolding primitive_count
+returns-in-Fans c = rw c.enum_told-in-Fans-1.given.1 c.from_third.ensures
+
+pub returns-in-Strips : goal.returns-in-Strips
+unfolding primitive_count
+returns-in-Strips c = rw c.enum_told-in-Strips-1.given.1 c.from_third-in-Strips.ensures
+
+pub returns-in-Quads : goal.returns-in-Quads
+unfolding primitive_count
+returns-in-Quads c = rw c.enum_told-in-Quads-1.given.1

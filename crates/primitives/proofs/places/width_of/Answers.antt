@@ -1,0 +1,19 @@
+use Rattle.primitives.specs.Kept.{width_of}
+use borrow.Author.Rules.{rules}
+use Rattle.primitives.proofs.places.width_of.Goals as goal
+
+pub returns-in-Triangles : goal.returns-in-Triangles
+unfolding width_of
+returns-in-Triangles c = rw c.enum_told-1.given.1
+
+pub returns-in-Fans : goal.returns-in-Fans
+unfolding width_of
+returns-in-Fans c = rw c.enum_told-in-Fans-1.given.1
+
+pub returns-in-Strips : goal.returns-in-Strips
+unfolding width_of
+returns-in-Strips c = rw c.enum_told-in-Strips-1.given.1
+
+pub returns-in-Quads : goal.returns-in-Quads
+unfolding width_of
+returns-in-Quads c = rw c.enum_told-in-Quads-1.given.1

@@ -1,0 +1,18 @@
+use Prim.Native.Nat.{◌+◌, ◌-◌, ◌/◌, ◌≤◌, ◌<◌}
+use mathlib.Core.Logic.{⊎_elim}
+use mathlib.Core.Path.{◌≡◌, sym, ap, ◌∙◌}
+use native.Mathlib.Omega.{arith}
+use lib.ListN.{length}
+use Rattle.bits.specs.Bits.{entries}
+use Rattle.bits.proofs.Entries.{entries_length}
+use Rattle.primitives.specs.Primitives.{primitive_count, primitive_of}
+use Rattle.primitives.specs.Kept.{kept_by}
+use Rattle.primitives.proofs.Counting.{count_most, kept_left, left_first, count_kept, count_lost, count_all}
+use borrow.Author.Rules.{rules}
+use Rattle.primitives.proofs.totals.kept_in.Given as goal
+
+abbrev pub invariant-loop-k : goal.invariant-loop-k
+invariant-loop-k l = (l.k ≤ l.n) × (l.kept ≤ l.k) × (l.kept + length (kept_left (primitive_of l.g (entries l.part)) l.points l.g (entries l.part) l.k) ≡ length (kept_by (primitive_of l.g (entries l.part)) l.points l.g (entries l.part)))
+
+abbrev pub decreases-loop-k : goal.decreases-loop-k
+decreases-loop-k l = l.n - l.k

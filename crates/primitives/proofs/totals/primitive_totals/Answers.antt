@@ -1,0 +1,17 @@
+use native.Mathlib.Omega.{arith}
+use Rattle.bits.specs.Bits.{entries}
+use Rattle.primitives.proofs.Closed.{width_three, few_corners, few_triangles, totals_are}
+use borrow.Author.Rules.{rules}
+use Rattle.primitives.proofs.totals.primitive_totals.Goals as goal
+
+pub overflow_mul-result : goal.overflow_mul-result
+overflow_mul-result c = omega (arith, few_corners c.args.g c.kept_count-n.result c.width_of-w.ensures, c.kept_count-n.ensures.1)
+
+pub overflow_sub-result : goal.overflow_sub-result
+overflow_sub-result c = omega (arith, width_three c.args.g, c.width_of-w.ensures)
+
+pub overflow_mul-result-2 : goal.overflow_mul-result-2
+overflow_mul-result-2 c = omega (arith, few_triangles c.args.g c.kept_count-n.result c.width_of-w.ensures, c.kept_count-n.ensures.1)
+
+pub returns : goal.returns
+returns c = totals_are c.requires c.args.g (entries c.args.list.now) c.kept_count-n.ensures.0 c.width_of-w.ensures

@@ -1,0 +1,30 @@
+use native.Mathlib.Omega.{arith}
+use Prim.Native.Nat.{◌-◌, ◌/◌}
+use lib.ListN.{length}
+use Rattle.tables.specs.Listed.{Beside}
+use Rattle.tables.proofs.Besides.{beside_all, beside_then}
+use Rattle.faceset.proofs.Adding.{first_beside}
+use Rattle.primitiveset.specs.Passing.{Planned, Passed}
+use Rattle.primitiveset.proofs.Turns.{planned_beside, pass_start, pass_end}
+use borrow.Author.Rules.{rules}
+use Rattle.primitiveset.proofs.listing.list_primitives.Goals as goal
+
+pub loop-p-init : goal.loop-p-init
+loop-p-init c =
+    (planned_beside c.requires (first_beside c.args.work.now c.requires.room), beside_all, pass_start c.args.work.now c.requires)
+
+pub pass_stretch-p-requires : goal.pass_stretch-p-requires
+pass_stretch-p-requires c = (c.loop-p.invariant.0, c.loop-p.invariant.2, c.loop-p-test.true)
+
+pub loop-p-smaller : goal.loop-p-smaller
+loop-p-smaller c = omega (arith, c.pass_stretch-p.ensures.later, c.loop-p-test.true)
+
+pub loop-p-preserved : goal.loop-p-preserved
+loop-p-preserved c = let E = c.pass_stretch-p.ensures in (planned_beside c.loop-p.invariant.0 E.beside, beside_then c.loop-p.invariant.1 E.beside, E.passed)
+
+pub shape_of-work : goal.shape_of-work
+shape_of-work c = let k = first_beside c.args.work.now c.requires.room in omega (arith, k.len, c.loop-p.invariant.1.len)
+
+pub returns : goal.returns
+returns c =
+    pass_end c.args.work.now c.requires (beside_then (first_beside c.args.work.now c.requires.room) c.loop-p.invariant.1) c.loop-p.invariant.2 c.loop-p-test.false

@@ -1,0 +1,16 @@
+use native.Mathlib.Omega.{arith}
+use Prim.Native.Nat.{◌-◌, ◌/◌}
+use lib.ListN.{length}
+use Rattle.tables.specs.Listed.{Beside}
+use Rattle.tables.proofs.Besides.{beside_all, beside_then}
+use Rattle.faceset.proofs.Adding.{first_beside}
+use Rattle.primitiveset.specs.Passing.{Planned, Passed}
+use Rattle.primitiveset.proofs.Turns.{planned_beside, pass_start, pass_end}
+use borrow.Author.Rules.{rules}
+use Rattle.primitiveset.proofs.listing.list_primitives.Given as goal
+
+abbrev pub invariant-loop-p : goal.invariant-loop-p
+invariant-loop-p l = Planned l.points l.g l.coord (length l.work) l.t × Beside l.t l.initial.work l.work × Passed l.points l.g l.coord l.work l.t l.p
+
+abbrev pub decreases-loop-p : goal.decreases-loop-p
+decreases-loop-p l = length l.coord / 4 - l.p.start

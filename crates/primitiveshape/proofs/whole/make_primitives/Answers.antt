@@ -1,0 +1,50 @@
+use mathlib.Core.Path.{refl, ◌∙◌}
+use native.Mathlib.Omega.{arith}
+use Rattle.block.proofs.ExtentLaws.{widths_of}
+use Rattle.lent.proofs.Points.{points_in_lem, points_all}
+use Rattle.shaping.proofs.Tabling.{faces_held, points_held}
+use Rattle.shaping.proofs.Theorem.{ready, shaped}
+use Rattle.facesetshape.proofs.Bounds.{plan_asked, plan_by, counted, roomy}
+use Rattle.facesetshape.proofs.Tabling.{textures_asked}
+use Rattle.primitiveshape.proofs.Bounds.{sized, points_low, planned}
+use Rattle.primitiveshape.proofs.Shapes.{shape, mesh_is}
+use borrow.Author.Rules.{rules}
+use Rattle.primitiveshape.proofs.whole.make_primitives.Goals as goal
+
+pub plan_of-t-requires : goal.plan_of-t-requires
+plan_of-t-requires c =
+    let A = c.requires.0 in
+    plan_asked A (sized A) c.requires.1
+
+pub put_tables-requires : goal.put_tables-requires
+put_tables-requires c =
+    let A = c.requires.0 in
+    let e = plan_by A (sized A) c.requires.1 c.plan_of-t.ensures in
+    (c.list_part-coord.ensures, planned A e c.list_part-coord.ensures, points_in_lem A.accepted (widths_of _ A.kind), points_all A.accepted (widths_of _ A.kind), omega (arith, (roomy A (sized A) e).floats))
+
+pub texture_where-requires : goal.texture_where-requires
+texture_where-requires c =
+    let A = c.requires.0 in
+    let e = plan_by A (sized A) c.requires.1 c.plan_of-t.ensures in
+    let P = c.put_tables.ensures in
+    (c.list_part-coord.ensures, textures_asked (planned A e refl).spots (points_held P) (faces_held P) (omega (arith, (roomy A (sized A) e).textures, P.len)))
+
+pub build-requires : goal.build-requires
+build-requires c =
+    let A = c.requires.0 in
+    let e = plan_by A (sized A) c.requires.1 c.plan_of-t.ensures in
+    ready A (sized A).sizes (counted A (sized A) e) c.put_tables.ensures c.texture_where.ensures (shape c.args.missing c.args.g _ A.accepted.header A.accepted.settings c.listed_shared-shared.ensures c.list_part-coord.ensures A.kind)
+
+pub shape_of-work : goal.shape_of-work
+shape_of-work c =
+    c.build.auto.1.1.1.1.1.1.1.1.1.1.0 ∙ c.texture_where.ensures.kept.len ∙ c.put_tables.ensures.len
+
+pub shape_of-floats : goal.shape_of-floats
+shape_of-floats c =
+    c.build.auto.1.1.1.1.1.1.1.1.1.1.1.0 ∙ c.put_tables.ensures.size
+
+pub returns : goal.returns
+returns c =
+    let A = c.requires.0 in
+    let e = plan_by A (sized A) c.requires.1 c.plan_of-t.ensures in
+    shaped A (sized A).sizes (counted A (sized A) e) c.put_tables.ensures c.texture_where.ensures (shape c.args.missing c.args.g _ A.accepted.header A.accepted.settings c.listed_shared-shared.ensures c.list_part-coord.ensures A.kind) (mesh_is c.args.missing c.args.g _ A.accepted.header A.accepted.settings c.listed_shared-shared.ensures c.list_part-coord.ensures A.kind A.accepted.taken.attributes_are_lem (points_low A)) c.build.ensures

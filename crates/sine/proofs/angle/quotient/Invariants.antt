@@ -1,0 +1,11 @@
+use Prim.Native.Nat.{◌-◌}
+use native.Mathlib.Omega.{arith}
+use Rattle.sine.proofs.Division.{Div, div_none, div_start, div_next, div_end, digit_fits, digit_low}
+use borrow.Author.Rules.{rules}
+use Rattle.sine.proofs.angle.quotient.Given as goal
+
+abbrev pub invariant-loop-i : goal.invariant-loop-i
+invariant-loop-i l = Div l.m l.n l.i l.q l.r
+
+abbrev pub decreases-loop-i : goal.decreases-loop-i
+decreases-loop-i l = l.n - l.i

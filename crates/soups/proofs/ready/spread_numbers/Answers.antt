@@ -1,0 +1,34 @@
+use native.Mathlib.Omega.{arith}
+use mathlib.Core.Path.{◌≡◌}
+use Prim.Native.Nat.{◌-◌, ◌≤◌}
+use Rattle.lists.specs.Parts.{Kept}
+use Rattle.tables.specs.Soups.{number_in, Sound, Spread}
+use Rattle.lists.proofs.Keep.{kept_all}
+use Rattle.tables.proofs.Stays.{number_kept}
+use Rattle.tables.proofs.Spreads.{spread_none, spread_next}
+use borrow.Author.Rules.{rules}
+use Rattle.soups.proofs.ready.spread_numbers.Reads as reads
+use Rattle.soups.proofs.ready.spread_numbers.Lts as lts
+use Rattle.tables.proofs.stretch_of.Reads as stretch-of-reads
+use Rattle.tables.proofs.fill.Reads as fill-reads
+use Rattle.soups.proofs.ready.spread_numbers.Goals as goal
+
+pub loop-g-init : goal.loop-g-init
+loop-g-init c = (omega arith, kept_all, c.requires, spread_none)
+
+pub stretch_of-e-requires : goal.stretch_of-e-requires
+stretch_of-e-requires c = (c.loop-g.invariant.2, c.loop-g-test.true)
+
+pub loop-g-preserved : goal.loop-g-preserved
+unfolding number_in
+loop-g-preserved c =
+    let I = c.loop-g.invariant in
+    let t = c.args.t in
+    let S = c.requires in
+    let R = S.room in
+    let E = c.stretch_of-e.ensures in
+    let k = spread_next _ _ _ _ S I.1 I.3 c.loop-g-test.true E.from E.to c.fill.ensures (number_kept I.1 t c.loop-g.g (omega (arith, R.numbers, c.loop-g-test.true))) in
+    (omega (arith, c.loop-g-test.true), k.0, k.1, k.2)
+
+pub returns : goal.returns
+returns c = let e : c.loop-g.g ≡ c.args.t.faces = omega arith in (c.loop-g.invariant.1, rw e at c.loop-g.invariant.3)

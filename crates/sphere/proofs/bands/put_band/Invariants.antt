@@ -1,0 +1,13 @@
+use native.Mathlib.Omega.{arith}
+use mathlib.Core.Path.{refl}
+use Prim.Native.Nat.{◌-◌}
+use Rattle.lists.proofs.Pieces.{Uneven, uneven_none, uneven_more, uneven_room, uneven_added}
+use Rattle.sphere.specs.Sphere.{sphere_quad, sphere_band}
+use borrow.Author.Rules.{rules}
+use Rattle.sphere.proofs.bands.put_band.Given as goal
+
+abbrev pub invariant-loop-i : goal.invariant-loop-i
+invariant-loop-i l = Uneven (sphere_quad l.n l.k l.j) l.n l.initial.indices l.at-2 l.i l.at l.indices
+
+abbrev pub decreases-loop-i : goal.decreases-loop-i
+decreases-loop-i l = l.n - l.i

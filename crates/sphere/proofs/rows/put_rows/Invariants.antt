@@ -1,0 +1,16 @@
+use native.Mathlib.Omega.{arith}
+use mathlib.Core.Path.{refl}
+use Prim.Native.Nat.{ℕ, ◌+◌, ◌*◌, ◌-◌}
+use lib.ListN.{length}
+use Rattle.sphere.specs.Sphere.{sphere_row}
+use Rattle.sphere.proofs.Sized.{row_length}
+use Rattle.sphere.proofs.Adding.{row_room, zero_plus}
+use Rattle.parts.proofs.Pushing.{Filling, filling_none, filling_more, filling_all, room_less}
+use borrow.Author.Rules.{rules}
+use Rattle.sphere.proofs.rows.put_rows.Given as goal
+
+abbrev pub invariant-loop-j : goal.invariant-loop-j
+invariant-loop-j l = Filling l.c 0 (sphere_row l.r l.n l.k l.pairs) (l.n + 1) (l.k + 1) (record { l.positions = l.initial.positions; l.normals = l.initial.normals; l.textures = l.initial.textures }) l.j (record { l.positions = l.positions; l.normals = l.normals; l.textures = l.textures })
+
+abbrev pub decreases-loop-j : goal.decreases-loop-j
+decreases-loop-j l = l.k + 1 - l.j

@@ -1,0 +1,22 @@
+use Prim.Native.Nat.{◌-◌}
+use native.Mathlib.Omega.{arith}
+use lib.ListN.{length}
+use lib.Ieee.{binary32, of_bits}
+use borrow.Author.Rules.{rules}
+use Rattle.lists.proofs.Pieces.{Singles, singles_none, same_more, same_all}
+use Rattle.tables.proofs.writing.clear_floats.Goals as goal
+
+pub loop-i-init : goal.loop-i-init
+loop-i-init c = singles_none
+
+pub loop-i-smaller : goal.loop-i-smaller
+loop-i-smaller c = omega (arith, c.loop-i.invariant.size)
+
+pub loop-i-preserved : goal.loop-i-preserved
+loop-i-preserved c = same_more _ c.loop-i.invariant c.loop-i-test.true
+
+pub shape_of-floats : goal.shape_of-floats
+shape_of-floats c = c.loop-i.invariant.size
+
+pub returns : goal.returns
+returns c = same_all _ c.loop-i.invariant c.loop-i-test.false

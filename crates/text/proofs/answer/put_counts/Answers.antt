@@ -1,0 +1,9 @@
+use Rattle.text.specs.Answer.{counts_text}
+use Rattle.text.proofs.Pieces.{then}
+use borrow.Author.Rules.{rules}
+use Rattle.text.proofs.answer.put_counts.Goals as goal
+
+pub returns : goal.returns
+unfolding counts_text
+returns c =
+    then c.put_byte-p.ensures (then c.put_byte-p-2.ensures (then c.put_byte-p-3.ensures (then c.put_byte-p-4.ensures (then c.put_field-p.ensures c.put_field.ensures))))

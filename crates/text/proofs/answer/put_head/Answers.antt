@@ -1,0 +1,8 @@
+use Rattle.text.specs.Answer.{head_line}
+use Rattle.text.proofs.Pieces.{then}
+use borrow.Author.Rules.{rules}
+use Rattle.text.proofs.answer.put_head.Goals as goal
+
+pub returns : goal.returns
+unfolding head_line
+returns c = then c.put_counts-p.ensures c.put_flags.ensures

@@ -1,0 +1,14 @@
+use native.Mathlib.Omega.{arith}
+use Rattle.text.specs.Digits.{hexadecimal, decimal}
+use Rattle.text.specs.Fields.{word_field, number_field}
+use Rattle.text.proofs.Pieces.{then, looser}
+use borrow.Author.Rules.{rules}
+use Rattle.text.proofs.fields.put_field.Goals as goal
+
+pub returns-then-word : goal.returns-then-word
+unfolding word_field hexadecimal
+returns-then-word c = rw c.if-word.true (looser 11 (omega arith) (then c.put_byte-p.ensures c.put_digits.ensures))
+
+pub returns : goal.returns
+unfolding number_field decimal
+returns c = rw c.if-word.false (then c.put_byte-p.ensures c.put_digits-2.ensures)

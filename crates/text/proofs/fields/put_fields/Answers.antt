@@ -1,0 +1,17 @@
+use Prim.Native.Nat.{◌+◌, ◌-◌}
+use lib.ListN.{get_or}
+use Rattle.text.specs.Fields.{field_of, fields}
+use Rattle.text.proofs.Pieces.{Going, going_start, going_step, going_end}
+use borrow.Author.Rules.{rules}
+use Rattle.text.proofs.fields.put_fields.Goals as goal
+
+pub loop-i-init : goal.loop-i-init
+loop-i-init c = going_start _ _ _ _ _
+
+pub loop-i-preserved : goal.loop-i-preserved
+loop-i-preserved c =
+    going_step c.loop-i.invariant c.loop-i-test.true (rw c.get.ensures at c.put_field-p.ensures)
+
+pub returns : goal.returns
+unfolding fields
+returns c = going_end c.loop-i.invariant c.loop-i-test.false

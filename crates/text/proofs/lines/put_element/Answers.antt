@@ -1,0 +1,18 @@
+use native.Mathlib.Omega.{arith}
+use native.Mathlib.Nat.{mul-le-mul_right}
+use Rattle.text.specs.Lines.{element_line}
+use Rattle.text.proofs.Pieces.{then, looser}
+use borrow.Author.Rules.{rules}
+use Rattle.text.proofs.lines.put_element.Goals as goal
+
+pub overflow_mul-m : goal.overflow_mul-m
+overflow_mul-m c =
+    let h = mul-le-mul_right c.args.i c.requires.1 in omega (arith, h)
+
+pub put_fields-p-requires : goal.put_fields-p-requires
+put_fields-p-requires c =
+    let h = mul-le-mul_right c.args.i c.requires.1 in (omega arith, omega (arith, h))
+
+pub returns : goal.returns
+unfolding element_line
+returns c = looser 35 (omega arith) (then c.put_byte-p.ensures (then c.put_fields-p.ensures c.put_byte.ensures))

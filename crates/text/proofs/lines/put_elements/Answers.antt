@@ -1,0 +1,14 @@
+use Prim.Native.Nat.{◌-◌}
+use Rattle.text.specs.Lines.{element_line}
+use Rattle.text.proofs.Pieces.{Going, going_start, going_step, going_end}
+use borrow.Author.Rules.{rules}
+use Rattle.text.proofs.lines.put_elements.Goals as goal
+
+pub loop-i-init : goal.loop-i-init
+loop-i-init c = going_start _ _ _ _ _
+
+pub loop-i-preserved : goal.loop-i-preserved
+loop-i-preserved c = going_step c.loop-i.invariant c.loop-i-test.true c.put_element-p.ensures
+
+pub returns : goal.returns
+returns c = going_end c.loop-i.invariant c.loop-i-test.false

@@ -1,0 +1,18 @@
+use mathlib.Core.Path.{sym, ◌∙◌}
+use native.Mathlib.Omega.{arith}
+use Prim.Native.Nat.{ℕ}
+use Rattle.vertices.specs.Search.{corner_key, bucket_at, Chained}
+use Rattle.vertices.proofs.Seek.{up_to}
+use Rattle.vertices.proofs.Keys.{roomy_le}
+use Rattle.vertices.proofs.Chains.{Met, met_start, met_step, met_below, met_found, met_end}
+use borrow.Author.Rules.{rules}
+use Rattle.vertices.proofs.search.find.Given as goal
+
+-- the code does not read n, so it is any n whose vertices are chained
+abbrev pub invariant-loop-x : goal.invariant-loop-x
+invariant-loop-x l =
+    (n : ℕ) → Chained l.t (bucket_at l.w l.t (record { l.sources = l.sources; l.normals = l.normals; l.colours = l.colours; l.textures = l.textures })) l.work n
+    → Met l.w l.t (record { l.sources = l.sources; l.normals = l.normals; l.colours = l.colours; l.textures = l.textures }) (corner_key l.w l.v.0 l.key) n l.x
+
+abbrev pub decreases-loop-x : goal.decreases-loop-x
+decreases-loop-x l = up_to l.x
