@@ -14,7 +14,7 @@ use Rattle.lists.proofs.Squares.{times_up, times_lo, plus_up, more_left, more_ri
 use Rattle.math.specs.declared.vector.V3.{V3}
 use Rattle.math.specs.SquareRoot.{root_of}
 use Rattle.math.specs.Vector.{vdot, tiny, usable}
-use Rattle.math.proofs.Units.{Is, is_finite, square_units, add_units}
+use Rattle.math.proofs.UnitLaws.{Is, is_finite, square_units, add_units}
 use Rattle.math.proofs.Chain.{up_at, lo_at, sum_up, sum_lo, root_lo}
 use Rattle.math.proofs.RootUnits.{root_value}
 

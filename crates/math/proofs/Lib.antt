@@ -3,7 +3,7 @@ pub mod Normal
 pub mod Near
 pub mod Rows
 pub mod Grid
-pub mod Units
+pub mod UnitLaws
 pub mod Chain
 pub mod RootUnits
 -- Laws behind them and behind the functions.

@@ -15,7 +15,7 @@ use lib.Ieee.Fits.{down_pos}
 use Rattle.lists.proofs.Numbers.{le_or_lt}
 use Rattle.math.specs.SquareRoot.{place, significand}
 use Rattle.math.specs.Nearest.{units_of, square}
-use Rattle.math.proofs.Units.{Is}
+use Rattle.math.proofs.UnitLaws.{Is}
 use Rattle.math.proofs.Place.{place_low, place_high, significand_low, significand_high}
 
 -- ---- the units of a pattern, by its two fields

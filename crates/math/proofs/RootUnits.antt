@@ -16,7 +16,7 @@ use Rattle.lists.proofs.Squares.{square_double, square_less, square_le, pow_spli
 use Rattle.math.specs.SquareRoot.{isqrt, place, significand, root_digits, joined, root_bits, root_of}
 use Rattle.math.specs.Nearest.{units_of, square}
 use Rattle.math.proofs.Whole.{IsRoot}
-use Rattle.math.proofs.Units.{Is}
+use Rattle.math.proofs.UnitLaws.{Is}
 use Rattle.math.proofs.Chain.{RootUp, RootLo}
 use Rattle.math.proofs.RootDigits.{shifted_root, root_large, digits_large, digits_small}
 use Rattle.math.proofs.Place.{placed, root_bits_lt}

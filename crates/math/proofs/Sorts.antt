@@ -17,7 +17,7 @@ use lib.Ieee.Fits.{up_pos, down_pos, kept-lt, and_l, and_r}
 use Rattle.math.specs.SquareRoot.{root_of, root_bits}
 use Rattle.math.specs.Vector.{zero_f}
 use Rattle.math.specs.Digit.{Plain, plain}
-use Rattle.math.proofs.Units.{down_fits}
+use Rattle.math.proofs.UnitLaws.{down_fits}
 
 -- bits up to those of infinity are no NaN's
 pub plain_pattern : (n : ℕ) → n % 0x8000_0000 ≤ 0x7f80_0000 → T (not (nan_bits binary32 n))

@@ -14,7 +14,7 @@ use Rattle.math.specs.declared.vector.V3.{V3}
 use Rattle.math.specs.SquareRoot.{root_of}
 use Rattle.math.specs.Vector.{vdot, vscale, one_f, tiny, fits3, usable}
 use Rattle.math.proofs.Grid.{Rounded}
-use Rattle.math.proofs.Units.{Is, in_units, square_units, add_units, mul_units, inv_units, rounded_under, add_finite, mul_finite}
+use Rattle.math.proofs.UnitLaws.{Is, in_units, square_units, add_units, mul_units, inv_units, rounded_under, add_finite, mul_finite}
 use Rattle.math.proofs.Chain.{sum_lo, inv_up, component_up, component_lo}
 use Rattle.math.proofs.RootUnits.{RootAt, root_value, root_finite}
 use Rattle.math.proofs.Length.{AtMostTwo, above_tiny, under, usable_of}

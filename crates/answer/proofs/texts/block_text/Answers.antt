@@ -13,12 +13,12 @@ use Rattle.answer.proofs.texts.block_text.Goals as goal
 
 pub put_mesh-requires : goal.put_mesh-requires
 put_mesh-requires c =
-    let f = answer_few _ _ _ c.lend_and_convert-left.ensures c.answer-in-Made-1.given.1 in (omega (arith, f.0), omega (arith, f.1))
+    let f = answer_few _ _ _ c.lend_and_convert-left.ensures c.in-Made.is in (omega (arith, f.0), omega (arith, f.1))
 
 pub returns-in-Refused : goal.returns-in-Refused
 returns-in-Refused c =
-    said_printed _ _ _ _ _ _ _ c.lend_and_convert-left.ensures c.answer-1.given.1 refl (rw c.number_of.ensures at c.put_refusal.ensures)
+    said_printed _ _ _ _ _ _ _ c.lend_and_convert-left.ensures c.in-Refused.is refl (rw c.number_of.ensures at c.put_refusal.ensures)
 
 pub returns-in-Made : goal.returns-in-Made
 returns-in-Made c =
-    said_printed _ _ _ _ _ _ _ c.lend_and_convert-left.ensures c.answer-in-Made-1.given.1 c.parts_in-parts.ensures c.put_mesh.ensures
+    said_printed _ _ _ _ _ _ _ c.lend_and_convert-left.ensures c.in-Made.is c.parts_in-parts.ensures c.put_mesh.ensures

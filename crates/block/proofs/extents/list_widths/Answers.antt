@@ -5,13 +5,13 @@ use Rattle.block.proofs.extents.color_width.Reads as color-width-reads
 use Rattle.block.proofs.extents.list_widths.Goals as goal
 
 pub returns-in-FaceSet : goal.returns-in-FaceSet
-returns-in-FaceSet c = rw (c.color_width-c.ensures, c.enum_told-1.given.1)
+returns-in-FaceSet c = rw (c.color_width-c.ensures, c.in-FaceSet.is)
 
 pub returns-in-LineSet : goal.returns-in-LineSet
-returns-in-LineSet c = rw (c.color_width-c.ensures, c.enum_told-in-LineSet-1.given.1)
+returns-in-LineSet c = rw (c.color_width-c.ensures, c.in-LineSet.is)
 
 pub returns-in-Grid : goal.returns-in-Grid
-returns-in-Grid c = rw (c.color_width-c.ensures, c.enum_told-in-Grid-1.given.1)
+returns-in-Grid c = rw (c.color_width-c.ensures, c.in-Grid.is)
 
 pub returns-in-Primitives : goal.returns-in-Primitives
-returns-in-Primitives c = rw (c.color_width-c.ensures, c.enum_told-in-Primitives-1.given.1)
+returns-in-Primitives c = rw (c.color_width-c.ensures, c.in-Primitives.is)

@@ -4,10 +4,10 @@ use Rattle.block.proofs.ValueLaws.{value_there, value_past, value_missing}
 use Rattle.block.proofs.value.value3.Goals as goal
 
 pub returns-in_default : goal.returns-in_default
-returns-in_default c = value_missing _ 3 _ _ _ c.enum_told-1.given.1
+returns-in_default c = value_missing _ 3 _ _ _ c.in_default.is
 
 pub returns-then-k-values : goal.returns-then-k-values
-returns-then-k-values c = value_there (words3 _) 3 _ _ _ _ _ _ c.found-1.given.1 c.wide-k.ensures.0 c.if-k-values.true c.three.ensures
+returns-then-k-values c = value_there (words3 _) 3 _ _ _ _ _ _ c.in-At.is c.wide-k.ensures.0 c.if-k-values.true c.three.ensures
 
 pub returns : goal.returns
-returns c = value_past _ 3 _ _ _ _ _ c.found-1.given.1 c.wide-k.ensures.0 c.if-k-values.false
+returns c = value_past _ 3 _ _ _ _ _ c.in-At.is c.wide-k.ensures.0 c.if-k-values.false

@@ -8,7 +8,7 @@ use borrow.Author.Rules.{rules}
 use Rattle.boxes.proofs.verts.put_faces.Given as goal
 
 abbrev pub invariant-loop-k : goal.invariant-loop-k
-invariant-loop-k l = Filling l.c 0 (box_face l.h) 4 6 (record { l.positions = l.initial.positions; l.normals = l.initial.normals; l.textures = l.initial.textures }) l.k (record { l.positions = l.positions; l.normals = l.normals; l.textures = l.textures })
+invariant-loop-k l = Filling l.c 0 (box_face l.h) 4 6 (record { positions = l.initial.positions; normals = l.initial.normals; textures = l.initial.textures }) l.k (record { positions = l.positions; normals = l.normals; textures = l.textures })
 
 abbrev pub decreases-loop-k : goal.decreases-loop-k
 decreases-loop-k l = 6 - l.k

@@ -8,7 +8,7 @@ use borrow.Author.Rules.{rules}
 use Rattle.cone.proofs.side.put_slices.Given as goal
 
 abbrev pub invariant-loop-i : goal.invariant-loop-i
-invariant-loop-i l = Filling l.c 0 (cone_verts l.pairs l.r l.height l.n) 3 l.n (record { l.positions = l.initial.positions; l.normals = l.initial.normals; l.textures = l.initial.textures }) l.i (record { l.positions = l.positions; l.normals = l.normals; l.textures = l.textures })
+invariant-loop-i l = Filling l.c 0 (cone_verts l.pairs l.r l.height l.n) 3 l.n (record { positions = l.initial.positions; normals = l.initial.normals; textures = l.initial.textures }) l.i (record { positions = l.positions; normals = l.normals; textures = l.textures })
 
 abbrev pub decreases-loop-i : goal.decreases-loop-i
 decreases-loop-i l = l.n - l.i

@@ -6,9 +6,9 @@ use Rattle.corners.proofs.whole.all_vertices.Given as goal
 
 abbrev pub invariant-loop-c : goal.invariant-loop-c
 invariant-loop-c l =
-    Turning (record { l.block = l.block; l.coord = l.coord; l.floats = l.floats }) l.a l.w l.t
-    (record { l.sources = l.initial.sources; l.normals = l.initial.normals; l.colours = l.initial.colours; l.textures = l.initial.textures }) l.initial.positions l.initial.work l.c.0 l.n.0
-    (record { l.sources = l.sources; l.normals = l.normals; l.colours = l.colours; l.textures = l.textures }) l.positions l.work
+    Turning (record { block = l.block; coord = l.coord; floats = l.floats }) l.a l.w l.t
+    (record { sources = l.initial.sources; normals = l.initial.normals; colours = l.initial.colours; textures = l.initial.textures }) l.initial.positions l.initial.work l.c.0 l.n.0
+    (record { sources = l.sources; normals = l.normals; colours = l.colours; textures = l.textures }) l.positions l.work
 
 abbrev pub decreases-loop-c : goal.decreases-loop-c
 decreases-loop-c l = l.t.count - l.c.0

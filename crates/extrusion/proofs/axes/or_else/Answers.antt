@@ -5,8 +5,8 @@ use Rattle.extrusion.proofs.axes.or_else.Goals as goal
 
 pub returns-in-Of : goal.returns-in-Of
 unfolding or_else
-returns-in-Of c = rw c.u-1.given.1 refl
+returns-in-Of c = rw c.in-Of.is refl
 
 pub returns-in-Nothing : goal.returns-in-Nothing
 unfolding or_else
-returns-in-Nothing c = rw c.enum_told-1.given.1 refl
+returns-in-Nothing c = rw c.in-Nothing.is refl

@@ -3,7 +3,7 @@ use borrow.Author.Rules.{rules}
 use Rattle.extrusion.proofs.axes.turned.Goals as goal
 
 pub returns-then-dot : goal.returns-then-dot
-returns-then-dot c = turned_over _ _ _ _ _ c.prev-1.given.1 c.dot.ensures c.if-dot.true c.scale.ensures
+returns-then-dot c = turned_over _ _ _ _ _ c.in-Of.is c.dot.ensures c.if-dot.true c.scale.ensures
 
 pub returns-in-Of : goal.returns-in-Of
-returns-in-Of c = turned_not _ _ _ _ c.prev-1.given.1 c.dot.ensures c.if-dot.false
+returns-in-Of c = turned_not _ _ _ _ c.in-Of.is c.dot.ensures c.if-dot.false

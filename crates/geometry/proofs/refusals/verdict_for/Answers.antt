@@ -8,20 +8,20 @@ use Rattle.geometry.proofs.refusals.verdict_for.Goals as goal
 
 pub returns-in-Refused : goal.returns-in-Refused
 returns-in-Refused c =
-    let r = refused_is _ _ _ _ c.verdict_to_7-first.ensures _ c.first-1.given.1 in
+    let r = refused_is _ _ _ _ c.verdict_to_7-first.ensures _ c.in-Refused.is in
     refuse _ _ _ _ (first_seven _ _ _ (rows_at _ _ _ c.requires r.0) r.1) r.1
 
 pub is_short-requires : goal.is_short-requires
 is_short-requires c =
-    let p = passed_is _ _ _ _ c.verdict_to_7-first.ensures _ c.first-in-Passed-1.given.1 in
+    let p = passed_is _ _ _ _ c.verdict_to_7-first.ensures _ c.in-Passed.is in
     few _ _ (rows_at _ _ _ c.requires (sym p.0)) refl _ c.requires _ p.1
 
 pub returns-then-is_short : goal.returns-then-is_short
 returns-then-is_short c =
-    let p = passed_is _ _ _ _ c.verdict_to_7-first.ensures _ c.first-in-Passed-1.given.1 in
+    let p = passed_is _ _ _ _ c.verdict_to_7-first.ensures _ c.in-Passed.is in
     refuse _ _ _ _ (row_eight _ _ _ (rows_at _ _ _ c.requires (sym p.0)) refl _ c.requires _ p.1 _ true c.is_short.ensures c.if-is_short.true) (λ z. omega arith)
 
 pub returns-in-Passed : goal.returns-in-Passed
 returns-in-Passed c =
-    let p = passed_is _ _ _ _ c.verdict_to_7-first.ensures _ c.first-in-Passed-1.given.1 in
+    let p = passed_is _ _ _ _ c.verdict_to_7-first.ensures _ c.in-Passed.is in
     pass _ _ _ _ (sym (row_eight _ _ _ (rows_at _ _ _ c.requires (sym p.0)) refl _ c.requires _ p.1 _ false c.is_short.ensures c.if-is_short.false)) p.1

@@ -6,9 +6,9 @@ use Rattle.math.proofs.quaternion.half_turn.Goals as goal
 
 pub returns-in_default : goal.returns-in_default
 unfolding half_turn
-returns-in_default c = ap half_about (sym c.enum_told-1.given.1 ∙ c.normalize.ensures ∙ ap unit_of (c.cross.ensures ∙ ap (vcross c.args.f) c.other_axis.ensures))
+returns-in_default c = ap half_about (sym c.in_default.is ∙ c.normalize.ensures ∙ ap unit_of (c.cross.ensures ∙ ap (vcross c.args.f) c.other_axis.ensures))
 
 pub returns : goal.returns
 unfolding half_turn
 returns c =
-    ap half_about (sym c.u-1.given.1 ∙ c.normalize.ensures ∙ ap unit_of (c.cross.ensures ∙ ap (vcross c.args.f) c.other_axis.ensures))
+    ap half_about (sym c.in-Of.is ∙ c.normalize.ensures ∙ ap unit_of (c.cross.ensures ∙ ap (vcross c.args.f) c.other_axis.ensures))

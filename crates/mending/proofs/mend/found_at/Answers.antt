@@ -7,8 +7,8 @@ use Rattle.mending.proofs.mend.found_at.Goals as goal
 
 pub returns-in_default : goal.returns-in_default
 unfolding or_else
-returns-in_default c = c.straight_up-in_default.ensures ∙ ap (λ w. or_else w y_axis) (sym c.enum_told-1.given.1) ∙ sym (found_is _ _ _ c.args.k _ c.if-k-eq0.false c.triangle_normal.ensures)
+returns-in_default c = c.straight_up-in_default.ensures ∙ ap (λ w. or_else w y_axis) (sym c.in_default.is) ∙ sym (found_is _ _ _ c.args.k _ c.if-k-eq0.false c.triangle_normal.ensures)
 
 pub returns : goal.returns
 unfolding or_else
-returns c = ap (λ w. or_else w y_axis) (sym c.u-1.given.1) ∙ sym (found_is _ _ _ c.args.k _ c.if-k-eq0.false c.triangle_normal.ensures)
+returns c = ap (λ w. or_else w y_axis) (sym c.in-Of.is) ∙ sym (found_is _ _ _ c.args.k _ c.if-k-eq0.false c.triangle_normal.ensures)

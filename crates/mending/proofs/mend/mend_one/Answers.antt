@@ -10,10 +10,10 @@ returns-then-is_near_one c = (near_kept _ _ _ _ _ c.floats_of-n.ensures c.dot.en
 
 pub returns-in_default : goal.returns-in_default
 returns-in_default c = (
-  mend_found _ _ _ _ _ _ _ _ _ _ _ c.floats_of-n.ensures c.len-l.ensures (sym c.unit_by.ensures ∙ c.enum_told-1.given.1) (omega arith) c.make_table.ensures c.get-k.ensures c.found_at.ensures c.words_of.ensures,
+  mend_found _ _ _ _ _ _ _ _ _ _ _ c.floats_of-n.ensures c.len-l.ensures (sym c.unit_by.ensures ∙ c.in_default.is) (omega arith) c.make_table.ensures c.get-k.ensures c.found_at.ensures c.words_of.ensures,
   all_made _ _ _ _ c.make_table.ensures,
 )
 
 pub returns : goal.returns
 returns c =
-    (mend_scaled _ _ _ _ _ _ c.floats_of-n.ensures c.len-l.ensures (sym c.unit_by.ensures ∙ c.u-1.given.1) c.scaled.ensures, c.requires.3)
+    (mend_scaled _ _ _ _ _ _ c.floats_of-n.ensures c.len-l.ensures (sym c.unit_by.ensures ∙ c.in-Of.is) c.scaled.ensures, c.requires.3)

@@ -4,8 +4,8 @@ use Rattle.mending.proofs.mend.note.Goals as goal
 
 pub returns-in_default : goal.returns-in_default
 unfolding noted
-returns-in_default c = rw (← c.triangle_normal.ensures, c.enum_told-1.given.1)
+returns-in_default c = rw (← c.triangle_normal.ensures, c.in_default.is)
 
 pub returns : goal.returns
 unfolding noted
-returns c = rw (c.mark_all.ensures, ← c.triangle_normal.ensures, c._u-1.given.1)
+returns c = rw (c.mark_all.ensures, ← c.triangle_normal.ensures, c.in-Of.is)

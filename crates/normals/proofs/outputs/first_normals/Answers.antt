@@ -10,7 +10,7 @@ returns-in-Every c = begun_none _ c.requires.2 c.requires.1
 
 pub near_normals-requires : goal.near_normals-requires
 near_normals-requires c =
-    (c.requires.0, summed_bound c.rule-1.given.1 c.requires.1, c.requires.2)
+    (c.requires.0, summed_bound c.in-Bound.is c.requires.1, c.requires.2)
 
 pub returns-in-Bound : goal.returns-in-Bound
-returns-in-Bound c = begun_bound c.rule-1.given.1 c.near_normals.ensures
+returns-in-Bound c = begun_bound c.in-Bound.is c.near_normals.ensures

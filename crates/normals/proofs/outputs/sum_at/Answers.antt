@@ -32,7 +32,7 @@ pub returns-in-Of : goal.returns-in-Of
 unfolding unit_in
 returns-in-Of c =
     let o : c.owner_of-own.result < c.args.t.faces = rw c.owner_of-own.ensures (c.requires.0.owned _ c.requires.2) in
-    sum_some _ _ _ _ _ c.owner_of-own.ensures _ _ (c.load_unit.ensures ∙ c.requires.0.units _ o) _ _ c.gather_of-p.ensures c.u-1.given.1 c.sum_near.ensures
+    sum_some _ _ _ _ _ c.owner_of-own.ensures _ _ (c.load_unit.ensures ∙ c.requires.0.units _ o) _ _ c.gather_of-p.ensures c.in-Of.is c.sum_near.ensures
 
 pub overflow_mul-own-in-Nothing : goal.overflow_mul-own-in-Nothing
 overflow_mul-own-in-Nothing c = let R = c.requires.0.room in let o = c.requires.0.owned _ c.requires.2 in omega (arith, o, c.owner_of-own.ensures)
@@ -47,4 +47,4 @@ pub returns-in-Nothing : goal.returns-in-Nothing
 unfolding unit_in normal_in
 returns-in-Nothing c =
     let o : c.owner_of-own.result < c.args.t.faces = rw c.owner_of-own.ensures (c.requires.0.owned _ c.requires.2) in
-    sum_none _ _ _ _ 0 c.owner_of-own.ensures _ _ (c.load_unit.ensures ∙ c.requires.0.units _ o) _ c.enum_told-1.given.1 c.load.ensures
+    sum_none _ _ _ _ 0 c.owner_of-own.ensures _ _ (c.load_unit.ensures ∙ c.requires.0.units _ o) _ c.in-Nothing.is c.load.ensures

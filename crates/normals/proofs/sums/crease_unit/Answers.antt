@@ -7,7 +7,7 @@ use borrow.Author.Rules.{rules}
 use Rattle.normals.proofs.sums.crease_unit.Goals as goal
 
 pub returns-in-Own : goal.returns-in-Own
-returns-in-Own c = unit_own _ _ _ _ _ c.enum_told-1.given.1 c.requires.4
+returns-in-Own c = unit_own _ _ _ _ _ c.in-Own.is c.requires.4
 
 pub overflow_mul-p : goal.overflow_mul-p
 overflow_mul-p c = let R = c.requires.0.room in omega (arith, c.requires.2)
@@ -21,15 +21,15 @@ load_unit-requires c = let R = c.requires.0.room in omega (arith, c.requires.2)
 pub returns-in-Every : goal.returns-in-Every
 unfolding sum_in
 returns-in-Every c =
-    unit_every _ _ _ _ _ c.enum_told-in-Every-1.given.1 (sums_read _ _ _ c.requires.1 c.enum_told-in-Every-1.given.1 c.requires.2 c.load_unit.ensures)
+    unit_every _ _ _ _ _ c.in-Every.is (sums_read _ _ _ c.requires.1 c.in-Every.is c.requires.2 c.load_unit.ensures)
 
 pub sum_near-requires : goal.sum_near-requires
 sum_near-requires c =
-    (c.requires.0, c.requires.2, c.requires.3, rows_read _ _ c.requires.1 c.rule-1.given.1)
+    (c.requires.0, c.requires.2, c.requires.3, rows_read _ _ c.requires.1 c.in-Bound.is)
 
 pub returns-in-Of : goal.returns-in-Of
 returns-in-Of c =
-    unit_bound _ _ _ _ _ _ c.rule-1.given.1 _ c.requires.4 _ _ c.k-1.given.1 c.sum_near.ensures c.normalize.ensures
+    unit_bound _ _ _ _ _ _ c.in-Bound.is _ c.requires.4 _ _ c.in-Of.is c.sum_near.ensures c.normalize.ensures
 
 pub returns-in-Nothing : goal.returns-in-Nothing
-returns-in-Nothing c = unit_bound_none _ _ _ _ _ _ c.rule-1.given.1 _ c.requires.4 c.enum_told-in-Nothing-1.given.1 refl
+returns-in-Nothing c = unit_bound_none _ _ _ _ _ _ c.in-Bound.is _ c.requires.4 c.in-Nothing.is refl

@@ -4,8 +4,8 @@ use Rattle.normals.proofs.vectors.or_else.Goals as goal
 
 pub returns-in-Of : goal.returns-in-Of
 unfolding or_else
-returns-in-Of c = rw c.k-1.given.1
+returns-in-Of c = rw c.in-Of.is
 
 pub returns-in-Nothing : goal.returns-in-Nothing
 unfolding or_else
-returns-in-Nothing c = rw c.enum_told-1.given.1
+returns-in-Nothing c = rw c.in-Nothing.is

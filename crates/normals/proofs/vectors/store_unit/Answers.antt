@@ -13,7 +13,7 @@ shape_of-work-in-Of c = c.store3.ensures.0.len ∙ simp length-set refl
 
 pub returns-in-Of : goal.returns-in-Of
 returns-in-Of c =
-    unit_some _ _ _ c.requires _ _ c.store3.ensures.0 c.store3.ensures.1 c.k-1.given.1
+    unit_some _ _ _ c.requires _ _ c.store3.ensures.0 c.store3.ensures.1 c.in-Of.is
 
 pub returns-in-Nothing : goal.returns-in-Nothing
-returns-in-Nothing c = unit_none _ _ _ c.requires c.enum_told-1.given.1
+returns-in-Nothing c = unit_none _ _ _ c.requires c.in-Nothing.is

@@ -11,7 +11,7 @@ use borrow.Author.Rules.{rules}
 use Rattle.parts.proofs.cap.put_cap_ring.Given as goal
 
 abbrev pub invariant-loop-i : goal.invariant-loop-i
-invariant-loop-i l = Filling l.c (l.k.first + 1) (λ (j : ℕ). cap_vert l.pairs l.k j ∷ []) 1 l.k.slices (record { l.positions = l.initial.positions; l.normals = l.initial.normals; l.textures = l.initial.textures }) l.i (record { l.positions = l.positions; l.normals = l.normals; l.textures = l.textures })
+invariant-loop-i l = Filling l.c (l.k.first + 1) (λ (j : ℕ). cap_vert l.pairs l.k j ∷ []) 1 l.k.slices (record { positions = l.initial.positions; normals = l.initial.normals; textures = l.initial.textures }) l.i (record { positions = l.positions; normals = l.normals; textures = l.textures })
 
 abbrev pub decreases-loop-i : goal.decreases-loop-i
 decreases-loop-i l = l.k.slices - l.i

@@ -4,16 +4,16 @@ use Rattle.primitives.proofs.places.count_in.Goals as goal
 
 pub returns-in-Triangles : goal.returns-in-Triangles
 unfolding primitive_count
-returns-in-Triangles c = rw c.enum_told-1.given.1
+returns-in-Triangles c = rw c.in-Triangles.is
 
 pub returns-in-Fans : goal.returns-in-Fans
 unfolding primitive_count
-returns-in-Fans c = rw c.enum_told-in-Fans-1.given.1 c.from_third.ensures
+returns-in-Fans c = rw c.in-Fans.is c.from_third.ensures
 
 pub returns-in-Strips : goal.returns-in-Strips
 unfolding primitive_count
-returns-in-Strips c = rw c.enum_told-in-Strips-1.given.1 c.from_third-in-Strips.ensures
+returns-in-Strips c = rw c.in-Strips.is c.from_third-in-Strips.ensures
 
 pub returns-in-Quads : goal.returns-in-Quads
 unfolding primitive_count
-returns-in-Quads c = rw c.enum_told-in-Quads-1.given.1
+returns-in-Quads c = rw c.in-Quads.is

@@ -13,11 +13,11 @@ overflow_add-result c = omega (arith, c.requires.1, width_four c.args.g, c.requi
 
 pub fan_place-requires : goal.fan_place-requires
 unfolding width_of
-fan_place-requires c = (rw c.enum_told-in-Fans-1.given.1 at c.requires.0, c.requires.1)
+fan_place-requires c = (rw c.in-Fans.is at c.requires.0, c.requires.1)
 
 pub strip_place-requires : goal.strip_place-requires
 unfolding width_of
-strip_place-requires c = (rw c.enum_told-in-Strips-1.given.1 at c.requires.0, c.requires.1)
+strip_place-requires c = (rw c.in-Strips.is at c.requires.0, c.requires.1)
 
 pub overflow_mul-result-in-Quads : goal.overflow_mul-result-in-Quads
 overflow_mul-result-in-Quads c = omega (arith, c.requires.1)
@@ -26,13 +26,13 @@ pub overflow_add-result-in-Quads : goal.overflow_add-result-in-Quads
 overflow_add-result-in-Quads c = omega (arith, c.requires.1, width_four c.args.g, c.requires.0)
 
 pub returns-in-Triangles : goal.returns-in-Triangles
-returns-in-Triangles c = place_three _ _ _ c.requires.0 c.enum_told-1.given.1
+returns-in-Triangles c = place_three _ _ _ c.requires.0 c.in-Triangles.is
 
 pub returns-in-Fans : goal.returns-in-Fans
-returns-in-Fans c = rw c.enum_told-in-Fans-1.given.1 c.fan_place.ensures
+returns-in-Fans c = rw c.in-Fans.is c.fan_place.ensures
 
 pub returns-in-Strips : goal.returns-in-Strips
-returns-in-Strips c = rw c.enum_told-in-Strips-1.given.1 c.strip_place.ensures
+returns-in-Strips c = rw c.in-Strips.is c.strip_place.ensures
 
 pub returns-in-Quads : goal.returns-in-Quads
-returns-in-Quads c = place_four _ _ _ c.requires.0 c.enum_told-in-Quads-1.given.1
+returns-in-Quads c = place_four _ _ _ c.requires.0 c.in-Quads.is

@@ -4,16 +4,16 @@ use Rattle.primitives.proofs.places.width_of.Goals as goal
 
 pub returns-in-Triangles : goal.returns-in-Triangles
 unfolding width_of
-returns-in-Triangles c = rw c.enum_told-1.given.1
+returns-in-Triangles c = rw c.in-Triangles.is
 
 pub returns-in-Fans : goal.returns-in-Fans
 unfolding width_of
-returns-in-Fans c = rw c.enum_told-in-Fans-1.given.1
+returns-in-Fans c = rw c.in-Fans.is
 
 pub returns-in-Strips : goal.returns-in-Strips
 unfolding width_of
-returns-in-Strips c = rw c.enum_told-in-Strips-1.given.1
+returns-in-Strips c = rw c.in-Strips.is
 
 pub returns-in-Quads : goal.returns-in-Quads
 unfolding width_of
-returns-in-Quads c = rw c.enum_told-in-Quads-1.given.1
+returns-in-Quads c = rw c.in-Quads.is

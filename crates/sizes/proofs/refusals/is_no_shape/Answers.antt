@@ -4,20 +4,20 @@ use Rattle.sizes.proofs.refusals.is_no_shape.Goals as goal
 
 pub returns-in-FaceSet : goal.returns-in-FaceSet
 unfolding is_no_shape
-returns-in-FaceSet c = rw c.enum_told-1.given.1
+returns-in-FaceSet c = rw c.in-FaceSet.is
 
 pub returns-in-LineSet : goal.returns-in-LineSet
 unfolding is_no_shape
-returns-in-LineSet c = rw c.enum_told-in-LineSet-1.given.1
+returns-in-LineSet c = rw c.in-LineSet.is
 
 pub returns-in-Grid : goal.returns-in-Grid
 unfolding is_no_shape
-returns-in-Grid c = rw c.enum_told-in-Grid-1.given.1 c.is_no_grid.ensures
+returns-in-Grid c = rw c.in-Grid.is c.is_no_grid.ensures
 
 pub returns-in-Extrusion : goal.returns-in-Extrusion
 unfolding is_no_shape
-returns-in-Extrusion c = rw c.enum_told-in-Extrusion-1.given.1 c.is_no_extrusion.ensures
+returns-in-Extrusion c = rw c.in-Extrusion.is c.is_no_extrusion.ensures
 
 pub returns-in-Primitives : goal.returns-in-Primitives
 unfolding is_no_shape
-returns-in-Primitives c = rw c.enum_told-in-Primitives-1.given.1
+returns-in-Primitives c = rw c.in-Primitives.is

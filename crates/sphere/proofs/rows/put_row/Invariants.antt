@@ -9,7 +9,7 @@ use borrow.Author.Rules.{rules}
 use Rattle.sphere.proofs.rows.put_row.Given as goal
 
 abbrev pub invariant-loop-i : goal.invariant-loop-i
-invariant-loop-i l = Filling l.c (l.j * (l.n + 1)) (λ (t : ℕ). sphere_vert l.r l.n l.k l.pairs l.j t ∷ []) 1 (l.n + 1) (record { l.positions = l.initial.positions; l.normals = l.initial.normals; l.textures = l.initial.textures }) l.i (record { l.positions = l.positions; l.normals = l.normals; l.textures = l.textures })
+invariant-loop-i l = Filling l.c (l.j * (l.n + 1)) (λ (t : ℕ). sphere_vert l.r l.n l.k l.pairs l.j t ∷ []) 1 (l.n + 1) (record { positions = l.initial.positions; normals = l.initial.normals; textures = l.initial.textures }) l.i (record { positions = l.positions; normals = l.normals; textures = l.textures })
 
 abbrev pub decreases-loop-i : goal.decreases-loop-i
 decreases-loop-i l = l.n + 1 - l.i

@@ -10,7 +10,7 @@ use borrow.Author.Rules.{rules}
 use Rattle.sphere.proofs.rows.put_rows.Given as goal
 
 abbrev pub invariant-loop-j : goal.invariant-loop-j
-invariant-loop-j l = Filling l.c 0 (sphere_row l.r l.n l.k l.pairs) (l.n + 1) (l.k + 1) (record { l.positions = l.initial.positions; l.normals = l.initial.normals; l.textures = l.initial.textures }) l.j (record { l.positions = l.positions; l.normals = l.normals; l.textures = l.textures })
+invariant-loop-j l = Filling l.c 0 (sphere_row l.r l.n l.k l.pairs) (l.n + 1) (l.k + 1) (record { positions = l.initial.positions; normals = l.initial.normals; textures = l.initial.textures }) l.j (record { positions = l.positions; normals = l.normals; textures = l.textures })
 
 abbrev pub decreases-loop-j : goal.decreases-loop-j
 decreases-loop-j l = l.k + 1 - l.j

@@ -18,7 +18,7 @@ find-known-requires c =
 pub returns-in-At : goal.returns-in-At
 returns-in-At c =
     let P = c.requires in
-    vertexed_old _ _ _ _ _ _ _ _ P.room.roomy P.chained (sym c.find-known.ensures ∙ c.known-1.given.1)
+    vertexed_old _ _ _ _ _ _ _ _ P.room.roomy P.chained (sym c.find-known.ensures ∙ c.in-At.is)
 
 pub append-requires : goal.append-requires
 append-requires c =
@@ -27,5 +27,5 @@ append-requires c =
 pub returns : goal.returns
 returns c =
     let P = c.requires in
-    vertexed_new _ _ _ _ _ _ _ _ _ _ _ _ P.room P.point P.words c.append.ensures (sym c.find-known.ensures ∙ c.enum_told-1.given.1) P.held P.chained
+    vertexed_new _ _ _ _ _ _ _ _ _ _ _ _ P.room P.point P.words c.append.ensures (sym c.find-known.ensures ∙ c.in_default.is) P.held P.chained
     c.bucket_of-bucket.ensures.0 c.bucket_of-bucket.ensures.1

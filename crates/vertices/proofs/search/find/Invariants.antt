@@ -11,8 +11,8 @@ use Rattle.vertices.proofs.search.find.Given as goal
 -- the code does not read n, so it is any n whose vertices are chained
 abbrev pub invariant-loop-x : goal.invariant-loop-x
 invariant-loop-x l =
-    (n : ℕ) → Chained l.t (bucket_at l.w l.t (record { l.sources = l.sources; l.normals = l.normals; l.colours = l.colours; l.textures = l.textures })) l.work n
-    → Met l.w l.t (record { l.sources = l.sources; l.normals = l.normals; l.colours = l.colours; l.textures = l.textures }) (corner_key l.w l.v.0 l.key) n l.x
+    (n : ℕ) → Chained l.t (bucket_at l.w l.t (record { sources = l.sources; normals = l.normals; colours = l.colours; textures = l.textures })) l.work n
+    → Met l.w l.t (record { sources = l.sources; normals = l.normals; colours = l.colours; textures = l.textures }) (corner_key l.w l.v.0 l.key) n l.x
 
 abbrev pub decreases-loop-x : goal.decreases-loop-x
 decreases-loop-x l = up_to l.x
