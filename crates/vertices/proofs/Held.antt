@@ -26,7 +26,7 @@ use Rattle.vertices.specs.Hash.{normal_of, colour_of, texture_of, bucket_of}
 use Rattle.vertices.specs.Adding.{linked, Appended, position_of, trimmed, Holds, points_in, count_after, Held, Vertexed}
 use Rattle.vertices.proofs.Seek.{up_to, seek_le, seek_hit, seek_absent}
 use Rattle.vertices.proofs.Keys.{corner_point_lem, corner_normal_lem, corner_colour, corner_texture, corner_trim}
-use Rattle.vertices.proofs.Chains.{chain_grow}
+use Rattle.vertices.proofs.ChainLaws.{chain_grow}
 use Rattle.vertices.proofs.Rows.{row_at, row_grow, source_at, source_grow, position_wide, normal_wide, colour_wide, texture_wide, point_words_lem}
 
 -- ---- the keys held, read from the slices

@@ -2,7 +2,7 @@
 mod Seek
 pub mod Keys
 mod Buckets
-mod Chains
+mod ChainLaws
 mod Rows
 mod Held
 pub mod Turns

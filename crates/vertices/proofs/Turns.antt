@@ -24,7 +24,7 @@ use Rattle.vertices.specs.Search.{bucket_at, Chained}
 use Rattle.vertices.specs.Hash.{normal_of, colour_of, texture_of}
 use Rattle.vertices.specs.Adding.{position_of, Holds, made_of, points_in, count_after, Ready, Vertexed}
 use Rattle.vertices.proofs.Keys.{roomy_le}
-use Rattle.vertices.proofs.Chains.{chained_none, chained_set}
+use Rattle.vertices.proofs.ChainLaws.{chained_none, chained_set}
 use Rattle.vertices.proofs.Rows.{rows_stay, position_wide, normal_wide, colour_wide, texture_wide}
 use Rattle.vertices.proofs.Held.{laid_le, place_new, count_same, count_more}
 
