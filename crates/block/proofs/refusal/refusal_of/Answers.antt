@@ -9,8 +9,8 @@ known : (c : After-limit_of) → Known c.args.block.now c.args.h
 known c =
     record {
       whole = rw (← c.header_bytes.ensures) c.if-block-header_bytes.false;
-      edition_is_lem = sym c.is_known.ensures ∙ c.if-is_known.true;
-      zeros_are_lem = c.if-h-ne0.false;
+      edition_is = sym c.is_known.ensures ∙ c.if-is_known.true;
+      zeros_are = c.if-h-ne0.false;
     }
 
 pub returns-then-block-header_bytes : goal.returns-then-block-header_bytes
