@@ -157,8 +157,8 @@ module _ (b c : List ℕ) (r : ℕ) (h : OneRun b c r) where
   pub coords : OneRunOf (entries (coord_in b)) (entries (coord_in c)) r
   unfolding a len s n coord_in runs_in
   coords = record {
-    in-l = h.in_b;
-    in-m = h.in_c;
+    in_l = h.in_b;
+    in_m = h.in_c;
     place = h.place;
     long = h.long;
     fore = entries_fore b c a len s n fore_same aft_same within_b within_c ∙ ap (λ (l : List ℕ). take s (entries l)) (sym coord_c);
