@@ -133,9 +133,9 @@ taken_of bs h e =
       whole = ltb-false (length bs) (header_bytes edition1) a.0;
       edition_is = not-false _ a.1.0;
       zeros_are = eqb-true _ _ (not-false _ a.1.1.0);
-      counts-are = λ k. counts_within (limit_of h.edition) h.counts (not-false _ a.1.1.1.0) k;
-      length-is = eqb-true _ _ (not-false _ a.1.1.1.1.0);
-      attributes-are = a.1.1.1.1.1.0;
+      counts_are = λ k. counts_within (limit_of h.edition) h.counts (not-false _ a.1.1.1.0) k;
+      length_is = eqb-true _ _ (not-false _ a.1.1.1.1.0);
+      attributes_are = a.1.1.1.1.1.0;
     }
 
 -- no count of a block that is not refused is above the highest limit
