@@ -15,7 +15,7 @@ pub bounds-n-k : goal.bounds-n-k
 bounds-n-k c = omega arith
 
 pub returns-then-limit-n : goal.returns-then-limit-n
-returns-then-limit-n c = ap not (below_not (suc c.args.limit) c.args.t1 c.loop-k.k _ (omega arith) refl c.loop-k.invariant.2 c.if-limit-n.true)
+returns-then-limit-n c = ap not (below_not (suc c.args.limit) c.args.n c.loop-k.k _ (omega arith) refl c.loop-k.invariant.2 c.if-limit-n.true)
 
 pub overflow_step-k : goal.overflow_step-k
 overflow_step-k c = omega arith
@@ -25,7 +25,7 @@ loop-k-smaller c = omega arith
 
 pub loop-k-preserved : goal.loop-k-preserved
 loop-k-preserved c =
-    (c.loop-k.invariant.0, omega arith, below_step (suc c.args.limit) c.args.t1 c.loop-k.k _ (omega arith) refl c.loop-k.invariant.2 (omega arith))
+    (c.loop-k.invariant.0, omega arith, below_step (suc c.args.limit) c.args.n c.loop-k.k _ (omega arith) refl c.loop-k.invariant.2 (omega arith))
 
 pub returns : goal.returns
-returns c = ap not (below_all (suc c.args.limit) c.args.t1 c.loop-k.k (omega arith) c.loop-k.invariant.2)
+returns c = ap not (below_all (suc c.args.limit) c.args.n c.loop-k.k (omega arith) c.loop-k.invariant.2)

@@ -29,7 +29,7 @@ loop-k-smaller c = omega arith
 
 pub loop-k-preserved : goal.loop-k-preserved
 loop-k-preserved c =
-    (omega arith, omega arith, omega arith, c.put_tri.auto.0 ∙ c.loop-k.invariant.3, rw (c.put_tri.ensures, c.get-a.ensures, c.get.ensures, c.get-in-loop-k.ensures) (fan_write c.args.rev c.loop-k.out c.loop-k.at c.args.idx.now c.loop-k.k c.loop-k-test.true ∙ c.loop-k.invariant.4))
+    (omega arith, omega arith, omega arith, c.put_tri.auto.out ∙ c.loop-k.invariant.3, rw (c.put_tri.ensures, c.get-a.ensures, c.get.ensures, c.get-in-loop-k.ensures) (fan_write c.args.rev c.loop-k.out c.loop-k.at c.args.idx.now c.loop-k.k c.loop-k-test.true ∙ c.loop-k.invariant.4))
 
 pub shape_of-out : goal.shape_of-out
 shape_of-out c = c.loop-k.invariant.3

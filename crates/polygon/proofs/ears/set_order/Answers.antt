@@ -25,7 +25,7 @@ loop-i-smaller c = omega arith
 
 pub loop-i-preserved : goal.loop-i-preserved
 loop-i-preserved c =
-    (omega arith, c.put.auto.0 ∙ c.loop-i.invariant.1, rw (c.put.ensures, c.place_of.ensures) (sym (tab_go _ _ _ _ c.loop-i-test.true) ∙ c.loop-i.invariant.2))
+    (omega arith, c.put.auto.table ∙ c.loop-i.invariant.1, rw (c.put.ensures, c.place_of.ensures) (sym (tab_go _ _ _ _ c.loop-i-test.true) ∙ c.loop-i.invariant.2))
 
 pub shape_of-w : goal.shape_of-w
 shape_of-w c = c.loop-i.invariant.1

@@ -13,7 +13,7 @@ loop-t-init c = (omega arith, refl, outline_start _ _)
 
 pub loop-t-preserved : goal.loop-t-preserved
 loop-t-preserved c =
-    (omega arith, c.put_tri.auto.0 ∙ c.loop-t.invariant.1, outline_go _ _ _ _ c.loop-t-test.true c.put_tri.ensures ∙ c.loop-t.invariant.2)
+    (omega arith, c.put_tri.auto.out ∙ c.loop-t.invariant.1, outline_go _ _ _ _ c.loop-t-test.true c.put_tri.ensures ∙ c.loop-t.invariant.2)
 
 pub shape_of-out : goal.shape_of-out
 shape_of-out c = c.loop-t.invariant.1

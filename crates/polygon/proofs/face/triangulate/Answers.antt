@@ -20,4 +20,4 @@ face_tris-requires c =
 
 pub returns : goal.returns
 returns c =
-    tail_sets (flat (face_tris c.args.convex (pairs (take (c.args.n * 2) c.args.plane.now)))) c.args.out.now c.face_tris.new.1.1.1.1.0 c.args.at (omega arith) c.face_tris.ensures
+    tail_sets (flat (face_tris c.args.convex (pairs (take (c.args.n * 2) c.args.plane.now)))) c.args.out.now c.face_tris.new.out c.args.at (omega arith) c.face_tris.ensures

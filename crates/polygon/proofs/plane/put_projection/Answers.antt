@@ -17,7 +17,7 @@ spot-p-requires c = c.point_number.ensures.1
 
 pub loop-i-preserved : goal.loop-i-preserved
 loop-i-preserved c =
-    (search rules, c.put_projected.auto.0 ∙ c.loop-i.invariant.1, rw (c.put_projected.ensures, c.spot-p.ensures, c.point_number.ensures.0) (projected_go _ _ _ _ _ c.loop-i-test.true ∙ c.loop-i.invariant.2))
+    (search rules, c.put_projected.auto.out ∙ c.loop-i.invariant.1, rw (c.put_projected.ensures, c.spot-p.ensures, c.point_number.ensures.0) (projected_go _ _ _ _ _ c.loop-i-test.true ∙ c.loop-i.invariant.2))
 
 pub shape_of-out : goal.shape_of-out
 shape_of-out c = c.loop-i.invariant.1
