@@ -44,13 +44,13 @@ module _ (c : Crossing) where
       let r =
       seven (not (eq c.det zero_f)) (le zero_f c.u) (le c.u one_f) (le zero_f c.v) (le (add binary32 c.u c.v) one_f) (le zero_f c.t) (le c.t one_f) h in
       record {
-        not-zero = not-true (eq c.det zero_f) r.0;
-        u-from = r.1;
-        u-to = r.2;
-        v-from = r.3;
+        not_zero = not-true (eq c.det zero_f) r.0;
+        u_from = r.1;
+        u_to = r.2;
+        v_from = r.3;
         sum_to = r.4;
         t_from = r.5;
-        t-to = r.6;
+        t_to = r.6;
       }
 
   pub means_hit : Hit c → is_hit c ≡ true

@@ -5,7 +5,6 @@ use Rattle.block.specs.Edition.{edition_of, edition_in, zeros_at}
 use Rattle.block.specs.Kind.{kind_of}
 use Rattle.block.specs.Header.{counts_of, header_of}
 use Rattle.block.proofs.EditionLaws.{narrow}
-use borrow.Author.Rules.{rules}
 use Rattle.block.proofs.header.read_header.Goals as goal
 
 edition_is : (c : goal.After-zeros_in) → c.edition_of-e.result ≡ edition_in c.args.block.now

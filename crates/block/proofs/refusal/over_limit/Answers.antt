@@ -1,11 +1,8 @@
-use Prim.Native.Nat.{suc, ◌≤◌, ◌-◌}
-use mathlib.Core.Path.{◌≡◌, refl, ap}
+use Prim.Native.Nat.{suc}
+use mathlib.Core.Path.{refl, ap}
 use native.Mathlib.Omega.{arith}
-use lib.ListN.{length, drop}
 use mathlib.Core.Bool.{not}
-use Rattle.block.specs.Runs.{all_below}
 use Rattle.block.proofs.RunLaws.{below_not, below_step, below_all}
-use borrow.Author.Rules.{rules}
 use Rattle.block.proofs.refusal.over_limit.Goals as goal
 
 pub offset_bounds-n-k : goal.offset_bounds-n-k

@@ -1,6 +1,5 @@
 use mathlib.Core.Path.{sym, ◌∙◌}
 use Rattle.block.proofs.Table.{Known, row_stub, row_edition, row_zeros, row_limit, row_length, row_attributes, row_none}
-use borrow.Author.Rules.{rules}
 use Rattle.block.proofs.refusal.refusal_of.Goals as goal
 use Rattle.block.proofs.refusal.refusal_of.Goals.{After-limit_of}
 

@@ -1,11 +1,8 @@
-use Prim.Native.Nat.{◌+◌, ◌≤◌, ◌-◌}
-use mathlib.Core.Logic.{⊎_elim}
-use mathlib.Core.Path.{◌≡◌, sym, ◌∙◌}
-use borrow.Author.Rules.{rules}
+use mathlib.Core.Path.{sym, ◌∙◌}
 use native.Mathlib.Omega.{arith}
 use Rattle.bits.proofs.Entries.{entries_length}
 use Rattle.bits.specs.Bits.{entries}
-use Rattle.block.specs.Runs.{runs, runs_left, faces, corners, triangles, sum_over}
+use Rattle.block.specs.Runs.{faces, corners, triangles}
 use Rattle.block.proofs.RunLaws.{sum_turn, sum_ended, kept_long, face_kept, face_lost}
 use Rattle.block.proofs.runs.face_totals.Goals as goal
 use Rattle.block.proofs.runs.face_totals.Goals.{then-is_kept, else-is_kept}

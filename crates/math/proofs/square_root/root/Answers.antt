@@ -1,11 +1,10 @@
 use mathlib.Core.Path.{◌∙◌, ap}
-use Prim.Native.Nat.{◌<◌, ◌*◌, ◌^◌}
 use native.Mathlib.Omega.{arith}
 use borrow.Author.Rules.{rules}
 use lib.Ieee.{nan_bits, binary32, of_bits, to_bits}
 use Rattle.math.proofs.Near.{rooted}
 use Rattle.math.proofs.Place.{root_bits_lt}
-use Rattle.math.proofs.Sorts.{Positive, above_finite, above_infinite, below_zero, neither, positive_no_nan, positive_in, positive_root, plain_pattern}
+use Rattle.math.proofs.Sorts.{above_finite, above_infinite, below_zero, neither, positive_no_nan, positive_in, positive_root, plain_pattern}
 use Rattle.math.proofs.square_root.root.Goals as goal
 
 -- The tests tell which case of `rootOf` it is; a positive finite argument has bits that `root_bits` takes.

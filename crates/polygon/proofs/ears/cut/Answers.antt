@@ -4,7 +4,6 @@ use Prim.Native.Nat.{◌*◌, ◌≤◌}
 use native.Mathlib.Omega.{arith}
 use lib.ListN.{length, take}
 use lib.Seq.{sets, length-take-le}
-use borrow.Author.Rules.{rules}
 use Rattle.polygon.specs.Ears.{Tri, flat, turn}
 use Rattle.polygon.proofs.Turns.{corner_in_lem, gone_by}
 use Rattle.polygon.proofs.ears.cut.Goals as goal

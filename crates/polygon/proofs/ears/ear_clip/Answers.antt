@@ -3,7 +3,6 @@ use Prim.Native.Nat.{◌*◌, ◌≤◌}
 use native.Mathlib.Omega.{arith}
 use lib.Ieee.{Float, lt}
 use lib.ListN.{length}
-use borrow.Author.Rules.{rules}
 use Rattle.polygon.specs.Ears.{+0, is_reversed}
 use Rattle.polygon.proofs.Turns.{held_start}
 use Rattle.polygon.proofs.Whole.{whole}

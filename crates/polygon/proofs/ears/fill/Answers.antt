@@ -1,10 +1,8 @@
-use mathlib.Core.Path.{◌≡◌, refl, ◌∙◌}
-use Prim.Native.Nat.{ℕ, ◌-◌, ◌≤◌, ◌<◌}
+use mathlib.Core.Path.{refl, ◌∙◌}
+use Prim.Native.Nat.{ℕ, ◌<◌}
 use native.Mathlib.Omega.{arith}
 use lib.ListN.{length}
-use Rattle.lists.specs.Parts.{Full}
 use Rattle.lists.proofs.Loops.{full_go}
-use borrow.Author.Rules.{rules}
 use Rattle.polygon.proofs.ears.fill.Goals as goal
 
 pub loop-i-init : goal.loop-i-init

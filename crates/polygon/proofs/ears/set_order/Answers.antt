@@ -1,13 +1,10 @@
 use mathlib.Core.List.{List}
-use mathlib.Core.Path.{◌≡◌, refl, sym, ap, ◌∙◌}
-use Prim.Native.Nat.{ℕ, ◌-◌, ◌≤◌}
+use mathlib.Core.Path.{refl, sym, ap, ◌∙◌}
+use Prim.Native.Nat.{ℕ}
 use native.Mathlib.Nat.{sub-zero}
 use native.Mathlib.Omega.{arith}
-use lib.ListN.{length, take}
-use lib.Seq.{sets}
-use borrow.Author.Rules.{rules}
-use Rattle.polygon.specs.Ears.{place, order}
-use Rattle.lists.specs.Loops.{tab}
+use lib.ListN.{take}
+use Rattle.polygon.specs.Ears.{order}
 use Rattle.polygon.proofs.Count.{length_order}
 use Rattle.lists.proofs.Loops.{tab_go, tab_end}
 use Rattle.lists.proofs.Stores.{take_sets}

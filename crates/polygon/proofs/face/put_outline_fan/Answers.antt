@@ -1,11 +1,6 @@
-use mathlib.Core.Path.{◌≡◌, refl, sym, ◌∙◌}
-use Prim.Native.Nat.{◌-◌, ◌≤◌}
+use mathlib.Core.Path.{refl, sym, ◌∙◌}
 use native.Mathlib.Omega.{arith}
-use lib.ListN.{length}
-use lib.Seq.{sets}
-use borrow.Author.Rules.{rules}
-use Rattle.polygon.specs.Ears.{fan, outline, flat}
-use Rattle.polygon.proofs.Triangles.{Rest, outline_start, outline_go, outline_end}
+use Rattle.polygon.proofs.Triangles.{outline_start, outline_go, outline_end}
 use Rattle.polygon.proofs.face.put_outline_fan.Goals as goal
 
 pub loop-t-init : goal.loop-t-init

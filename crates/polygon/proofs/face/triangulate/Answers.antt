@@ -3,7 +3,6 @@ use Prim.Native.Nat.{◌*◌}
 use native.Mathlib.Omega.{arith}
 use lib.ListN.{take}
 use lib.Seq.{length-take-le}
-use borrow.Author.Rules.{rules}
 use Rattle.lists.proofs.Stores.{tail_sets}
 use Rattle.polygon.specs.Ears.{flat}
 use Rattle.polygon.specs.Face.{face_tris}

@@ -1,4 +1,3 @@
-use borrow.Author.Rules.{rules}
 use Rattle.polygon.specs.Ears.{point_in_tri}
 use Rattle.polygon.proofs.memo.in_tri.Goals as goal
 

@@ -1,5 +1,4 @@
 use native.Mathlib.Omega.{arith}
-use borrow.Author.Rules.{rules}
 use Rattle.polygon.specs.Plane.{axis_of}
 use Rattle.polygon.proofs.plane.axis_of.Goals as goal
 

@@ -1,4 +1,3 @@
-use borrow.Author.Rules.{rules}
 use Rattle.polygon.specs.Plane.{projection, flip_of}
 use Rattle.polygon.proofs.plane.project.Goals as goal
 

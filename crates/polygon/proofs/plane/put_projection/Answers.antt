@@ -1,11 +1,6 @@
-use mathlib.Core.List.{map}
-use mathlib.Core.Path.{◌≡◌, refl, sym, ◌∙◌}
-use Prim.Native.Nat.{◌≤◌, ◌-◌, ◌*◌}
-use lib.ListN.{length, drop}
-use lib.Seq.{sets}
+use mathlib.Core.Path.{refl, sym, ◌∙◌}
 use borrow.Author.Rules.{rules}
-use Rattle.polygon.specs.Plane.{flat2, projected}
-use Rattle.polygon.specs.Points.{spots}
+use Rattle.polygon.specs.Plane.{projected}
 use Rattle.polygon.proofs.Projection.{projected_go, projected_end}
 use Rattle.polygon.proofs.plane.put_projection.Goals as goal
 
