@@ -26,7 +26,7 @@ pub fn make_lines<'a>(
 ) -> Counts
     requires { Ready (record { block = block.now; coord = coord.now; floats = floats.old }) a w work.old t points
         (record { sources = sources.old; normals = normals.old; colours = colours.old; textures = textures.old }) positions.old indices.old }
-    ensures { Done (record { block = block.old; coord = coord.now; floats = floats.old }) a w work.old t points
+    ensures { Done (record { block = block.now; coord = coord.now; floats = floats.old }) a w work.old t points
         (record { sources = sources.old; normals = normals.old; colours = colours.old; textures = textures.old }) positions.old indices.old
         (record { sources = sources.new; normals = normals.new; colours = colours.new; textures = textures.new }) positions.new indices.new
         work.new floats.new result }
