@@ -25,7 +25,7 @@ pub fn build<'a>(
 ) -> Counts
     requires { Ready (record { block = block.now; coord = coord.now; floats = floats.old }) s t work.old
         (record { sources = sources.old; positions = positions.old; normals = normals.old; colours = colours.old; textures = textures.old; indices = indices.old }) }
-    ensures { Built (record { block = block.old; coord = coord.now; floats = floats.old }) s t work.old
+    ensures { Built (record { block = block.now; coord = coord.now; floats = floats.old }) s t work.old
         (record { sources = sources.old; positions = positions.old; normals = normals.old; colours = colours.old; textures = textures.old; indices = indices.old })
         (record { sources = sources.new; positions = positions.new; normals = normals.new; colours = colours.new; textures = textures.new; indices = indices.new })
         work.new floats.new result }

@@ -66,7 +66,7 @@ fn normal_of<'a>(
     c: CornerNumber,
 ) -> Words3
     requires { Laid t (length work.now) × (c.0 < t.count) × (3 * t.count ≤ length floats.now) }
-    ensures { result ≡ normal_at (record { block = block.old; coord = coord.now; floats = floats.now }) a work.now t c.0 }
+    ensures { result ≡ normal_at (record { block = block.now; coord = coord.now; floats = floats.now }) a work.now t c.0 }
 {
     if a.supplied {
         let place = place_of(work, t, c);
@@ -86,7 +86,7 @@ fn colour_of<'a>(
     c: CornerNumber,
 ) -> Words4
     requires { Laid t (length work.now) × (c.0 < t.count) }
-    ensures { result ≡ colour_at (record { block = block.old; coord = coord.now; floats = [] }) a work.now t c.0 }
+    ensures { result ≡ colour_at (record { block = block.now; coord = coord.now; floats = [] }) a work.now t c.0 }
 {
     let place = place_of(work, t, c);
     let face = number_of(work, t, c);
@@ -103,7 +103,7 @@ pub fn key_of<'a>(
     c: CornerNumber,
 ) -> [u32; 9]
     requires { Laid t (length work.now) × (c.0 < t.count) × (3 * t.count ≤ length floats.now) }
-    ensures { result ≡ words_at (record { block = block.old; coord = coord.now; floats = floats.now }) a work.now t c.0 }
+    ensures { result ≡ words_at (record { block = block.now; coord = coord.now; floats = floats.now }) a work.now t c.0 }
 {
     let n = normal_of(block, coord, a, floats, work, t, c);
     let k = colour_of(block, coord, a, work, t, c);

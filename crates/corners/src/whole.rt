@@ -66,7 +66,7 @@ pub fn all_vertices<'a>(
 ) -> VertexNumber
     requires { Ready (record { block = block.now; coord = coord.now; floats = floats.now }) w work.old t
         (record { sources = sources.old; normals = normals.old; colours = colours.old; textures = textures.old }) positions.old }
-    ensures { Cornered (record { block = block.old; coord = coord.now; floats = floats.now }) a w t
+    ensures { Cornered (record { block = block.now; coord = coord.now; floats = floats.now }) a w t
         (record { sources = sources.old; normals = normals.old; colours = colours.old; textures = textures.old }) positions.old work.old
         (record { sources = sources.new; normals = normals.new; colours = colours.new; textures = textures.new }) positions.new work.new result.0 }
 {

@@ -60,7 +60,7 @@ fn put_header(block: &mut [u8], first: u32, points: u32, entries: u32) {
 
 // Where a list begins, in a block that has its header; none begins past the end.
 fn start_of(block: &[u8], list: usize) -> usize
-    ensures { result ≤ length block.old }
+    ensures { result ≤ length block.now }
 {
     let p = list_place(read_header(block), list);
     if p.at < block.len() {

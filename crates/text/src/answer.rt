@@ -70,7 +70,7 @@ pub fn put_mesh(
 ) -> usize
     requires { (head.vertices < 2 ^ 32) × (head.indices < 2 ^ 32) }
     ensures { Printed out.old
-        (mesh_text head parts (record { sources = sources.old; positions = positions.now; normals = normals.now; colours = colours.now; textures = textures.now; indices = indices.now }))
+        (mesh_text head parts (record { sources = sources.now; positions = positions.now; normals = normals.now; colours = colours.now; textures = textures.now; indices = indices.now }))
         out.new result }
 {
     let mut p = put_head(out, 0, head);

@@ -49,7 +49,7 @@ pub fn same_vertex(
 ) -> bool
     requires { Roomy w (record { sources = sources.now; normals = normals.now; colours = colours.now; textures = textures.now }) (i.0 + 1) × (9 ≤ length key.now) }
     ensures { result ≡ same_key (corner_key w v.0 key.now)
-        (key_at w (record { sources = sources.old; normals = normals.now; colours = colours.now; textures = textures.now }) i.0) }
+        (key_at w (record { sources = sources.now; normals = normals.now; colours = colours.now; textures = textures.now }) i.0) }
 {
     let k = i.0;
     if v.0 != wide(sources[k]) {
@@ -83,7 +83,7 @@ pub fn find(
         × (9 ≤ length key.now) × Laid t (length work.now) n.0
         × Chained t (bucket_at w t (record { sources = sources.now; normals = normals.now; colours = colours.now; textures = textures.now })) work.now n.0
         × (bucket.0 ≡ bucket_of t.buckets (corner_key w v.0 key.now)) × (bucket.0 < t.buckets) }
-    ensures { result ≡ place_of w (record { sources = sources.old; normals = normals.now; colours = colours.now; textures = textures.now }) n.0
+    ensures { result ≡ place_of w (record { sources = sources.now; normals = normals.now; colours = colours.now; textures = textures.now }) n.0
         (corner_key w v.0 key.now) }
 {
     let mut x = known_by(work[t.heads + bucket.0]);

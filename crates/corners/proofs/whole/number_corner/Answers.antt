@@ -28,7 +28,7 @@ pub returns : goal.returns
 returns c =
     record {
       number = c.vertex-r.result.0;
-      table = c.vertex-r.new.1.1.1.1.1.0;
+      table = c.vertex-r.new.work;
       vertexed = rw c.point_of-point.ensures at c.vertex-r.ensures;
       written = rw c.narrow.ensures;
       count = c.count_after.ensures;

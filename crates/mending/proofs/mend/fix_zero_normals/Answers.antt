@@ -16,7 +16,7 @@ mend_one-r-requires c =
 
 pub loop-v-preserved : goal.loop-v-preserved
 loop-v-preserved c =
-    (mending_go _ _ _ _ _ _ _ _ _ c.loop-v-test.true c.words_at-w.ensures c.mend_one-r.ensures.0 c.put_words.auto.0 c.put_words.ensures c.loop-v.invariant.0, search rules, c.mend_one-r.ensures.1)
+    (mending_go _ _ _ _ _ _ _ _ _ c.loop-v-test.true c.words_at-w.ensures c.mend_one-r.ensures.0 c.put_words.auto.out c.put_words.ensures c.loop-v.invariant.0, search rules, c.mend_one-r.ensures.1)
 
 pub shape_of-normals : goal.shape_of-normals
 shape_of-normals c = c.loop-v.invariant.0.long

@@ -47,7 +47,7 @@ load_unit-requires c =
 
 pub put3-requires-in-loop-g : goal.put3-requires-in-loop-g
 put3-requires-in-loop-g c =
-    let R = c.requires.0 in let M = c.loop-g.invariant.1.room in omega (arith, c.loop-g-test.true, c.put3.auto.0)
+    let R = c.requires.0 in let M = c.loop-g.invariant.1.room in omega (arith, c.loop-g-test.true, c.put3.auto.part)
 
 pub overflow_add-g : goal.overflow_add-g
 overflow_add-g c =
@@ -59,7 +59,7 @@ loop-g-smaller c = omega (arith, c.loop-g-test.true)
 pub loop-g-preserved : goal.loop-g-preserved
 unfolding normal_in unit_in
 loop-g-preserved c =
-    let q = mirror_next c.loop-g.floats _ _ _ _ _ c.loop-g.invariant.1 refl c.loop-g-test.true c.load.ensures c.load_unit.ensures (c.or_else.ensures ∙ ap (or_else _) c.loop-g.invariant.2) c.put3.ensures c.put3-in-loop-g.ensures in (omega (arith, c.loop-g-test.true), q, c.loop-g.invariant.2, c.put3-in-loop-g.auto.0 ∙ c.put3.auto.0 ∙ c.loop-g.invariant.3)
+    let q = mirror_next c.loop-g.floats _ _ _ _ _ c.loop-g.invariant.1 refl c.loop-g-test.true c.load.ensures c.load_unit.ensures (c.or_else.ensures ∙ ap (or_else _) c.loop-g.invariant.2) c.put3.ensures c.put3-in-loop-g.ensures in (omega (arith, c.loop-g-test.true), q, c.loop-g.invariant.2, c.put3-in-loop-g.auto.part ∙ c.put3.auto.part ∙ c.loop-g.invariant.3)
 
 pub shape_of-floats : goal.shape_of-floats
 shape_of-floats c = c.loop-g.invariant.3
