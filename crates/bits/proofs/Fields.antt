@@ -1,11 +1,11 @@
 -- Laws of fields: the bound, a field in two parts, a byte is a field of 8 bits, a word by its bytes. Assumes nothing.
 use Prim.Native.Nat.{ℕ, zero, suc, ◌+◌, ◌-◌, ◌*◌, ◌/◌, ◌%◌, ◌^◌, ◌≤◌, ◌<◌}
-use mathlib.Core.Path.{◌≡◌, refl, ap, sym, ◌∙◌}
+use mathlib.Core.Path.{◌≡◌}
 use mathlib.Core.List.{List}
-use native.Mathlib.Nat.{add-zero, add-suc, pow-suc, mul-one, mul_assoc, add_assoc, mul_comm}
+use native.Mathlib.Nat.{add-zero, add-suc, pow-suc, mul-one, mul_assoc, add_assoc}
 use native.Mathlib.Omega.{arith}
 use native.Mathlib.Numerals.{add-one}
-use lib.Dec.{T, lit<, lit≤}
+use lib.Dec.{lit≤}
 use lib.Pow.{pow_mono, shr-shr}
 use lib.ListN.{get_or}
 use Rattle.bits.specs.Bits.{bit_at, field, word_at}

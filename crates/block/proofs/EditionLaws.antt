@@ -9,7 +9,6 @@ use Rattle.bits.specs.Bits.{field}
 use Rattle.bits.proofs.Fields.{field_lt}
 use Rattle.block.specs.Edition.{edition1, edition_of, limit_of, edition_in, counts_at, zeros_at}
 use Rattle.block.specs.Header.{Narrow, counts_of, header_of}
-use Rattle.block.specs.declared.edition.Edition.{Edition}
 
 module _ (n : ℕ) where
   pub narrow : Narrow (edition_of n)

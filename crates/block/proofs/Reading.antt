@@ -1,10 +1,10 @@
 -- Blocks that agree in the bits ahead of the lists have the same header and the same twelve words.
-use Prim.Native.Nat.{ℕ, suc, ◌+◌, ◌*◌, ◌≤◌, ◌<◌}
-use mathlib.Core.Path.{◌≡◌, refl, ap, ◌∙◌}
+use Prim.Native.Nat.{ℕ, ◌+◌, ◌*◌, ◌≤◌, ◌<◌}
+use mathlib.Core.Path.{◌≡◌, ap, ◌∙◌}
 use mathlib.Core.List.{List, [], ◌∷◌}
 use native.Mathlib.Omega.{arith}
 use lib.Dec.{lit<, eqb}
-use lib.Ieee.{Float, binary32, of_bits}
+use lib.Ieee.{binary32, of_bits}
 use Rattle.bits.specs.Bits.{field}
 use Rattle.math.specs.Vector.{zero_f, one_f}
 use Rattle.block.specs.declared.edition.Edition.{Edition}

@@ -6,7 +6,7 @@ use lib.Ieee.{Float, binary32, of_bits, le}
 use lib.ListN.{replicate}
 use Rattle.bits.specs.Bits.{field, bytes_of}
 use Rattle.math.specs.Vector.{zero_f, one_f}
-use Rattle.block.specs.Edition.{edition1, edition_of, edition_in}
+use Rattle.block.specs.Edition.{edition1, edition_of}
 use Rattle.block.specs.Crease.{crease_of}
 use Rattle.block.specs.Settings.{pair_or, finite_transform, transform_of, settings_of}
 use Rattle.block.specs.declared.crease.CreaseRule.TheVariants.{Own}

@@ -1,7 +1,7 @@
 -- The table of refusals: which number the conditions give, what a block has that is not refused, and how the table goes on. Assumes nothing.
 use Prim.Native.Nat.{ℕ, suc, ◌*◌, ◌≤◌, ◌<◌}
 use mathlib.Core.Path.{◌≡◌, refl, ap, sym, ◌∙◌, subst}
-use mathlib.Core.Bool.{Bool, true, false, not, ◌&&◌, cond, true≢false}
+use mathlib.Core.Bool.{Bool, true, false, not, cond}
 use mathlib.Core.List.{List, [], ◌∷◌, ◌++◌}
 use native.Mathlib.Omega.{arith}
 use lib.Dec.{T, ltb, eqb}
@@ -54,8 +54,8 @@ number_one_to_one a b e = sym (answer_of_number a) ∙ ap answer_of e ∙ answer
 -- what the first three rows leave
 pub record Known (bs : List ℕ) (h : Header) : Type 0 where
   pub whole : header_bytes edition1 ≤ length bs
-  pub edition_is_lem : is_known h.edition ≡ true
-  pub zeros_are_lem : h.zeros ≡ 0
+  pub edition_is : is_known h.edition ≡ true
+  pub zeros_are : h.zeros ≡ 0
 
 module _ (bs : List ℕ) (h : Header) where
   pub row_stub : length bs < header_bytes edition1 → 1 ≡ first_of (block_rows bs h)
@@ -75,7 +75,7 @@ module _ (bs : List ℕ) (h : Header) where
     -- the rows from 4 on decide
     rest : first_of (block_rows bs h) ≡ first_of (row ListLimit (is_over_limit h) ∷ row Length (is_other_length bs h) ∷ row Attributes (is_other_attributes h) ∷ [])
     unfolding block_rows first_of
-    rest = rw (le-ltb _ (header_bytes edition1) k.whole, k.edition_is_lem, eq-eqb _ 0 k.zeros_are_lem)
+    rest = rw (le-ltb _ (header_bytes edition1) k.whole, k.edition_is, eq-eqb _ 0 k.zeros_are)
 
     pub row_limit : not (all_below (suc (limit_of h.edition)) h.counts) ≡ true → 4 ≡ first_of (block_rows bs h)
     unfolding first_of
@@ -131,16 +131,16 @@ taken_of bs h e =
     let a = none_of (block_rows bs h) (block_answered bs h) e in
     record {
       whole = ltb-false (length bs) (header_bytes edition1) a.0;
-      edition_is_lem = not-false _ a.1.0;
-      zeros_are_lem = eqb-true _ _ (not-false _ a.1.1.0);
-      counts-are = λ k. counts_within (limit_of h.edition) h.counts (not-false _ a.1.1.1.0) k;
-      length-is = eqb-true _ _ (not-false _ a.1.1.1.1.0);
-      attributes-are = a.1.1.1.1.1.0;
+      edition_is = not-false _ a.1.0;
+      zeros_are = eqb-true _ _ (not-false _ a.1.1.0);
+      counts_are = λ k. counts_within (limit_of h.edition) h.counts (not-false _ a.1.1.1.0) k;
+      length_is = eqb-true _ _ (not-false _ a.1.1.1.1.0);
+      attributes_are = a.1.1.1.1.1.0;
     }
 
 -- no count of a block that is not refused is above the highest limit
 pub count_low : {bs : List ℕ} {h : Header} → Taken bs h → (k : ℕ) → get_or h.counts k 0 ≤ 131072
-count_low {bs} {h} T k = omega (arith, T.counts_are_lem k, limit_low h.edition)
+count_low {bs} {h} T k = omega (arith, T.counts_are k, limit_low h.edition)
 
 -- ---- FORMAT 3, 9: the attributes of a triangle, fan, strip or quad set that is not refused
 pub record ByPoint (h : Header) : Type 0 where

@@ -4,8 +4,7 @@ use mathlib.Core.Path.{◌≡◌, refl}
 use mathlib.Core.List.{List, [], ◌∷◌, ◌++◌}
 use lib.ListN.{take, set, replicate}
 use Rattle.bits.specs.Bits.{field, bytes_of}
-use Rattle.block.specs.Edition.{edition1, edition_of, edition_in, counts_at, zeros_at, header_bytes, words_ahead}
-use Rattle.block.specs.Kind.{kind_of}
+use Rattle.block.specs.Edition.{edition1, edition_of}
 use Rattle.block.specs.Header.{header_of, counts_of}
 use Rattle.block.specs.Extents.{widths, words_in, word_count}
 use Rattle.block.specs.Runs.{all_below}

@@ -70,8 +70,8 @@ first_of (r ∷ rs) = cond r.holds (number_of r.answer) (first_of rs)
 -- what is known of a block where none of these holds
 pub record Taken (bs : List ℕ) (h : Header) : Type 0 where
   pub whole : header_bytes edition1 ≤ length bs
-  pub edition_is_lem : is_known h.edition ≡ true
-  pub zeros_are_lem : h.zeros ≡ 0
-  pub counts_are_lem : (k : ℕ) → get_or h.counts k 0 ≤ limit_of h.edition
-  pub length_is_lem : length bs ≡ 4 * word_count h
-  pub attributes_are_lem : is_other_attributes h ≡ false
+  pub edition_is : is_known h.edition ≡ true
+  pub zeros_are : h.zeros ≡ 0
+  pub counts_are : (k : ℕ) → get_or h.counts k 0 ≤ limit_of h.edition
+  pub length_is : length bs ≡ 4 * word_count h
+  pub attributes_are : is_other_attributes h ≡ false

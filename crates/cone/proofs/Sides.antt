@@ -134,7 +134,7 @@ module _ (ps : List Float) (r h : Float) (n : ℕ) (side bottom : Bool) {m : Con
   all_low = omega (arith, ap (λ (z : PartSizes). z.vertices) all_is, rw bottom_is at small_a.vertices, (where_small 8192 bottom (cap_sizes n) (cap_small n low)).vertices)
 
   pub lower_numbered : Numbered (cap_of m.bottom)
-  lower_numbered = record { few = low; first-low = omega (arith, small_a.vertices); pair-low = omega (arith, small_a.pairs) }
+  lower_numbered = record { few = low; first_low = omega (arith, small_a.vertices); pair_low = omega (arith, small_a.pairs) }
 
   module _ {c : GeomCtx} {s : Streams} {i : List ℕ} (R : Roomy c (cone_part ps r h n side bottom) 0 0 s i) where
     pub one_room : Roomy c S 0 0 s i

@@ -116,7 +116,7 @@ module _ (ps : List Float) (r h : Float) (n : ℕ) where
     small_a = rw ez (where_small 8192 side (side_sizes n) (side_small n low))
 
     pub upper_numbered : Numbered (cap_of h true z)
-    upper_numbered = record { few = low; first-low = omega (arith, small_a.vertices); pair-low = omega (arith, small_a.pairs) }
+    upper_numbered = record { few = low; first_low = omega (arith, small_a.vertices); pair_low = omega (arith, small_a.pairs) }
 
     module _ {c : GeomCtx} {s : Streams} {i : List ℕ} (R : Roomy c (followed (S side) (U top)) 0 0 s i) where
       pub one_room : Roomy c (S side) 0 0 s i
@@ -158,7 +158,7 @@ module _ (ps : List Float) (r h : Float) (n : ℕ) where
     all_low = omega (arith, ap (λ (z : PartSizes). z.vertices) all_is, rw bottom_is at small_b.vertices, (where_small 8192 bottom (cap_sizes n) (cap_small n low)).vertices)
 
     pub lower_numbered : Numbered (cap_of (neg h) false m.bottom)
-    lower_numbered = record { few = low; first-low = omega (arith, small_b.vertices); pair-low = omega (arith, small_b.pairs) }
+    lower_numbered = record { few = low; first_low = omega (arith, small_b.vertices); pair_low = omega (arith, small_b.pairs) }
 
     module _ {c : GeomCtx} {s : Streams} {i : List ℕ} (R : Roomy c (cylinder_part ps r h n side top bottom) 0 0 s i) where
       pub two_room : Roomy c (followed (S side) (U top)) 0 0 s i

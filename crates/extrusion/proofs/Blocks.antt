@@ -115,4 +115,4 @@ unfolding is_no_shape
 given_of {bs} {h} T e k s =
     let q : is_no_extrusion h ≡ false = rw k at s in
     let r = or_none (ltb (spine_count h) 2) (ltb (section_count h) 2) q in
-    record { head = e; kind = k; whole = T.length_is_lem; spine = ltb-false _ _ r.0; section = ltb-false _ _ r.1 }
+    record { head = e; kind = k; whole = T.length_is; spine = ltb-false _ _ r.0; section = ltb-false _ _ r.1 }

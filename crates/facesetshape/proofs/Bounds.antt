@@ -62,7 +62,7 @@ module _ {k : Kind} {bs : List ℕ} {h : Header} {s : Settings} {o : Slices} {w 
 
 -- FORMAT 3: no list has more entries than the limit
 pub coord_few : {k : Kind} {bs : List ℕ} {h : Header} {s : Settings} {o : Slices} {w f : ℕ} → Asked k bs h s o w f → widths h ≡ set_widths h.alpha → length (list_bytes bs h 1) / 4 ≤ most
-coord_few {k} {bs} {h} A v = omega (arith, list_length bs h 1 A.accepted.taken.length_is_lem, size_by h (set_widths h.alpha) 1 v, count_low A.accepted.taken 1)
+coord_few {k} {bs} {h} A v = omega (arith, list_length bs h 1 A.accepted.taken.length_is, size_by h (set_widths h.alpha) 1 v, count_low A.accepted.taken 1)
 
 -- ---- a face set
 

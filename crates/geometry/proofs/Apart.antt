@@ -74,10 +74,10 @@ module _ (h : Header) where
           corners = shown_at_lem S s ∙ ap (map (where_made h)) (O.others j l ne).corners ∙ sym (shown_at_lem T t);
           normals = λ n. normals_made face-set S s ∙ (O.others j l ne).normals n ∙ sym (normals_made face-set T t);
         };
-    parts-b = O.parts_b_lem;
-    parts-c = O.parts_c_lem;
+    parts_b = O.parts_b;
+    parts_c = O.parts_c;
     within_b = O.within_b;
-    within-c = O.within_c_lem;
+    within_c = O.within_c;
   }
 
 -- FORMAT 13: b is a face set and c is equal to it but inside run r; x and y are any two calls on them, under one `Call`, that were not refused

@@ -61,7 +61,7 @@ module _ {bs : List ℕ} {h : Header} {s : Settings} {o : Slices} {w f : ℕ} (A
   corners_low = (low_by A sizes_are).1
 
   pub heights : x_dimension h * z_dimension h ≤ length (entries (list_bytes bs h 3))
-  heights = heights_in bs h A.kind A.accepted.taken.length_is_lem (x_dimension h * z_dimension h) shape.2
+  heights = heights_in bs h A.kind A.accepted.taken.length_is (x_dimension h * z_dimension h) shape.2
 
   module _ {t : Plan} (e : t ≡ grid_plan h) where
     pub counted : Counted (grid_sizes h) (quad_count h) 0 t

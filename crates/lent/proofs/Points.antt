@@ -18,9 +18,9 @@ module _ {bs : List ℕ} {h : Header} {s : Settings} (A : Accepted bs h s) (v : 
   points_size = size_by h (set_widths h.alpha) 0 v
 
   pub points_in_lem : 3 * point_count h ≤ length (list_bytes bs h 0) / 4
-  points_in_lem = omega (arith, list_length bs h 0 A.taken.length_is_lem, points_size)
+  points_in_lem = omega (arith, list_length bs h 0 A.taken.length_is, points_size)
 
   pub points_all : take (3 * point_count h) (entries (list_bytes bs h 0)) ≡ entries (list_bytes bs h 0)
   points_all =
-      let n : length (entries (list_bytes bs h 0)) ≡ 3 * point_count h = list_entries bs h 0 A.taken.length_is_lem ∙ points_size in
+      let n : length (entries (list_bytes bs h 0)) ≡ 3 * point_count h = list_entries bs h 0 A.taken.length_is ∙ points_size in
       take_all (3 * point_count h) (entries (list_bytes bs h 0)) (omega (arith, n))

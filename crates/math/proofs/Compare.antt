@@ -1,11 +1,11 @@
 -- The tests of `is_nan` and `is_zero`, the absolute value, and how `choose` finds the minimum and the maximum.
 use mathlib.Core.Path.{◌≡◌, refl, sym, ap, ◌∙◌}
 use mathlib.Core.Bool.{Bool, true, false, not, ◌&&◌, ◌||◌, beq, cond, true≢false}
-use Prim.Native.Nat.{ℕ, zero, suc, ◌+◌, ◌*◌}
+use Prim.Native.Nat.{ℕ, zero, suc, ◌*◌}
 use native.Mathlib.Nat.{zero-mul}
 use native.Mathlib.Omega.{arith}
 use borrow.Author.Tests.{eq-eqb, ne_eqb}
-use lib.Dec.{T, eqb, ltb, eqb-suc-zero}
+use lib.Dec.{T, eqb, eqb-suc-zero}
 use lib.IntN.{pos}
 use lib.Ieee.{Float, nan, inf, fin, binary32, up, down, lt, eq, ne, neg, div, fits, of_bits, is_nan}
 use lib.Ieee.Back.{whole_unique}

@@ -6,14 +6,14 @@ use Prim.Native.Nat.{ℕ, zero, suc, ◌+◌, ◌-◌, ◌*◌, ◌/◌, ◌%◌
 use native.Mathlib.Nat.{zero-mul, mul-pos, zero-lt-suc, mul_right_comm, mul-lt-mul_of_pos_right, div-lt_iff_lt-mul, le-div_iff_mul-le, one-mul, le_trans, mul-le-mul_right, eq-zero-or-pos, div-one}
 use native.Mathlib.Omega.{arith}
 use borrow.Author.Tests.{ltb-true, ltb-false, le-ltb}
-use lib.Dec.{T, leb, ltb, eqb, ltb→lt, leb→le}
+use lib.Dec.{T, leb, ltb, eqb, ltb→lt}
 use lib.IntN.{ℤ}
 use lib.Pow.{pow_pos}
 use lib.Ieee.{Float, nan, inf, fin, binary32, up, down, size, fits, lt, div, of_bits, to_bits, is_nan, nan_bits}
 use lib.Ieee.Bits.{nan_bits_above}
 use lib.Ieee.Positive.{positive}
 use lib.Ieee.Digits.{size-le}
-use lib.Ieee.Fits.{up_pos, down_pos, kept-lt, and_l, and_r}
+use lib.Ieee.Fits.{up_pos, down_pos, kept-lt, and_r}
 use Rattle.math.specs.SquareRoot.{root_of, root_bits}
 use Rattle.math.specs.Vector.{zero_f}
 use Rattle.math.specs.Digit.{Plain, plain}

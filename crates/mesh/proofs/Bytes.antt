@@ -138,9 +138,9 @@ module _ (b c : List ℕ) (r : ℕ) (h : OneRun b c r) where
   unfolding s n a len coord_in runs_in
   within_b = run_within (entries (coord_in b)) r h.in_b
 
-  within_c_lem : s + n ≤ length (entries (take len (drop a c)))
+  within_c : s + n ≤ length (entries (take len (drop a c)))
   unfolding s n runs_in
-  within_c_lem =
+  within_c =
       let w = run_within (entries (coord_in c)) r h.in_c in
       let p : s ≡ (run_in c r).start = h.place in
       let q : n ≡ length (run_in c r).items = h.long in
@@ -157,12 +157,12 @@ module _ (b c : List ℕ) (r : ℕ) (h : OneRun b c r) where
   pub coords : OneRunOf (entries (coord_in b)) (entries (coord_in c)) r
   unfolding a len s n coord_in runs_in
   coords = record {
-    in-l = h.in_b;
-    in-m = h.in_c;
+    in_l = h.in_b;
+    in_m = h.in_c;
     place = h.place;
     long = h.long;
-    fore = entries_fore b c a len s n fore_same aft_same within_b within_c_lem ∙ ap (λ (l : List ℕ). take s (entries l)) (sym coord_c);
-    aft = entries_aft b c a len s n fore_same aft_same within_b within_c_lem ∙ ap (λ (l : List ℕ). drop (s + n) (entries l)) (sym coord_c);
+    fore = entries_fore b c a len s n fore_same aft_same within_b within_c ∙ ap (λ (l : List ℕ). take s (entries l)) (sym coord_c);
+    aft = entries_aft b c a len s n fore_same aft_same within_b within_c ∙ ap (λ (l : List ℕ). drop (s + n) (entries l)) (sym coord_c);
   }
 
   -- the lists before and after it
@@ -178,7 +178,7 @@ module _ (b c : List ℕ) (r : ℕ) (h : OneRun b c r) where
   list_same k =
       let H : Header = header_of b in
       let l = later H k in
-      let z = size_len b c a len s n fore_same aft_same within_b within_c_lem in
+      let z = size_len b c a len s n fore_same aft_same within_b within_c in
       ap (take (place_of H (suc (suc k))).len) (back (a + 4 * (s + n)) (place_of H (suc (suc k))).at b c (omega arith) aft_same)
       ∙ ap (λ (g : Header). list_bytes c g (suc (suc k))) heads
 

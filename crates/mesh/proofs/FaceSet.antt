@@ -97,9 +97,9 @@ module _ (missing : Words4) (R : Rest) (x : List ℕ) where
   face_past j b = get_or-eq_default (faces_of missing R x) [] {n = j} (omega (arith, length_faces))
 
   -- a face has the corners of its run, and three indices for each of its triangles
-  length_is_lem : (num : ℕ) (r : Run) → length (face_of missing R x num r) ≡ corners (point_count R.head) r.items
+  length_is : (num : ℕ) (r : Run) → length (face_of missing R x num r) ≡ corners (point_count R.head) r.items
   unfolding face_of corners
-  length_is_lem num r = go (kept (point_count R.head) r.items)
+  length_is num r = go (kept (point_count R.head) r.items)
     where
       go : (b : Bool) → length (cond b (map_n (corner_of missing R x num) r.start r.items) []) ≡ cond b (length r.items) 0
       go true = length_map_n (corner_of missing R x num) r.start r.items
@@ -107,7 +107,7 @@ module _ (missing : Words4) (R : Rest) (x : List ℕ) where
 
   pub width_is : (num : ℕ) (r : Run) → width (face_of missing R x num r) ≡ 3 * triangles (point_count R.head) r.items
   unfolding width corners triangles
-  width_is num r = ap (λ (n : ℕ). 3 * (n - 2)) (length_is_lem num r) ∙ go (kept (point_count R.head) r.items)
+  width_is num r = ap (λ (n : ℕ). 3 * (n - 2)) (length_is num r) ∙ go (kept (point_count R.head) r.items)
     where
       go : (b : Bool) → 3 * (cond b (length r.items) 0 - 2) ≡ 3 * cond b (length r.items - 2) 0
       go true = refl
@@ -117,7 +117,7 @@ module _ (missing : Words4) (R : Rest) (x : List ℕ) where
   pub lengths_are : (n : ℕ) (rs : List Run) → total length (map_n (face_of missing R x) n rs) ≡ sum_over (corners (point_count R.head)) rs
   unfolding total sum_over map_n
   lengths_are n [] = refl
-  lengths_are n (r ∷ rs) = λ i. length_is_lem n r i + lengths_are (suc n) rs i
+  lengths_are n (r ∷ rs) = λ i. length_is n r i + lengths_are (suc n) rs i
 
   pub widths_are : (n : ℕ) (rs : List Run) → total width (map_n (face_of missing R x) n rs) ≡ 3 * sum_over (triangles (point_count R.head)) rs
   unfolding total sum_over map_n

@@ -186,8 +186,8 @@ pub one_run : (missing : Words4) (b c : List ℕ) (r : ℕ) → OneRun b c r →
 one_run missing b c r h = record {
   numbers = numbers_same missing b c r h;
   others = same_triangles missing b c r h;
-  parts-b = parts missing b;
-  parts-c = parts missing c;
+  parts_b = parts missing b;
+  parts_c = parts missing c;
   within_b = indices_made missing b;
-  within-c = indices_made missing c;
+  within_c = indices_made missing c;
 }

@@ -72,7 +72,7 @@ pub record Parts (bs indices : List ℕ) : Type 0 where
 pub record OthersStay (missing : Words4) (b c : List ℕ) (S T : Slices) (r : ℕ) : Type 0 where
   pub numbers : length (runs_in b) ≡ length (runs_in c)
   pub others : (j : ℕ) → j < length (runs_in b) → j ≢ r → SameTriangles missing b c S T r j
-  pub parts_b_lem : Parts b S.indices
-  pub parts_c_lem : Parts c T.indices
+  pub parts_b : Parts b S.indices
+  pub parts_c : Parts c T.indices
   pub within_b : All (λ (v : ℕ). v < length S.sources) S.indices
-  pub within_c_lem : All (λ (v : ℕ). v < length T.sources) T.indices
+  pub within_c : All (λ (v : ℕ). v < length T.sources) T.indices

@@ -94,7 +94,7 @@ module _ (ps : List Float) (there : Bool) (k : Cap) where
         let R' : Roomy c (cap_part ps k) k.first at s i = subst (λ (p : Part). Roomy c p k.first at s i) (there_is e) R in
         let a = cap_verts_length ps k in
         let b = cap_indices_length k in
-        record { numbers = N; room = room_less c (omega arith) R'.streams; room-indices = omega (arith, R'.places) }
+        record { numbers = N; room = room_less c (omega arith) R'.streams; room_indices = omega (arith, R'.places) }
 
     pub cap_written : {s' : Streams} {i' : List ℕ} → there ≡ true → (s' ≡ pushed c k.first (cap_verts ps k) s) × (i' ≡ spliced i at (cap_indices k)) → Written c here k.first at s s' i i'
     unfolding cap_part

@@ -72,11 +72,11 @@ cap_sizes n = record { vertices = n + 1; indices = 3 * n; pairs = n }
 -- what is asked of the numbers of a cap
 pub record Numbered (k : Cap) : Type 0 where
   pub few : k.slices ≤ 1024
-  pub first_low_lem : k.first < 2 ^ 24
-  pub pair_low_lem : k.pair < 2 ^ 24
+  pub first_low : k.first < 2 ^ 24
+  pub pair_low : k.pair < 2 ^ 24
 
 -- and of the slices
 pub record Capped (c : GeomCtx) (k : Cap) (at : ℕ) (s : Streams) (len : ℕ) : Type 0 where
   pub numbers : Numbered k
   pub room : RoomFor c (k.first + 1 + k.slices) s
-  pub room_indices_lem : at + 3 * k.slices ≤ len
+  pub room_indices : at + 3 * k.slices ≤ len

@@ -44,29 +44,29 @@ module _ (c : Crossing) where
       let r =
       seven (not (eq c.det zero_f)) (le zero_f c.u) (le c.u one_f) (le zero_f c.v) (le (add binary32 c.u c.v) one_f) (le zero_f c.t) (le c.t one_f) h in
       record {
-        not-zero = not-true (eq c.det zero_f) r.0;
-        u-from = r.1;
-        u-to = r.2;
-        v-from = r.3;
+        not_zero = not-true (eq c.det zero_f) r.0;
+        u_from = r.1;
+        u_to = r.2;
+        v_from = r.3;
         sum_to = r.4;
         t_from = r.5;
-        t-to = r.6;
+        t_to = r.6;
       }
 
   pub means_hit : Hit c → is_hit c ≡ true
   unfolding is_hit
-  means_hit m = rw (m.not_zero_lem, m.u_from_lem, m.u_to_lem, m.v_from_lem, m.sum_to, m.t_from) m.t_to_lem
+  means_hit m = rw (m.not_zero, m.u_from, m.u_to, m.v_from, m.sum_to, m.t_from) m.t_to
 
   -- ---- what is never hit
 
   pub zero_det : eq c.det zero_f ≡ true → is_hit c ≡ false
-  zero_det e = never (is_hit c) (λ (h : is_hit c ≡ true). true≢false (sym e ∙ (hit_means h).not_zero_lem))
+  zero_det e = never (is_hit c) (λ (h : is_hit c ≡ true). true≢false (sym e ∙ (hit_means h).not_zero))
 
   pub nan_u : c.u ≡ nan → is_hit c ≡ false
-  nan_u e = never (is_hit c) (λ (h : is_hit c ≡ true). true≢false (sym (hit_means h).u_from_lem ∙ ap (le zero_f) e ∙ below_nan))
+  nan_u e = never (is_hit c) (λ (h : is_hit c ≡ true). true≢false (sym (hit_means h).u_from ∙ ap (le zero_f) e ∙ below_nan))
 
   pub nan_v : c.v ≡ nan → is_hit c ≡ false
-  nan_v e = never (is_hit c) (λ (h : is_hit c ≡ true). true≢false (sym (hit_means h).v_from_lem ∙ ap (le zero_f) e ∙ below_nan))
+  nan_v e = never (is_hit c) (λ (h : is_hit c ≡ true). true≢false (sym (hit_means h).v_from ∙ ap (le zero_f) e ∙ below_nan))
 
   pub nan_t : c.t ≡ nan → is_hit c ≡ false
   nan_t e = never (is_hit c) (λ (h : is_hit c ≡ true). true≢false (sym (hit_means h).t_from ∙ ap (le zero_f) e ∙ below_nan))

@@ -40,10 +40,10 @@ hits ray tri = is_hit (crossing_of ray tri)
 
 -- FORMAT 19.2, what it is to be hit: the determinant is not 0, and all places are in range
 pub record Hit (c : Crossing) : Type 0 where
-  pub not_zero_lem : eq c.det zero_f ≡ false
-  pub u_from_lem : le zero_f c.u ≡ true
-  pub u_to_lem : le c.u one_f ≡ true
-  pub v_from_lem : le zero_f c.v ≡ true
+  pub not_zero : eq c.det zero_f ≡ false
+  pub u_from : le zero_f c.u ≡ true
+  pub u_to : le c.u one_f ≡ true
+  pub v_from : le zero_f c.v ≡ true
   pub sum_to : le (add binary32 c.u c.v) one_f ≡ true
   pub t_from : le zero_f c.t ≡ true
-  pub t_to_lem : le c.t one_f ≡ true
+  pub t_to : le c.t one_f ≡ true

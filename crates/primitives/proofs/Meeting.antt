@@ -1,5 +1,5 @@
 -- FORMAT 6.4: a loop over the stretches: the first, one more, and the end. Assumes nothing.
-use Prim.Native.Nat.{ℕ, zero, suc, ◌+◌, ◌-◌, ◌*◌, ◌/◌, ◌≤◌, ◌<◌}
+use Prim.Native.Nat.{ℕ, suc, ◌+◌, ◌-◌, ◌*◌, ◌/◌, ◌≤◌, ◌<◌}
 use mathlib.Core.Path.{◌≡◌, refl, sym, ap, ◌∙◌}
 use mathlib.Core.List.{List, [], ◌∷◌, ◌++◌}
 use native.Mathlib.Omega.{arith}
@@ -12,7 +12,7 @@ use Rattle.bits.specs.Bits.{table, entries}
 use Rattle.bits.proofs.Entries.{entries_length, entries_part}
 use Rattle.block.specs.declared.topology.Topology.{Topology}
 use Rattle.block.specs.declared.topology.Topology.TheVariants.{Triangles, Fans, Strips, Quads}
-use Rattle.block.specs.Runs.{Run, run_of, runs, runs_from, RunPart, next_start}
+use Rattle.block.specs.Runs.{Run, run_of, RunPart, next_start}
 use Rattle.block.proofs.RunLaws.{runs_step, runs_over}
 use Rattle.primitives.specs.Primitives.{stretches, primitive_count}
 use Rattle.primitives.specs.Kept.{kept_by, kept_over}

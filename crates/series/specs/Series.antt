@@ -1,5 +1,5 @@
 -- FORMAT 16.1, 16.3: the series of sine and cosine in whole numbers, and the rule of the table.
-use Rattle.std.specs.Prelude.{Bool, true, false, cond, List, [], ◌∷◌, ℕ, zero, suc, ◌+◌, ◌-◌, ◌*◌, ◌/◌, ◌%◌, ◌^◌, eqb}
+use Rattle.std.specs.Prelude.{cond, List, [], ◌∷◌, ℕ, zero, suc, ◌+◌, ◌-◌, ◌*◌, ◌/◌, ◌%◌, ◌^◌, eqb}
 
 -- n!
 abbrev pub fact : ℕ → ℕ

@@ -1,11 +1,11 @@
 -- Arithmetic of the code. Assumes nothing.
-use mathlib.Core.Path.{◌≡◌, refl, sym, ap, ◌∙◌, subst}
+use mathlib.Core.Path.{◌≡◌, sym, ap, ◌∙◌}
 use mathlib.Core.Logic.{inl, inr}
-use Prim.Native.Nat.{ℕ, zero, suc, ◌+◌, ◌-◌, ◌*◌, ◌/◌, ◌%◌, ◌^◌, ◌≤◌, ◌<◌, zero-le}
-use native.Mathlib.Nat.{add-zero, sub-zero, mul-zero, mul-one, le_refl, le_trans, le_of_eq, mul-le-mul, lt_of_lt_of_le, lt_of_le_of_lt, mul_assoc, mul-pos, add-le-add, mul-lt-mul_of_pos_right, mul-div-mul_right, div-eq_of_lt}
+use Prim.Native.Nat.{ℕ, ◌+◌, ◌-◌, ◌*◌, ◌/◌, ◌^◌, ◌≤◌, ◌<◌, zero-le}
+use native.Mathlib.Nat.{add-zero, sub-zero, mul-zero, mul-one, le_refl, le_trans, mul-le-mul, lt_of_le_of_lt, mul_assoc, mul-div-mul_right, div-eq_of_lt}
 use native.Mathlib.Omega.{arith}
-use lib.Dec.{lit<, lit≤}
-use lib.Pow.{pow-add, pow_pos, pow_mono}
+use lib.Dec.{lit<}
+use lib.Pow.{pow-add, pow_mono}
 use Rattle.series.specs.Series.{half_turn}
 use Rattle.series.specs.Value.{blend, fine}
 use Rattle.math.specs.Digit.{Bit}

@@ -1,23 +1,22 @@
 -- The promise, from what the code works out. Assumes nothing.
-use mathlib.Core.Path.{◌≡◌, refl, sym, ap, ap₂, ◌∙◌, subst}
+use mathlib.Core.Path.{◌≡◌, sym, ap, ◌∙◌, subst}
 use mathlib.Core.Logic.{◌⊎◌, inl, inr}
 use mathlib.Core.List.{List}
 use mathlib.Core.Bool.{Bool, true, false, not, cond}
-use Prim.Native.Nat.{ℕ, zero, suc, ◌+◌, ◌-◌, ◌*◌, ◌/◌, ◌%◌, ◌^◌, ◌≤◌, ◌<◌, min}
-use native.Mathlib.Nat.{le_refl, le_trans, mul-le-mul, add-le-add, mul_comm, div-add-mod, mod-lt}
+use Prim.Native.Nat.{ℕ, suc, ◌+◌, ◌-◌, ◌*◌, ◌/◌, ◌%◌, ◌^◌, ◌≤◌, ◌<◌}
+use native.Mathlib.Nat.{le_refl, mul-le-mul, mul_comm, div-add-mod, mod-lt}
 use native.Mathlib.Omega.{arith}
 use native.Mathlib.Numerals.{add-one}
-use lib.Dec.{T, leb, leb→le, le→leb, lit≤, lit<}
-use lib.Ieee.{Float, binary32, of_bits}
+use lib.Dec.{leb, le→leb, lit<}
+use lib.Ieee.{Float}
 use lib.Ieee.Exact.{HasValue}
 use lib.Arith.{lt→nleb}
 use lib.Ieee.Bits.{is_true, is_false}
-use Rattle.series.specs.Series.{eval, coefs, half_turn, denominator, sin_plus, sin_minus, cos_plus, cos_minus}
+use Rattle.series.specs.Series.{eval, denominator, sin_plus, sin_minus, cos_plus, cos_minus}
 use Rattle.series.specs.Value.{sin_grid, cos_grid, blend, fine}
 use Rattle.lists.proofs.Numbers.{lt_or_le}
-use Rattle.sine.specs.SinCos.{mant, expo}
 use Rattle.sine.proofs.Halves.{Half}
-use Rattle.sine.specs.Angle.{unit, half_units, turn_units, Turned, Reduced, Apart, Within, Near, Accurate}
+use Rattle.sine.specs.Angle.{unit, turn_units, Turned, Apart, Near, Accurate}
 use Rattle.series.proofs.Coefs.{sin_p, sin_m, cos_p, cos_m, sin_z, cos_z, sin_p_is, sin_m_is, cos_p_is, cos_m_is}
 use Rattle.series.proofs.Interval.{Close}
 use Rattle.series.proofs.Core.{Weighed, forward, backward}

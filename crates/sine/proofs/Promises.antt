@@ -2,7 +2,7 @@
 use mathlib.Core.Path.{◌≡◌, refl, sym, ap, ap₂, ◌∙◌, subst}
 use mathlib.Core.Logic.{◌⊎◌, inl, inr}
 use mathlib.Core.Bool.{Bool, true, false, not, cond}
-use Prim.Native.Nat.{ℕ, ◌+◌, ◌-◌, ◌*◌, ◌/◌, ◌%◌, ◌^◌, ◌≤◌, ◌<◌}
+use Prim.Native.Nat.{ℕ, ◌-◌, ◌*◌, ◌/◌, ◌%◌, ◌^◌, ◌≤◌, ◌<◌}
 use native.Mathlib.Omega.{arith}
 use lib.Dec.{T, leb, ltb, le→leb, lt→ltb}
 use lib.Arith.{lt→nleb, le→nltb}
@@ -15,7 +15,7 @@ use Rattle.sine.specs.declared.whole.SinCos.{SinCos}
 use Rattle.sine.specs.Angle.{in_range, Accurate, Promise}
 use Rattle.sine.specs.SinCos.{mant, expo, half_of, parts_of, inside_of, sin_cos_of}
 use Rattle.sine.proofs.Number.{bits_value}
-use Rattle.sine.proofs.Halves.{Half, half_is}
+use Rattle.sine.proofs.Halves.{half_is}
 use Rattle.sine.proofs.Final.{low_side, high_side}
 use Rattle.sine.proofs.Range.{finite_bits, near_bits, far_bits}
 

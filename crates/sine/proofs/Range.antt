@@ -1,25 +1,20 @@
 -- Bit patterns of angles, and which of them are of size at most 1024. Assumes nothing.
-use mathlib.Core.Path.{◌≡◌, refl, sym, ap, ap₂, ◌∙◌, subst}
+use mathlib.Core.Path.{◌≡◌, refl, sym, ap, ◌∙◌, subst}
 use mathlib.Core.Logic.{◌⊎◌, inl, inr}
-use mathlib.Core.Bool.{Bool, true, false, not, cond}
-use Prim.Native.Nat.{ℕ, zero, suc, ◌+◌, ◌-◌, ◌*◌, ◌/◌, ◌%◌, ◌^◌, ◌≤◌, ◌<◌, min}
-use native.Mathlib.Nat.{le_refl, le_trans, le_of_eq, mul-le-mul, lt_of_lt_of_le, lt_of_le_of_lt, mul-lt-mul_of_pos_right, mul_right_comm, le_of_mul-le-mul_right, eq-or-lt_of_le, not-le_of_lt}
+use mathlib.Core.Bool.{Bool, true, false, cond}
+use Prim.Native.Nat.{ℕ, suc, ◌+◌, ◌-◌, ◌*◌, ◌/◌, ◌%◌, ◌^◌, ◌≤◌, ◌<◌, min}
+use native.Mathlib.Nat.{le_refl, le_trans, le_of_eq, mul-le-mul, lt_of_lt_of_le, mul-lt-mul_of_pos_right, mul_right_comm, le_of_mul-le-mul_right, eq-or-lt_of_le, not-le_of_lt}
 use native.Mathlib.Omega.{arith}
-use lib.Dec.{T, leb, ltb, eqb, leb→le, le→leb, lt→ltb, lit<, lit≤, not_T}
-use lib.Arith.{lt→nleb, le→nltb}
+use lib.Dec.{T, leb, eqb, leb→le, le→leb, lit<, lit≤, not_T}
 use lib.IntN.{ℤ, pos, negsuc}
 use lib.Pow.{pow_pos, pow_mono}
-use lib.Ieee.{Float, nan, inf, fin, binary32, up, down, ne, is_nan, of_fields, of_bits, to_bits, fits}
-use lib.Ieee.Bits.{is_true, is_false, of_bits-to_bits}
-use lib.Ieee.Compare.{differs_from_itself}
+use lib.Ieee.{Float, nan, inf, fin, binary32, up, down, of_fields, of_bits}
+use lib.Ieee.Bits.{is_true, is_false}
 use lib.Ieee.Exact.{HasValue}
-use Rattle.series.specs.Value.{fine}
 use Rattle.lists.proofs.Numbers.{lt_or_le}
 use Rattle.sine.specs.SinCos.{mant, expo}
-use Rattle.sine.proofs.Halves.{Half}
-use Rattle.sine.specs.Angle.{unit, in_range, Accurate, Promise}
+use Rattle.sine.specs.Angle.{unit, in_range}
 use Rattle.sine.proofs.Number.{bits_value}
-use Rattle.sine.proofs.Final.{low_side, high_side}
 
 pub finite_bits : (a : ℕ) → a ≤ 1149239296 → a < 2139095040
 finite_bits a h = omega arith

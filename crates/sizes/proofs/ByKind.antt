@@ -108,12 +108,12 @@ module _ {bs : List ℕ} {h : Header} (K : Known bs h) where
       let s : is_no_grid h ≡ false = rw e at K.shape in
       let a = or_none (ltb (x_dimension h) 2) _ s in
       let b = or_none (ltb (z_dimension h) 2) _ a.1 in
-      record { long = ltb-false _ _ a.0; wide = ltb-false _ _ b.0; length-few = count_few 0; width_few = count_few 1 }
+      record { long = ltb-false _ _ a.0; wide = ltb-false _ _ b.0; length_few = count_few 0; width_few = count_few 1 }
 
   pub extrusion_given : h.kind ≡ Extrusion → Given bs h × Sides h
   extrusion_given e =
       let G = given_of K.taken K.header e K.shape in
-      (G, record { long = G.spine; wide = G.section; length-few = count_few 0; width_few = count_few 1 })
+      (G, record { long = G.spine; wide = G.section; length_few = count_few 0; width_few = count_few 1 })
 
 pub cap_few : {bs : List ℕ} {h : Header} → Given bs h → Sides h → (k : ℕ) → k ≡ cap_length (section_of bs h) → k ≤ most
 unfolding section_of

@@ -21,7 +21,7 @@ pub record Known (bs : List ℕ) (h : Header) : Type 0 where
 pub record Sides (h : Header) : Type 0 where
   pub long : 2 ≤ get_or h.counts 0 0
   pub wide : 2 ≤ get_or h.counts 1 0
-  pub length_few_lem : get_or h.counts 0 0 ≤ most
+  pub length_few : get_or h.counts 0 0 ≤ most
   pub width_few : get_or h.counts 1 0 ≤ most
 
 -- FORMAT 6.2, 6.4: how many faces of a face set, and how many primitives, are kept; of a block of any kind, 0 where it has neither

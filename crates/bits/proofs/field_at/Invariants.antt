@@ -1,9 +1,6 @@
 use Prim.Native.Nat.{◌≤◌, ◌-◌}
 use mathlib.Core.Path.{◌≡◌}
-use borrow.Author.Rules.{rules}
-use native.Mathlib.Omega.{arith}
 use Rattle.bits.specs.Bits.{field}
-use Rattle.bits.proofs.Fields.{field_room, field_more}
 use Rattle.bits.proofs.field_at.Given as goal
 
 abbrev pub invariant-loop-k : goal.invariant-loop-k

@@ -1,4 +1,3 @@
-use borrow.Author.Rules.{rules}
 use native.Mathlib.Omega.{arith}
 use Rattle.lists.proofs.Cuts.{part_within, part_cut, part_past}
 use Rattle.bits.proofs.part.Goals as goal

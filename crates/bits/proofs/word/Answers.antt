@@ -1,4 +1,3 @@
-use borrow.Author.Rules.{rules}
 use Rattle.bits.proofs.Fields.{word_is}
 use Rattle.bits.proofs.word.Goals as goal
 

@@ -1,5 +1,4 @@
 use mathlib.Core.Path.{◌∙◌, ap}
-use borrow.Author.Rules.{rules}
 use lib.Ieee.{binary32, to_bits}
 use Rattle.math.specs.SquareRoot.{root_of}
 use Rattle.roots.proofs.sitemesh_root.Goals as goal

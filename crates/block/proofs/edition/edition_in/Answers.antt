@@ -1,5 +1,3 @@
-use Rattle.block.specs.Edition.{edition_in}
-use borrow.Author.Rules.{rules}
 use Rattle.block.proofs.edition.edition_in.Goals as goal
 
 pub returns : goal.returns

@@ -1,6 +1,5 @@
 use mathlib.Core.Path.{refl}
 use Rattle.block.specs.Edition.{edition1, edition_of}
-use borrow.Author.Rules.{rules}
 use Rattle.block.proofs.edition.edition_of.Goals as goal
 
 pub returns : goal.returns

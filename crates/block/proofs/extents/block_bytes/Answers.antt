@@ -1,5 +1,4 @@
 use Rattle.block.proofs.ExtentLaws.{count_is}
-use borrow.Author.Rules.{rules}
 use Rattle.block.proofs.extents.block_bytes.Goals as goal
 
 pub returns : goal.returns

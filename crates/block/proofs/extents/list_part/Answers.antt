@@ -1,4 +1,3 @@
-use borrow.Author.Rules.{rules}
 use Rattle.block.proofs.extents.list_part.Goals as goal
 
 pub returns : goal.returns

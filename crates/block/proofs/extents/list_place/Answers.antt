@@ -1,5 +1,4 @@
 use Rattle.block.proofs.ExtentLaws.{place_is, place_past}
-use borrow.Author.Rules.{rules}
 use Rattle.block.proofs.extents.list_place.Goals as goal
 
 pub returns-then-k-lt8 : goal.returns-then-k-lt8

@@ -1,7 +1,3 @@
-use borrow.Author.Rules.{rules}
-use Rattle.block.proofs.extents.list_widths.Reads as reads
-use Rattle.block.proofs.extents.list_widths.Lts as lts
-use Rattle.block.proofs.extents.color_width.Reads as color-width-reads
 use Rattle.block.proofs.extents.list_widths.Goals as goal
 
 pub returns-in-FaceSet : goal.returns-in-FaceSet

@@ -1,6 +1,4 @@
 use native.Mathlib.Omega.{arith}
-use Rattle.block.specs.Edition.{words_ahead}
-use borrow.Author.Rules.{rules}
 use Rattle.block.proofs.extents.words_ahead.Goals as goal
 
 pub returns : goal.returns

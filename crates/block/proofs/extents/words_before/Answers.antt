@@ -1,8 +1,6 @@
-use Prim.Native.Nat.{◌*◌, ◌^◌, ◌≤◌, ◌-◌}
 use mathlib.Core.Path.{◌≡◌}
 use native.Mathlib.Omega.{arith}
 use native.Mathlib.Numerals.{add-one}
-use lib.ListN.{take}
 use Rattle.block.specs.Extents.{words_in}
 use Rattle.block.proofs.ExtentLaws.{words_more}
 use borrow.Author.Rules.{rules}

@@ -1,11 +1,7 @@
 use Prim.Native.Nat.{◌*◌, ◌^◌, ◌≤◌, ◌-◌}
 use mathlib.Core.Path.{◌≡◌}
-use native.Mathlib.Omega.{arith}
-use native.Mathlib.Numerals.{add-one}
 use lib.ListN.{take}
 use Rattle.block.specs.Extents.{words_in}
-use Rattle.block.proofs.ExtentLaws.{words_more}
-use borrow.Author.Rules.{rules}
 use Rattle.block.proofs.extents.words_before.Given as goal
 
 abbrev pub invariant-loop-j : goal.invariant-loop-j

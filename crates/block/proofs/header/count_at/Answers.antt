@@ -1,7 +1,5 @@
 use native.Mathlib.Omega.{arith}
-use Rattle.block.specs.Edition.{counts_at}
 use Rattle.block.proofs.EditionLaws.{field_room}
-use borrow.Author.Rules.{rules}
 use Rattle.block.proofs.header.count_at.Goals as goal
 
 pub overflow_mul-k : goal.overflow_mul-k

@@ -1,4 +1,3 @@
-use borrow.Author.Rules.{rules}
 use Rattle.block.proofs.header.flag.Goals as goal
 
 pub returns : goal.returns

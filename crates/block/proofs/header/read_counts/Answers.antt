@@ -1,5 +1,4 @@
 use Rattle.block.specs.Header.{counts_of}
-use borrow.Author.Rules.{rules}
 use Rattle.block.proofs.header.read_counts.Goals as goal
 
 pub returns : goal.returns

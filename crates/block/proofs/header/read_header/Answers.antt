@@ -5,13 +5,10 @@ use Rattle.block.specs.Edition.{edition_of, edition_in, zeros_at}
 use Rattle.block.specs.Kind.{kind_of}
 use Rattle.block.specs.Header.{counts_of, header_of}
 use Rattle.block.proofs.EditionLaws.{narrow}
-use borrow.Author.Rules.{rules}
 use Rattle.block.proofs.header.read_header.Goals as goal
 
-edition-is : (c : tie.After-zeros-in) → c.before.before.before.before.before.before.before.before.before.before.before.before.before.before.before.before.before.edition-of.result ≡ edition_in c.before.before.before.before.before.before.before.before.before.before.before.before.before.before.before.before.before.before.before.before.args.block.now
-edition-is c =
-    let c17 = c.before.before.before.before.before.before.before.before.before.before.before.before.before.before.before.before.before in
-    c17.edition-of.ensures ∙ ap edition_of c17.before.field_at.ensures
+edition_is : (c : goal.After-zeros_in) → c.edition_of-e.result ≡ edition_in c.args.block.now
+edition_is c = c.edition_of-e.ensures ∙ ap edition_of c.field_at-edition.ensures
 
 pub read_counts-requires : goal.read_counts-requires
 read_counts-requires c = rw c.edition_of-e.ensures (narrow _).width
@@ -39,6 +36,6 @@ returns c =
       texture_points = c.flag-11.ensures i;
       begin_cap = c.flag-12.ensures i;
       end_cap = c.flag-13.ensures i;
-      counts = (c.read_counts.ensures ∙ ap (λ (e : Edition). counts_of c.args.block.now e.count_bits) (edition-is c)) i;
-      zeros = (c.zeros_in.ensures ∙ ap (λ (e : Edition). field c.args.block.now (zeros_at e) e.zero_bits) (edition-is c)) i;
+      counts = (c.read_counts.ensures ∙ ap (λ (e : Edition). counts_of c.args.block.now e.count_bits) (edition_is c)) i;
+      zeros = (c.zeros_in.ensures ∙ ap (λ (e : Edition). field c.args.block.now (zeros_at e) e.zero_bits) (edition_is c)) i;
     }

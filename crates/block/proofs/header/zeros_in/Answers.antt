@@ -1,7 +1,5 @@
 use native.Mathlib.Omega.{arith}
-use Rattle.block.specs.Edition.{counts_at, zeros_at}
 use Rattle.block.proofs.EditionLaws.{field_room}
-use borrow.Author.Rules.{rules}
 use Rattle.block.proofs.header.zeros_in.Goals as goal
 
 pub overflow_mul-e : goal.overflow_mul-e

@@ -1,5 +1,4 @@
-use Rattle.block.specs.Edition.{edition_of, header_bytes}
-use borrow.Author.Rules.{rules}
+use Rattle.block.specs.Edition.{edition_of}
 use Rattle.block.proofs.refusal.header_bytes.Goals as goal
 
 pub returns : goal.returns

@@ -1,5 +1,4 @@
 use borrow.Author.Tests.{eq-eqb, ne_eqb}
-use borrow.Author.Rules.{rules}
 use Rattle.block.proofs.refusal.is_by_point.Goals as goal
 
 pub returns-else-h : goal.returns-else-h

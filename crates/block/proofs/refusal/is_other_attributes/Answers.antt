@@ -1,4 +1,3 @@
-use borrow.Author.Rules.{rules}
 use Rattle.block.proofs.refusal.is_other_attributes.Goals as goal
 
 pub returns-then-is_by_point : goal.returns-then-is_by_point

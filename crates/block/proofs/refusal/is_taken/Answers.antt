@@ -1,4 +1,3 @@
-use borrow.Author.Rules.{rules}
 use Rattle.block.proofs.refusal.is_taken.Goals as goal
 
 pub returns : goal.returns

@@ -1,11 +1,7 @@
 use Prim.Native.Nat.{suc, ◌≤◌, ◌-◌}
-use mathlib.Core.Path.{◌≡◌, refl, ap}
-use native.Mathlib.Omega.{arith}
+use mathlib.Core.Path.{◌≡◌}
 use lib.ListN.{length, drop}
-use mathlib.Core.Bool.{not}
 use Rattle.block.specs.Runs.{all_below}
-use Rattle.block.proofs.RunLaws.{below_not, below_step, below_all}
-use borrow.Author.Rules.{rules}
 use Rattle.block.proofs.refusal.over_limit.Given as goal
 
 abbrev pub invariant-loop-k : goal.invariant-loop-k

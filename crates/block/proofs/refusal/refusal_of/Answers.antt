@@ -1,15 +1,15 @@
 use mathlib.Core.Path.{sym, ◌∙◌}
 use Rattle.block.proofs.Table.{Known, row_stub, row_edition, row_zeros, row_limit, row_length, row_attributes, row_none}
-use borrow.Author.Rules.{rules}
 use Rattle.block.proofs.refusal.refusal_of.Goals as goal
+use Rattle.block.proofs.refusal.refusal_of.Goals.{After-limit_of}
 
 -- what is known where the rows 1 to 3 are passed
-known : (c : tie.Else3) → Known c.before.before.before.before.before.before.before.args.block.now c.before.before.before.before.before.before.before.args.h
+known : (c : After-limit_of) → Known c.args.block.now c.args.h
 known c =
     record {
-      whole = rw (← c.before.before.before.before.before.header-bytes.ensures) c.before.before.before.before.if1.false;
-      edition-is = sym c.before.before.before.is_Known.ensures ∙ c.before.before.if2.true;
-      zeros-are = c.if3.false;
+      whole = rw (← c.header_bytes.ensures) c.if-block-header_bytes.false;
+      edition_is = sym c.is_known.ensures ∙ c.if-is_known.true;
+      zeros_are = c.if-h-ne0.false;
     }
 
 pub returns-then-block-header_bytes : goal.returns-then-block-header_bytes
@@ -22,15 +22,15 @@ pub returns-then-h-ne0 : goal.returns-then-h-ne0
 returns-then-h-ne0 c = row_zeros _ _ (rw (← c.header_bytes.ensures) c.if-block-header_bytes.false) (sym c.is_known.ensures ∙ c.if-is_known.true) c.if-h-ne0.true
 
 pub returns-then-over_limit : goal.returns-then-over_limit
-returns-then-over_limit c = row_limit _ _ (known c) (rw (← c.limit_of.ensures) (sym c.over_limit.ensures ∙ c.if-over_limit.true))
+returns-then-over_limit c = row_limit _ _ (known (goal.at.returns-then-over_limit c).After-limit_of) (rw (← c.limit_of.ensures) (sym c.over_limit.ensures ∙ c.if-over_limit.true))
 
 pub returns-then-block-block_bytes : goal.returns-then-block-block_bytes
-returns-then-block-block_bytes c = row_length _ _ (known c) (rw (← c.limit_of.ensures) (sym c.over_limit.ensures ∙ c.if-over_limit.false)) (λ e. c.if-block-block_bytes.true (e ∙ sym c.block_bytes.ensures))
+returns-then-block-block_bytes c = row_length _ _ (known (goal.at.returns-then-block-block_bytes c).After-limit_of) (rw (← c.limit_of.ensures) (sym c.over_limit.ensures ∙ c.if-over_limit.false)) (λ e. c.if-block-block_bytes.true (e ∙ sym c.block_bytes.ensures))
 
 pub returns-then-is_other_attributes : goal.returns-then-is_other_attributes
 returns-then-is_other_attributes c =
-    row_attributes _ _ (known c) (rw (← c.limit_of.ensures) (sym c.over_limit.ensures ∙ c.if-over_limit.false)) (c.if-block-block_bytes.false ∙ c.block_bytes.ensures) (sym c.is_other_attributes.ensures ∙ c.if-is_other_attributes.true)
+    row_attributes _ _ (known (goal.at.returns-then-is_other_attributes c).After-limit_of) (rw (← c.limit_of.ensures) (sym c.over_limit.ensures ∙ c.if-over_limit.false)) (c.if-block-block_bytes.false ∙ c.block_bytes.ensures) (sym c.is_other_attributes.ensures ∙ c.if-is_other_attributes.true)
 
 pub returns : goal.returns
 returns c =
-    row_none _ _ (known c) (rw (← c.limit_of.ensures) (sym c.over_limit.ensures ∙ c.if-over_limit.false)) (c.if-block-block_bytes.false ∙ c.block_bytes.ensures) (sym c.is_other_attributes.ensures ∙ c.if-is_other_attributes.false)
+    row_none _ _ (known (goal.at.returns c).After-limit_of) (rw (← c.limit_of.ensures) (sym c.over_limit.ensures ∙ c.if-over_limit.false)) (c.if-block-block_bytes.false ∙ c.block_bytes.ensures) (sym c.is_other_attributes.ensures ∙ c.if-is_other_attributes.false)

@@ -1,13 +1,11 @@
-use Prim.Native.Nat.{◌+◌, ◌≤◌, ◌-◌}
-use mathlib.Core.Logic.{⊎_elim}
-use mathlib.Core.Path.{◌≡◌, sym, ◌∙◌}
-use borrow.Author.Rules.{rules}
+use mathlib.Core.Path.{sym, ◌∙◌}
 use native.Mathlib.Omega.{arith}
 use Rattle.bits.proofs.Entries.{entries_length}
 use Rattle.bits.specs.Bits.{entries}
-use Rattle.block.specs.Runs.{runs, runs_left, faces, corners, triangles, sum_over}
+use Rattle.block.specs.Runs.{faces, corners, triangles}
 use Rattle.block.proofs.RunLaws.{sum_turn, sum_ended, kept_long, face_kept, face_lost}
 use Rattle.block.proofs.runs.face_totals.Goals as goal
+use Rattle.block.proofs.runs.face_totals.Goals.{then-is_kept, else-is_kept}
 
 pub loop-start-init : goal.loop-start-init
 loop-start-init c = omega arith
@@ -41,10 +39,10 @@ loop-start-preserved c =
     let fs = turn (faces points) in
     let cs = turn (corners points) in
     let ts = turn (triangles points) in
-    ⊎_elim
-    (λ w. omega (arith, w, face_kept points (entries run) (sym c.is_kept.ensures ∙ w.0.taken)))
-    (λ w. omega (arith, w, face_lost points (entries run) (sym c.is_kept.ensures ∙ w.0.left)))
-    c.if-is_kept.branch
+    elim c.if-is_kept.branch [
+      | then-is_kept w ↦ omega (arith, w, face_kept points (entries run) (sym c.is_kept.ensures ∙ w.if-is_kept.true))
+      | else-is_kept w ↦ omega (arith, w, face_lost points (entries run) (sym c.is_kept.ensures ∙ w.if-is_kept.false))
+    ]
 
 pub returns : goal.returns
 returns c =

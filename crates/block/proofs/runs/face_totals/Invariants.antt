@@ -1,12 +1,7 @@
 use Prim.Native.Nat.{◌+◌, ◌≤◌, ◌-◌}
-use mathlib.Core.Logic.{⊎_elim}
-use mathlib.Core.Path.{◌≡◌, sym, ◌∙◌}
-use borrow.Author.Rules.{rules}
-use native.Mathlib.Omega.{arith}
-use Rattle.bits.proofs.Entries.{entries_length}
+use mathlib.Core.Path.{◌≡◌}
 use Rattle.bits.specs.Bits.{entries}
 use Rattle.block.specs.Runs.{runs, runs_left, faces, corners, triangles, sum_over}
-use Rattle.block.proofs.RunLaws.{sum_turn, sum_ended, kept_long, face_kept, face_lost}
 use Rattle.block.proofs.runs.face_totals.Given as goal
 
 abbrev pub invariant-loop-start : goal.invariant-loop-start

@@ -1,4 +1,3 @@
-use borrow.Author.Rules.{rules}
 use Rattle.block.proofs.RunLaws.{run_part_lem, run_past}
 use Rattle.block.proofs.runs.run_at.Goals as goal
 

@@ -1,12 +1,8 @@
 use Prim.Native.Nat.{◌+◌, ◌≤◌, ◌-◌}
 use mathlib.Core.Path.{◌≡◌}
-use borrow.Author.Rules.{rules}
-use native.Mathlib.Omega.{arith}
 use lib.ListN.{drop}
-use Rattle.bits.proofs.Entries.{entries_length}
 use Rattle.bits.specs.Bits.{entries}
 use Rattle.block.specs.Runs.{run_length}
-use Rattle.block.proofs.RunLaws.{run_stop, run_more, run_over}
 use Rattle.block.proofs.runs.run_end.Given as goal
 
 abbrev pub invariant-loop-k : goal.invariant-loop-k

@@ -1,5 +1,4 @@
 use Rattle.block.specs.Settings.{finite_transform}
-use borrow.Author.Rules.{rules}
 use Rattle.block.proofs.settings.finite_transform.Goals as goal
 
 pub returns : goal.returns

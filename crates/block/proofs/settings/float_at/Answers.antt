@@ -2,7 +2,6 @@ use native.Mathlib.Omega.{arith}
 use mathlib.Core.Path.{ap}
 use Rattle.block.specs.declared.edition.Edition.{Edition}
 use Rattle.block.proofs.EditionLaws.{short_in}
-use borrow.Author.Rules.{rules}
 use Rattle.block.proofs.settings.float_at.Goals as goal
 
 pub overflow_add-e : goal.overflow_add-e

@@ -3,7 +3,6 @@ use mathlib.Core.Bool.{Bool, true, false, cond}
 use lib.Ieee.Scale.{finite}
 use Rattle.block.specs.Settings.{pair_or}
 use Rattle.block.specs.declared.texture.Pair.{Pair}
-use borrow.Author.Rules.{rules}
 use Rattle.block.proofs.settings.pair_or.Goals as goal
 
 -- the second float decides, where the first is finite

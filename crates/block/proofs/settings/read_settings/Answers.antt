@@ -1,5 +1,4 @@
 use Rattle.block.specs.Settings.{settings_of}
-use borrow.Author.Rules.{rules}
 use Rattle.block.proofs.settings.read_settings.Goals as goal
 
 pub returns : goal.returns

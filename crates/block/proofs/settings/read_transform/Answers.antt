@@ -1,5 +1,4 @@
 use Rattle.block.specs.Settings.{transform_of}
-use borrow.Author.Rules.{rules}
 use Rattle.block.proofs.settings.read_transform.Goals as goal
 
 pub returns : goal.returns

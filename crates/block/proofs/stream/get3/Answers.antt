@@ -1,4 +1,3 @@
-use borrow.Author.Rules.{rules}
 use Rattle.block.proofs.stream.get3.Goals as goal
 
 pub returns : goal.returns

@@ -1,4 +1,3 @@
-use borrow.Author.Rules.{rules}
 use Rattle.block.specs.Stream.{number_at}
 use Rattle.block.proofs.stream.number_at.Goals as goal
 

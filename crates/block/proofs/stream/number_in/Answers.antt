@@ -1,4 +1,3 @@
-use borrow.Author.Rules.{rules}
 use Rattle.block.proofs.StreamLaws.{itself_fits, itself_large, entry_past, entry_negative, entry_found}
 use Rattle.block.proofs.stream.number_in.Goals as goal
 

@@ -1,5 +1,4 @@
 use Rattle.block.specs.Stream.{stream_of}
-use borrow.Author.Rules.{rules}
 use Rattle.block.proofs.stream.stream_of.Goals as goal
 
 pub returns : goal.returns

@@ -1,5 +1,4 @@
 use Rattle.block.specs.Texture.{uv_words}
-use borrow.Author.Rules.{rules}
 use Rattle.block.proofs.texture.uv.Goals as goal
 
 pub returns-then-transformed : goal.returns-then-transformed

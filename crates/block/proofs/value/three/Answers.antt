@@ -1,4 +1,3 @@
-use borrow.Author.Rules.{rules}
 use Rattle.block.proofs.ValueLaws.{word_first}
 use Rattle.block.proofs.value.three.Goals as goal
 

@@ -1,4 +1,3 @@
-use borrow.Author.Rules.{rules}
 use Rattle.block.specs.Value.{words2}
 use Rattle.block.proofs.ValueLaws.{word_first, value_there, value_past, value_missing}
 use Rattle.block.proofs.value.value2.Goals as goal

@@ -1,4 +1,3 @@
-use borrow.Author.Rules.{rules}
 use Rattle.block.specs.Value.{words3}
 use Rattle.block.proofs.ValueLaws.{value_there, value_past, value_missing}
 use Rattle.block.proofs.value.value3.Goals as goal

@@ -1,4 +1,3 @@
-use borrow.Author.Rules.{rules}
 use Rattle.block.proofs.ValueLaws.{value_missing}
 use Rattle.block.proofs.value.value4.Goals as goal
 

@@ -1,6 +1,5 @@
 use mathlib.Core.Bool.{false}
 use mathlib.Core.Path.{refl, ap}
-use borrow.Author.Rules.{rules}
 use Rattle.block.specs.Value.{opaque_of, words4}
 use Rattle.block.proofs.ValueLaws.{value_there, value_past}
 use Rattle.block.proofs.value.value_rgb.Goals as goal

@@ -1,6 +1,5 @@
 use mathlib.Core.Bool.{true}
 use mathlib.Core.Path.{refl}
-use borrow.Author.Rules.{rules}
 use Rattle.block.specs.Value.{words4}
 use Rattle.block.proofs.ValueLaws.{word_first, value_there, value_past}
 use Rattle.block.proofs.value.value_rgba.Goals as goal

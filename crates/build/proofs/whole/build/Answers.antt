@@ -1,7 +1,6 @@
 use mathlib.Core.Path.{◌∙◌}
 use Rattle.build.proofs.Asked.{ready_at, cornered_at, corners_ready, tables_kept, faces_ready, faces_room, indices_there, mending_ready}
 use Rattle.build.proofs.Joined.{built}
-use borrow.Author.Rules.{rules}
 use Rattle.build.proofs.whole.build.Goals as goal
 
 pub all_vertices-n-requires : goal.all_vertices-n-requires
@@ -20,12 +19,12 @@ slice_bounds-fix_zero_normals-end c =
 
 pub fix_zero_normals-requires : goal.fix_zero_normals-requires
 fix_zero_normals-requires c =
-    mending_ready c.requires (cornered_at _ c.corner_tables-tables.ensures c.all_vertices-n.ensures) c.all_faces-k.ensures c.all_vertices-n.auto.1.1.1.1.1.1.0
+    mending_ready c.requires (cornered_at _ c.corner_tables-tables.ensures c.all_vertices-n.ensures) c.all_faces-k.ensures c.all_vertices-n.auto.normals
 
 pub returns : goal.returns
 returns c =
     let R = c.requires in
     let C = cornered_at _ c.corner_tables-tables.ensures c.all_vertices-n.ensures in
     let M = c.all_faces-k.ensures in
-    built R C M _ c.fix_zero_normals.ensures (c.fix_zero_normals.auto.1.1.1.1.0 ∙ M.kept.len ∙ (tables_kept R C).len) _ c.clear_words.ensures
-    c.all_faces-k.auto.1.1.1.1.0 _ c.clear_floats.ensures
+    built R C M _ c.fix_zero_normals.ensures (c.fix_zero_normals.auto.table ∙ M.kept.len ∙ (tables_kept R C).len) _ c.clear_words.ensures
+    c.all_faces-k.auto.floats _ c.clear_floats.ensures

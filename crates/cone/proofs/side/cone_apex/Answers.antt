@@ -4,4 +4,4 @@ use Rattle.cone.proofs.side.cone_apex.Goals as goal
 
 pub returns : goal.returns
 unfolding cone_apex
-returns c = rw e
+returns c ps r q e = rw e

@@ -4,4 +4,4 @@ use Rattle.cone.proofs.side.cone_foot.Goals as goal
 
 pub returns : goal.returns
 unfolding cone_foot
-returns c = rw (e, c.ring_at-x.ensures)
+returns c q e = rw (e, c.ring_at-x.ensures)

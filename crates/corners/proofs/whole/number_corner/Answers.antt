@@ -1,6 +1,5 @@
 use native.Mathlib.Omega.{arith}
 use Rattle.corners.proofs.Corners.{number_few}
-use borrow.Author.Rules.{rules}
 use Rattle.corners.proofs.whole.number_corner.Goals as goal
 
 pub vertex-r-requires : goal.vertex-r-requires
@@ -28,7 +27,7 @@ pub returns : goal.returns
 returns c =
     record {
       number = c.vertex-r.result.0;
-      table = c.vertex-r.new.1.1.1.1.1.0;
+      table = c.vertex-r.new.work;
       vertexed = rw c.point_of-point.ensures at c.vertex-r.ensures;
       written = rw c.narrow.ensures;
       count = c.count_after.ensures;

@@ -19,7 +19,7 @@ put_params-requires-2 c =
       spine_room G _ _ c.list_part-2.ensures c.spine_count-n.ensures,
       rw c.spine_count-n.ensures G.spine,
       omega (arith, c.spine_count-n.ensures, spine_few G),
-      omega (arith, c.section_count-m.ensures, c.spine_count-n.ensures, c.requires.1, c.floats-1.given),
+      omega (arith, c.section_count-m.ensures, c.spine_count-n.ensures, c.requires.1),
     )
 
 pub returns : goal.returns

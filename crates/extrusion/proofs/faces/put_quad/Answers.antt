@@ -6,7 +6,7 @@ use Rattle.extrusion.proofs.faces.put_quad.Goals as goal
 
 pub put_point_number-requires-2 : goal.put_point_number-requires-2
 put_point_number-requires-2 c =
-    (omega (arith, c.requires.1, c.work-1.given), omega (arith, c.point_at-2.ensures, c.requires.2))
+    (omega (arith, c.requires.1), omega (arith, c.point_at-2.ensures, c.requires.2))
 
 pub overflow_add-i : goal.overflow_add-i
 overflow_add-i c =
@@ -18,7 +18,7 @@ point_at-requires-3 c =
 
 pub put_point_number-requires-3 : goal.put_point_number-requires-3
 put_point_number-requires-3 c =
-    (omega (arith, c.requires.1, c.work-1.given, c.work-2-1.given), omega (arith, c.point_at-3.ensures, next_row c.args.i c.args.m, c.requires.2))
+    (omega (arith, c.requires.1), omega (arith, c.point_at-3.ensures, next_row c.args.i c.args.m, c.requires.2))
 
 pub overflow_add-i-2 : goal.overflow_add-i-2
 overflow_add-i-2 c =
@@ -30,7 +30,7 @@ point_at-requires-4 c =
 
 pub put_point_number-requires-4 : goal.put_point_number-requires-4
 put_point_number-requires-4 c =
-    (omega (arith, c.requires.1, c.work-1.given, c.work-2-1.given, c.work-3-1.given), omega (arith, c.point_at-4.ensures, next_row c.args.i c.args.m, c.requires.2))
+    (omega (arith, c.requires.1), omega (arith, c.point_at-4.ensures, next_row c.args.i c.args.m, c.requires.2))
 
 pub returns : goal.returns
 returns c =

@@ -21,7 +21,7 @@ overflow_add-k c = omega (arith, sides_room _ _ _ _ _ _ _ c.requires.4)
 
 pub put_begin-next-requires : goal.put_begin-next-requires
 put_begin-next-requires c =
-    (omega (arith, rows_least c.args.n c.args.m c.requires.0, c.requires.2, c.requires.3), omega (arith, begin_room _ _ _ _ _ _ _ c.requires.4, c.work-1.given))
+    (omega (arith, rows_least c.args.n c.args.m c.requires.0, c.requires.2, c.requires.3), omega (arith, begin_room _ _ _ _ _ _ _ c.requires.4))
 
 pub point_at-requires : goal.point_at-requires
 point_at-requires c =
@@ -30,7 +30,7 @@ point_at-requires c =
 pub put_end-requires : goal.put_end-requires
 put_end-requires c =
     let q : c.point_at.result.0 ≡ (c.args.n - 1) * c.args.m = omega (arith, c.point_at.ensures) in
-    (omega (arith, last_row c.args.n c.args.m c.requires.0, c.requires.2, c.requires.3), rw q (omega (arith, end_room _ _ _ _ _ _ _ c.requires.4 _ c.put_begin-next.ensures.1, c.work-1.given, c.work-2-1.given)))
+    (omega (arith, last_row c.args.n c.args.m c.requires.0, c.requires.2, c.requires.3), rw q (omega (arith, end_room _ _ _ _ _ _ _ c.requires.4 _ c.put_begin-next.ensures.1)))
 
 pub returns : goal.returns
 returns c =

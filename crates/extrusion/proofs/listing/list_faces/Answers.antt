@@ -13,15 +13,15 @@ overflow_mul-n c =
 
 pub put_starts-requires : goal.put_starts-requires
 put_starts-requires c =
-    starts_room c.requires _ _ c.spine_count-n.ensures c.section_count-m.ensures _ (omega (arith, room_starts c.requires, c.work-1.given))
+    starts_room c.requires _ _ c.spine_count-n.ensures c.section_count-m.ensures _ (omega (arith, room_starts c.requires))
 
 pub put_uses-requires-2 : goal.put_uses-requires-2
 put_uses-requires-2 c =
-    uses_room c.requires _ _ c.spine_count-n.ensures c.section_count-m.ensures _ _ (omega (arith, room_places c.requires, c.work-1.given, c.work-2-1.given))
+    uses_room c.requires _ _ c.spine_count-n.ensures c.section_count-m.ensures _ _ (omega (arith, room_places c.requires))
 
 pub put_numbers-requires : goal.put_numbers-requires
 put_numbers-requires c =
-    (c.requires.room.many, omega (arith, room_numbers c.requires, c.work-1.given, c.work-2-1.given, c.work-3-1.given))
+    (c.requires.room.many, omega (arith, room_numbers c.requires))
 
 pub returns : goal.returns
 returns c =

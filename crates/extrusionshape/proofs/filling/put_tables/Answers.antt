@@ -18,10 +18,10 @@ prepare-requires c = (listed_sound c.list_faces.ensures.1, c.requires.3)
 
 pub arcs_where-requires : goal.arcs_where-requires
 arcs_where-requires c =
-    (c.requires.0, omega (arith, c.requires.2, c.prepare.auto.1.1.1.1.1.0))
+    (c.requires.0, omega (arith, c.requires.2, c.prepare.auto.floats))
 
 pub returns : goal.returns
 returns c = (
-  tabled c.requires.1.room (points_there _ c.requires.0 c.requires.1 c.put_points.ensures) c.list_faces.ensures.0 c.list_faces.ensures.1 (prepared_front c.prepare.ensures c.arcs_where.ensures.1) (c.arcs_where.auto.1.1.1.0 ∙ c.prepare.auto.1.1.1.1.1.0),
+  tabled c.requires.1.room (points_there _ c.requires.0 c.requires.1 c.put_points.ensures) c.list_faces.ensures.0 c.list_faces.ensures.1 (prepared_front c.prepare.ensures c.arcs_where.ensures.1) (c.arcs_where.auto.floats ∙ c.prepare.auto.floats),
   c.arcs_where.ensures.0,
 )

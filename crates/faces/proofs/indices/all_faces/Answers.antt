@@ -1,8 +1,5 @@
-use mathlib.Core.Path.{◌≡◌, refl, ◌∙◌}
-use Prim.Native.Nat.{◌-◌}
-use lib.ListN.{length}
-use Rattle.faces.proofs.Turning.{Facing, facing_start, facing_ready, facing_room, facing_go, facing_end}
-use borrow.Author.Rules.{rules}
+use mathlib.Core.Path.{refl, ◌∙◌}
+use Rattle.faces.proofs.Turning.{facing_start, facing_ready, facing_room, facing_go, facing_end}
 use Rattle.faces.proofs.indices.all_faces.Goals as goal
 
 pub loop-g-init : goal.loop-g-init
@@ -14,7 +11,7 @@ one_face-at-requires c =
 
 pub loop-g-preserved : goal.loop-g-preserved
 loop-g-preserved c =
-    (c.one_face-at.auto.1.1.1.1.1.0 ∙ c.loop-g.invariant.0, facing_go _ _ _ _ c.requires.0 c.loop-g.invariant.1 c.loop-g-test.true c.requires.1 _ _ _ _ c.one_face-at.ensures)
+    (c.one_face-at.auto.floats ∙ c.loop-g.invariant.0, facing_go _ _ _ _ c.requires.0 c.loop-g.invariant.1 c.loop-g-test.true c.requires.1 _ _ _ _ c.one_face-at.ensures)
 
 pub shape_of-work : goal.shape_of-work
 shape_of-work c = c.loop-g.invariant.1.kept.len

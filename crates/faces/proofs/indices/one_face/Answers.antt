@@ -1,7 +1,6 @@
 use mathlib.Core.Path.{refl}
 use native.Mathlib.Omega.{arith}
 use Rattle.faces.proofs.Pieces.{few_put, more_put}
-use borrow.Author.Rules.{rules}
 use Rattle.faces.proofs.indices.one_face.Goals as goal
 
 pub stretch_of-r-requires : goal.stretch_of-r-requires
@@ -29,7 +28,7 @@ put_corners-requires c =
 
 pub name_corners-requires : goal.name_corners-requires
 name_corners-requires c =
-    let R = c.requires.0.sound.room in let e = c.stretch_of-r.ensures in (omega (arith, c.if-n-lt3.false), omega (arith, e.order, e.within, c.put_corners.ensures.0.len), omega (arith, c.requires.2, e.from, e.to, c.put_corners.auto.1.1.1.1.1.1.1.0))
+    let R = c.requires.0.sound.room in let e = c.stretch_of-r.ensures in (omega (arith, c.if-n-lt3.false), omega (arith, e.order, e.within, c.put_corners.ensures.0.len), omega (arith, c.requires.2, e.from, e.to, c.put_corners.auto.indices))
 
 pub returns : goal.returns
 returns c =

@@ -2,7 +2,6 @@ use mathlib.Core.Path.{refl}
 use Prim.Native.Nat.{◌+◌, ◌-◌, ◌*◌}
 use native.Mathlib.Omega.{arith}
 use Rattle.faces.proofs.Pieces.{corners_in, corners_put}
-use borrow.Author.Rules.{rules}
 use Rattle.lists.proofs.Keep.{part_length, kept_mid}
 use Rattle.faces.proofs.indices.put_corners.Goals as goal
 
@@ -11,8 +10,8 @@ put_plane_where-requires c = (c.requires.0.sound, c.requires.1)
 
 pub triangulate-requires : goal.triangulate-requires
 triangulate-requires c =
-    let R = c.requires.0.sound.room in let e = part_length c.args.work.now c.args.t.places (c.args.t.places + c.args.n * 5) (c.args.n * 5) refl (omega (arith, c.requires.1, c.requires.0.scratch)) in (omega (arith, c.requires.1), omega (arith, c.put_plane_where.auto.1.1.1.1.1.1.0, c.requires.0.plane, c.requires.1), omega (arith, e), c.requires.2)
+    let R = c.requires.0.sound.room in let e = part_length c.args.work.now c.args.t.places (c.args.t.places + c.args.n * 5) (c.args.n * 5) refl (omega (arith, c.requires.1, c.requires.0.scratch)) in (omega (arith, c.requires.1), omega (arith, c.put_plane_where.auto.floats, c.requires.0.plane, c.requires.1), omega (arith, e), c.requires.2)
 
 pub returns : goal.returns
 returns c =
-    (kept_mid c.args.work.now c.triangulate.new.1.1.1.0 c.args.t.places (c.args.t.places + c.args.n * 5 - c.args.t.places) (omega (arith, c.requires.1, c.requires.0.scratch)) c.triangulate.auto.1.1.1.0, corners_put c.args.work.now c.args.t c.args.ccw c.args.a.0 c.args.n c.args.convex (corners_in c.requires.0.sound c.args.ccw c.args.convex c.args.a.0 c.args.n c.requires.1) c.args.floats.now _ _ _ c.args.at (omega (arith, c.requires.0.plane, c.requires.1)) c.requires.2 c.put_plane_where.ensures c.triangulate.ensures, c.put_plane_where.ensures)
+    (kept_mid c.args.work.now c.triangulate.new.scratch c.args.t.places (c.args.t.places + c.args.n * 5 - c.args.t.places) (omega (arith, c.requires.1, c.requires.0.scratch)) c.triangulate.auto.scratch, corners_put c.args.work.now c.args.t c.args.ccw c.args.a.0 c.args.n c.args.convex (corners_in c.requires.0.sound c.args.ccw c.args.convex c.args.a.0 c.args.n c.requires.1) c.args.floats.now _ _ _ c.args.at (omega (arith, c.requires.0.plane, c.requires.1)) c.requires.2 c.put_plane_where.ensures c.triangulate.ensures, c.put_plane_where.ensures)

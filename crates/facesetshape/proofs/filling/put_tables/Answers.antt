@@ -9,7 +9,7 @@ put_points-requires c =
     points_asked _ c.args.h c.list_part-list.ensures c.requires.1.room c.requires.1.spots c.requires.2
 
 pub list_faces-requires : goal.list_faces-requires
-list_faces-requires c = rw c.work-1.given c.requires.1
+list_faces-requires c = rw c.put_points.auto.work c.requires.1
 
 pub prepare-requires : goal.prepare-requires
 prepare-requires c = (listed_sound c.list_faces.ensures.listed, c.requires.4)
@@ -17,4 +17,4 @@ prepare-requires c = (listed_sound c.list_faces.ensures.listed, c.requires.4)
 pub returns : goal.returns
 returns c =
     tabled c.requires.1.room (points_copied _ c.args.h c.list_part-list.ensures _ c.requires.1.room c.requires.1.spots c.requires.2 c.requires.3 c.put_points.ensures) c.list_faces.ensures.beside
-    (rw (← c.requires.0) c.list_faces.ensures.listed) c.prepare.ensures c.prepare.auto.1.1.1.1.1.0
+    (rw (← c.requires.0) c.list_faces.ensures.listed) c.prepare.ensures c.prepare.auto.floats

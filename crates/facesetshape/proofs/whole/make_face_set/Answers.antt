@@ -41,11 +41,11 @@ build-requires c =
 
 pub shape_of-work : goal.shape_of-work
 shape_of-work c =
-    c.build.auto.1.1.1.1.1.1.1.1.1.1.0 ∙ c.texture_where.ensures.kept.len ∙ c.put_tables.ensures.len
+    c.build.auto.work ∙ c.texture_where.ensures.kept.len ∙ c.put_tables.ensures.len
 
 pub shape_of-floats : goal.shape_of-floats
 shape_of-floats c =
-    c.build.auto.1.1.1.1.1.1.1.1.1.1.1.0 ∙ c.put_tables.ensures.size
+    c.build.auto.floats ∙ c.put_tables.ensures.size
 
 pub returns : goal.returns
 returns c =

@@ -7,15 +7,15 @@ pub put_corners-requires : goal.put_corners-requires
 put_corners-requires c = corners_asked _ _ _ _ _ _ c.requires c.wide-xd.ensures (omega (arith, c.requires.room))
 
 pub put_multiples-requires : goal.put_multiples-requires
-put_multiples-requires c = let P = c.requires in let R = P.room in (omega (arith, P.count, P.faces, R.few), omega (arith, c.work-1.given))
+put_multiples-requires c = let P = c.requires in let R = P.room in (omega (arith, P.count, P.faces, R.few), omega arith)
 
 pub put_corners-requires-2 : goal.put_corners-requires-2
 put_corners-requires-2 c =
-    let R = c.requires.room in corners_asked _ _ _ _ _ _ c.requires c.wide-xd.ensures (omega (arith, c.work-2-1.given, c.work-1.given))
+    let R = c.requires.room in corners_asked _ _ _ _ _ _ c.requires c.wide-xd.ensures (omega arith)
 
 pub put_multiples-requires-2 : goal.put_multiples-requires-2
 put_multiples-requires-2 c =
-    let R = c.requires.room in (omega arith, omega (arith, c.work-3-1.given, c.work-2-1.given, c.work-1.given))
+    let R = c.requires.room in (omega arith, omega arith)
 
 pub returns : goal.returns
 returns c =

@@ -14,7 +14,7 @@ bounds-numbers-c c = c.requires.0 c.if-e-points.true
 
 pub put_line-at-requires : goal.put_line-at-requires
 put_line-at-requires c =
-    (rw (vertex_here _ _ _ c.if-e-points.true, ← c.wide.ensures) at c.requires.2, c.requires.1, omega (arith, c.wide.ensures, c.shared_slice_known-then-e-points-1.given c.args.w.corner.0))
+    (rw (vertex_here _ _ _ c.if-e-points.true, ← c.wide.ensures) at c.requires.2, c.requires.1, omega (arith, c.wide.ensures, c.type_inv.numbers c.args.w.corner.0))
 
 pub overflow_add-result : goal.overflow_add-result
 overflow_add-result c = omega (arith, c.requires.0 c.if-e-points.true)
@@ -22,7 +22,7 @@ overflow_add-result c = omega (arith, c.requires.0 c.if-e-points.true)
 pub returns-then-e-points : goal.returns-then-e-points
 unfolding last_of
 returns-then-e-points c =
-    let v = vertex_here c.args.points c.args.numbers.now c.args.w.corner.0 c.if-e-points.true in record { added = rw (v, ← c.wide.ensures) c.put_line-at.ensures; corner = sym (corner_here _ _ c.if-e-points.true); last = ap some c.wide.ensures ∙ sym v; fits = omega (arith, c.wide.ensures, c.shared_slice_known-then-e-points-1.given c.args.w.corner.0) }
+    let v = vertex_here c.args.points c.args.numbers.now c.args.w.corner.0 c.if-e-points.true in record { added = rw (v, ← c.wide.ensures) c.put_line-at.ensures; corner = sym (corner_here _ _ c.if-e-points.true); last = ap some c.wide.ensures ∙ sym v; fits = omega (arith, c.wide.ensures, c.type_inv.numbers c.args.w.corner.0) }
 
 pub returns : goal.returns
 unfolding last_of

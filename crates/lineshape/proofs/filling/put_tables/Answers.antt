@@ -11,7 +11,7 @@ put_points-requires c =
 
 pub list_entries-requires : goal.list_entries-requires
 list_entries-requires c =
-    (rw c.work-1.given c.requires.1, points_before _ _ c.requires.0, (stand _ _ c.requires.0).3, sym (stand _ _ c.requires.0).1, c.requires.4)
+    (rw c.put_points.auto.work c.requires.1, points_before _ _ c.requires.0, (stand _ _ c.requires.0).3, sym (stand _ _ c.requires.0).1, c.requires.4)
 
 pub returns : goal.returns
 returns c =

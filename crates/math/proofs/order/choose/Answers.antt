@@ -1,5 +1,4 @@
 use Rattle.math.specs.Order.{choice}
-use borrow.Author.Rules.{rules}
 use Rattle.math.proofs.order.choose.Goals as goal
 
 pub returns-then-is_nan : goal.returns-then-is_nan

@@ -1,6 +1,5 @@
 use mathlib.Core.Path.{◌∙◌}
 use Rattle.math.proofs.Compare.{max_choice}
-use borrow.Author.Rules.{rules}
 use Rattle.math.proofs.order.max.Goals as goal
 
 pub returns : goal.returns

@@ -1,6 +1,5 @@
 use mathlib.Core.Path.{◌∙◌}
 use Rattle.math.proofs.Compare.{min_choice}
-use borrow.Author.Rules.{rules}
 use Rattle.math.proofs.order.min.Goals as goal
 
 pub returns : goal.returns

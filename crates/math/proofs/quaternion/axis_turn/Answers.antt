@@ -1,5 +1,4 @@
 use Rattle.math.specs.Quaternion.{axis_turn}
-use borrow.Author.Rules.{rules}
 use Rattle.math.proofs.quaternion.axis_turn.Goals as goal
 
 pub returns-in_default : goal.returns-in_default

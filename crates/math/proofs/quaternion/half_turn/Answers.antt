@@ -1,7 +1,6 @@
 use mathlib.Core.Path.{◌∙◌, sym, ap}
 use Rattle.math.specs.Vector.{vcross, unit_of}
 use Rattle.math.specs.Quaternion.{half_about, half_turn}
-use borrow.Author.Rules.{rules}
 use Rattle.math.proofs.quaternion.half_turn.Goals as goal
 
 pub returns-in_default : goal.returns-in_default

@@ -1,4 +1,3 @@
-use borrow.Author.Rules.{rules}
 use Rattle.math.proofs.quaternion.other_axis.Goals as goal
 
 pub returns-then-abs : goal.returns-then-abs

@@ -1,5 +1,4 @@
 use Rattle.math.specs.Quaternion.{between}
-use borrow.Author.Rules.{rules}
 use Rattle.math.proofs.quaternion.quat_between.Goals as goal
 
 pub returns-in_default : goal.returns-in_default

@@ -1,4 +1,3 @@
-use borrow.Author.Rules.{rules}
 use Rattle.math.proofs.quaternion.quat_rotate.Goals as goal
 
 pub returns : goal.returns

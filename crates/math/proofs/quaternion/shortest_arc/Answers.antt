@@ -1,5 +1,4 @@
 use Rattle.math.specs.Quaternion.{shortest_arc}
-use borrow.Author.Rules.{rules}
 use Rattle.math.proofs.quaternion.shortest_arc.Goals as goal
 
 pub returns : goal.returns

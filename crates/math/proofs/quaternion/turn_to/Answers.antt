@@ -1,5 +1,4 @@
 use Rattle.math.specs.Quaternion.{turn_to}
-use borrow.Author.Rules.{rules}
 use Rattle.math.proofs.quaternion.turn_to.Goals as goal
 
 pub returns-then-d : goal.returns-then-d

@@ -1,8 +1,6 @@
-use Prim.Native.Nat.{◌-◌, ◌^◌, ◌<◌}
+use Prim.Native.Nat.{◌^◌, ◌<◌}
 use native.Mathlib.Omega.{arith}
-use Rattle.math.specs.Digit.{SoFar}
 use Rattle.math.proofs.Digits.{so_far_start, so_far_room, so_far_step, so_far_end}
-use borrow.Author.Rules.{rules}
 use Rattle.math.proofs.square_root.int_root.Goals as goal
 
 pub loop-done-init : goal.loop-done-init

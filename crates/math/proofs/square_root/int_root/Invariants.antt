@@ -1,8 +1,5 @@
-use Prim.Native.Nat.{◌-◌, ◌^◌, ◌<◌}
-use native.Mathlib.Omega.{arith}
+use Prim.Native.Nat.{◌-◌}
 use Rattle.math.specs.Digit.{SoFar}
-use Rattle.math.proofs.Digits.{so_far_start, so_far_room, so_far_step, so_far_end}
-use borrow.Author.Rules.{rules}
 use Rattle.math.proofs.square_root.int_root.Given as goal
 
 -- After each digit `SoFar` holds, the bound of the remainder in it.

@@ -1,4 +1,3 @@
-use mathlib.Core.Path.{sym}
 use lib.Ieee.{nan_bits}
 use Rattle.math.specs.Digit.{plain}
 use Rattle.math.proofs.Sorts.{above_finite, positive_no_nan}

@@ -1,6 +1,5 @@
 use native.Mathlib.Omega.{arith}
 use Rattle.math.proofs.Digits.{taken_off, bit_small, digit}
-use borrow.Author.Rules.{rules}
 use Rattle.math.proofs.square_root.next_digit.Goals as goal
 
 pub overflow_add-result : goal.overflow_add-result

@@ -1,6 +1,5 @@
 use mathlib.Core.Path.{◌∙◌, ap}
 use Rattle.math.specs.SquareRoot.{isqrt}
-use borrow.Author.Rules.{rules}
 use Rattle.math.proofs.square_root.plain_roots.Goals as goal
 
 pub with_root-requires : goal.with_root-requires

@@ -1,39 +1,29 @@
 use mathlib.Core.Path.{◌∙◌, ap}
-use Prim.Native.Nat.{◌<◌, ◌*◌, ◌^◌}
 use native.Mathlib.Omega.{arith}
 use borrow.Author.Rules.{rules}
 use lib.Ieee.{nan_bits, binary32, of_bits, to_bits}
 use Rattle.math.proofs.Near.{rooted}
 use Rattle.math.proofs.Place.{root_bits_lt}
-use Rattle.math.proofs.Sorts.{Positive, above_finite, above_infinite, below_zero, neither, positive_no_nan, positive_in, positive_root, plain_pattern}
-use Rattle.math.proofs.square_root.root.Reads as reads
-use Rattle.math.proofs.square_root.root.Lts as lts
-use Rattle.math.proofs.square_root.root_bits.Reads as root-bits-reads
+use Rattle.math.proofs.Sorts.{above_finite, above_infinite, below_zero, neither, positive_no_nan, positive_in, positive_root, plain_pattern}
 use Rattle.math.proofs.square_root.root.Goals as goal
-
-above : (c : lts.Then2 (root-bits-reads.Asked, root-bits-reads.Learnt) reads.Pre reads.Post) → Positive c.before.before.args.x
-above c = above_finite c.before.before.args.x c.before.if1.true c.if2.true
-
-bits : (c : lts.Then2 (root-bits-reads.Asked, root-bits-reads.Learnt) reads.Pre reads.Post) → (0 < to_bits binary32 c.before.before.args.x) × (to_bits binary32 c.before.before.args.x < 255 * 2 ^ 23)
-bits c = positive_in c.before.before.args.x (above c) (search rules)
 
 -- The tests tell which case of `rootOf` it is; a positive finite argument has bits that `root_bits` takes.
 pub float_from_bits-t-3 : goal.float_from_bits-t-3
 float_from_bits-t-3 c = unfold nan_bits in tt
 
 pub float_to_bits-x : goal.float_to_bits-x
-float_to_bits-x c = positive_no_nan c.args.x (above c)
+float_to_bits-x c = positive_no_nan c.args.x (above_finite c.args.x c.if-x.true c.if-x-2.true)
 
 pub root_bits-requires : goal.root_bits-requires
-root_bits-requires c = bits c
+root_bits-requires c = positive_in c.args.x (above_finite c.args.x c.if-x.true c.if-x-2.true) (search rules)
 
 pub float_from_bits-result : goal.float_from_bits-result
 float_from_bits-result c =
-    let b = bits c in
+    let b = positive_in c.args.x (above_finite c.args.x c.if-x.true c.if-x-2.true) (search rules) in
     plain_pattern c.root_bits.result (omega (arith, c.root_bits.ensures, root_bits_lt (to_bits binary32 c.args.x) b.0 b.1))
 
 pub returns-then-x-2 : goal.returns-then-x-2
-returns-then-x-2 c = rooted _ _ (search rules) (ap (of_bits binary32) c.root_bits.ensures ∙ positive_root c.args.x (above c))
+returns-then-x-2 c = rooted _ _ (search rules) (ap (of_bits binary32) c.root_bits.ensures ∙ positive_root c.args.x (above_finite c.args.x c.if-x.true c.if-x-2.true))
 
 pub returns-then-x : goal.returns-then-x
 returns-then-x c = rooted _ _ (search rules) (above_infinite c.args.x c.if-x.true c.if-x-2.false)

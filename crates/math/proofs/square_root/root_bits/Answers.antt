@@ -1,6 +1,6 @@
 use mathlib.Core.Path.{◌∙◌}
 use native.Mathlib.Omega.{arith}
-use Rattle.math.proofs.Place.{Lifted, lifted_small, lifted_pos, lifted_start, lifted_step, bits_low, bits_high}
+use Rattle.math.proofs.Place.{lifted_small, lifted_pos, lifted_start, lifted_step, bits_low, bits_high}
 use Rattle.math.proofs.square_root.root_bits.Goals as goal
 
 pub loop-m-init : goal.loop-m-init

@@ -1,5 +1,4 @@
 use mathlib.Core.Path.{◌∙◌, sym}
-use borrow.Author.Rules.{rules}
 use Rattle.math.proofs.square_root.roots.Goals as goal
 
 pub roots_of_plain-requires : goal.roots_of_plain-requires

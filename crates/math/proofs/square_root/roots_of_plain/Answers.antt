@@ -1,6 +1,5 @@
 use mathlib.Core.Path.{◌∙◌, ap}
 use Rattle.math.specs.SquareRoot.{root_bits}
-use borrow.Author.Rules.{rules}
 use Rattle.math.proofs.square_root.roots_of_plain.Goals as goal
 
 pub root_of-requires : goal.root_of-requires

@@ -1,6 +1,5 @@
 use native.Mathlib.Omega.{arith}
 use Rattle.math.proofs.RootDigits.{shift_either, shift_fits}
-use borrow.Author.Rules.{rules}
 use Rattle.math.proofs.square_root.shifted.Goals as goal
 
 pub overflow_add-result : goal.overflow_add-result

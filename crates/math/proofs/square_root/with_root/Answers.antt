@@ -1,11 +1,10 @@
-use mathlib.Core.Path.{◌≡◌, ◌∙◌, ap}
+use mathlib.Core.Path.{◌∙◌, ap}
 use Prim.Native.Nat.{ℕ, ◌+◌, ◌*◌, ◌/◌, ◌%◌, ◌^◌, ◌≤◌}
 use native.Mathlib.Omega.{arith}
 use Rattle.math.specs.SquareRoot.{isqrt, joined}
 use Rattle.math.specs.Digit.{tall}
 use Rattle.math.proofs.RootDigits.{root_small}
 use Rattle.math.proofs.Place.{bits_high}
-use borrow.Author.Rules.{rules}
 use Rattle.math.proofs.square_root.with_root.Goals as goal
 
 small : (b : ℕ) → isqrt 25 (tall b) ≤ 33554430

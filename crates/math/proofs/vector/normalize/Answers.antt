@@ -1,7 +1,6 @@
 use mathlib.Core.Path.{ap, ◌∙◌}
 use lib.Ieee.{Float}
 use Rattle.math.specs.Vector.{unit_by, unit_of}
-use borrow.Author.Rules.{rules}
 use Rattle.math.proofs.vector.normalize.Goals as goal
 
 pub returns : goal.returns

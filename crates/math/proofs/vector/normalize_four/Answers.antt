@@ -4,7 +4,6 @@ use Rattle.math.specs.declared.vector.V3.{V3}
 use Rattle.math.specs.declared.vector.Unit.{Unit}
 use Rattle.math.specs.SquareRoot.{root_of}
 use Rattle.math.specs.Vector.{vdot, unit_by, unit_of, vlen}
-use borrow.Author.Rules.{rules}
 use Rattle.math.proofs.vector.normalize_four.Goals as goal
 
 -- the unit vector, from the root of the square of the length

@@ -1,4 +1,3 @@
-use borrow.Author.Rules.{rules}
 use Rattle.math.proofs.vector.unit_by.Goals as goal
 
 pub returns-then-l : goal.returns-then-l

@@ -1,5 +1,4 @@
 use Rattle.math.proofs.Words.{nan_bits, no_nan}
-use borrow.Author.Rules.{rules}
 use Rattle.math.proofs.word.bits_of.Goals as goal
 
 pub returns-then-x : goal.returns-then-x

@@ -1,6 +1,5 @@
 use Rattle.math.proofs.Sorts.{plain_pattern}
 use Rattle.math.proofs.Words.{nan_pattern}
-use borrow.Author.Rules.{rules}
 use Rattle.math.proofs.word.of_bits.Goals as goal
 
 pub returns-then-n-gt2139095040 : goal.returns-then-n-gt2139095040

@@ -1,9 +1,6 @@
 use native.Mathlib.Omega.{arith}
-use mathlib.Core.Path.{◌≡◌, refl, ◌∙◌}
-use Prim.Native.Nat.{◌-◌}
-use lib.ListN.{length}
-use Rattle.mending.specs.Mend.{Served}
-use Rattle.mending.proofs.Fixing.{none_made, Mending, mending_start, mending_go, mending_end}
+use mathlib.Core.Path.{refl}
+use Rattle.mending.proofs.Fixing.{none_made, mending_start, mending_go, mending_end}
 use borrow.Author.Rules.{rules}
 use Rattle.mending.proofs.mend.fix_zero_normals.Goals as goal
 
@@ -16,7 +13,7 @@ mend_one-r-requires c =
 
 pub loop-v-preserved : goal.loop-v-preserved
 loop-v-preserved c =
-    (mending_go _ _ _ _ _ _ _ _ _ c.loop-v-test.true c.words_at-w.ensures c.mend_one-r.ensures.0 c.put_words.auto.0 c.put_words.ensures c.loop-v.invariant.0, search rules, c.mend_one-r.ensures.1)
+    (mending_go _ _ _ _ _ _ _ _ _ c.loop-v-test.true c.words_at-w.ensures c.mend_one-r.ensures.0 c.put_words.auto.out c.put_words.ensures c.loop-v.invariant.0, search rules, c.mend_one-r.ensures.1)
 
 pub shape_of-normals : goal.shape_of-normals
 shape_of-normals c = c.loop-v.invariant.0.long

@@ -1,11 +1,8 @@
 use native.Mathlib.Omega.{arith}
 use mathlib.Core.Path.{◌≡◌, refl, ap, ◌∙◌}
-use Prim.Native.Nat.{◌-◌, ◌≤◌}
-use lib.ListN.{length}
 use Rattle.mesh.specs.Normals.{or_else}
-use Rattle.normals.specs.Rows.{normal_in, unit_in, no_unit, Mirrored}
+use Rattle.normals.specs.Rows.{normal_in, unit_in}
 use Rattle.normals.proofs.Floats.{mirror_none, mirror_next}
-use borrow.Author.Rules.{rules}
 use Rattle.normals.proofs.mirror.mirror.Goals as goal
 
 pub loop-g-init : goal.loop-g-init
@@ -47,7 +44,7 @@ load_unit-requires c =
 
 pub put3-requires-in-loop-g : goal.put3-requires-in-loop-g
 put3-requires-in-loop-g c =
-    let R = c.requires.0 in let M = c.loop-g.invariant.1.room in omega (arith, c.loop-g-test.true, c.put3.auto.0)
+    let R = c.requires.0 in let M = c.loop-g.invariant.1.room in omega (arith, c.loop-g-test.true, c.put3.auto.part)
 
 pub overflow_add-g : goal.overflow_add-g
 overflow_add-g c =
@@ -59,7 +56,7 @@ loop-g-smaller c = omega (arith, c.loop-g-test.true)
 pub loop-g-preserved : goal.loop-g-preserved
 unfolding normal_in unit_in
 loop-g-preserved c =
-    let q = mirror_next c.loop-g.floats _ _ _ _ _ c.loop-g.invariant.1 refl c.loop-g-test.true c.load.ensures c.load_unit.ensures (c.or_else.ensures ∙ ap (or_else _) c.loop-g.invariant.2) c.put3.ensures c.put3-in-loop-g.ensures in (omega (arith, c.loop-g-test.true), q, c.loop-g.invariant.2, c.put3-in-loop-g.auto.0 ∙ c.put3.auto.0 ∙ c.loop-g.invariant.3)
+    let q = mirror_next c.loop-g.floats _ _ _ _ _ c.loop-g.invariant.1 refl c.loop-g-test.true c.load.ensures c.load_unit.ensures (c.or_else.ensures ∙ ap (or_else _) c.loop-g.invariant.2) c.put3.ensures c.put3-in-loop-g.ensures in (omega (arith, c.loop-g-test.true), q, c.loop-g.invariant.2, c.put3-in-loop-g.auto.part ∙ c.put3.auto.part ∙ c.loop-g.invariant.3)
 
 pub shape_of-floats : goal.shape_of-floats
 shape_of-floats c = c.loop-g.invariant.3

@@ -4,7 +4,6 @@ use Rattle.normals.specs.Written.{spread}
 use Rattle.normals.proofs.Fills.{made_front}
 use Rattle.normals.proofs.Soups.{generated_all}
 use Rattle.normals.proofs.Summing.{made_kept}
-use borrow.Author.Rules.{rules}
 use Rattle.normals.proofs.whole.generate.Goals as goal
 
 pub share-requires : goal.share-requires
@@ -13,7 +12,7 @@ share-requires c = (c.prepare.ensures.ready, c.requires.1)
 pub corner_normals-requires : goal.corner_normals-requires
 corner_normals-requires c =
     let M = made_kept c.prepare.ensures c.share.ensures.0 in
-    (M.ready, c.share.ensures.1, omega (arith, c.requires.1, c.share.auto.1.1.1.0))
+    (M.ready, c.share.ensures.1, omega (arith, c.requires.1, c.share.auto.floats))
 
 pub returns : goal.returns
 returns c =

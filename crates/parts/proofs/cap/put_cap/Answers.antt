@@ -7,11 +7,11 @@ put_vert-requires c = centre_room c.requires
 
 pub put_cap_ring-requires : goal.put_cap_ring-requires
 put_cap_ring-requires c =
-    (c.requires.numbers.pair_low_lem, c.requires.numbers.first_low_lem, c.requires.numbers.few, ring_room c.requires _ c.put_vert.ensures)
+    (c.requires.numbers.pair_low, c.requires.numbers.first_low, c.requires.numbers.few, ring_room c.requires _ c.put_vert.ensures)
 
 pub put_cap_tris-requires : goal.put_cap_tris-requires
 put_cap_tris-requires c =
-    (c.requires.numbers.first_low_lem, c.requires.numbers.few, c.requires.room_indices_lem)
+    (c.requires.numbers.first_low, c.requires.numbers.few, c.requires.room_indices)
 
 pub returns : goal.returns
 returns c =

@@ -13,14 +13,14 @@ loop-t-init c = running_none
 
 pub loop-t-preserved : goal.loop-t-preserved
 loop-t-preserved c =
-    running_more c.loop-t.invariant c.loop-t-test.true (turned _ _ _ _ _ _ _ _ c.triangle_at-tri.ensures c.turn.ensures.0) c.turn.auto.1.1.1.1.0
+    running_more c.loop-t.invariant c.loop-t-test.true (turned _ _ _ _ _ _ _ _ c.triangle_at-tri.ensures c.turn.ensures.0) c.turn.auto.answers
 
 pub shape_of-answers-else-turn : goal.shape_of-answers-else-turn
-shape_of-answers-else-turn c = c.turn.auto.1.1.1.1.0 ∙ c.loop-t.invariant.size
+shape_of-answers-else-turn c = c.turn.auto.answers ∙ c.loop-t.invariant.size
 
 pub returns-else-turn : goal.returns-else-turn
 returns-else-turn c =
-    turns_end c.args.positions.now c.args.indices.now c.args.rays.now c.args.m (eqb (hit_count c.args.rays.now c.triangle_at-tri.result c.args.m) 0) (running_more c.loop-t.invariant c.loop-t-test.true (turned _ _ _ _ _ _ _ _ c.triangle_at-tri.ensures c.turn.ensures.0) c.turn.auto.1.1.1.1.0) c.turn.ensures.1 c.if-turn.false
+    turns_end c.args.positions.now c.args.indices.now c.args.rays.now c.args.m (eqb (hit_count c.args.rays.now c.triangle_at-tri.result c.args.m) 0) (running_more c.loop-t.invariant c.loop-t-test.true (turned _ _ _ _ _ _ _ _ c.triangle_at-tri.ensures c.turn.ensures.0) c.turn.auto.answers) c.turn.ensures.1 c.if-turn.false
 
 pub shape_of-answers : goal.shape_of-answers
 shape_of-answers c = c.loop-t.invariant.size

@@ -17,7 +17,7 @@ clear-requires c =
     (accepted c.args.positions.now c.args.indices.now c.args.paths.now (length c.args.answers.now) (sym c.is_refused.ensures ∙ c.if-is_refused.false)).fits
 
 pub pass-requires : goal.pass-requires
-pass-requires c = let a = accepted c.args.positions.now c.args.indices.now c.args.paths.now (length c.args.answers.now) (sym c.is_refused.ensures ∙ c.if-is_refused.false) in (a.inside, a.few, omega (arith, c.load.auto.1.0), omega (arith, a.fits, c.clear.auto.0))
+pass-requires c = let a = accepted c.args.positions.now c.args.indices.now c.args.paths.now (length c.args.answers.now) (sym c.is_refused.ensures ∙ c.if-is_refused.false) in (a.inside, a.few, omega (arith, c.load.auto.rays), omega (arith, a.fits, c.clear.auto.answers))
 
 pub returns : goal.returns
 returns c =

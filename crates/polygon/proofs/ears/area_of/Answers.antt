@@ -1,11 +1,7 @@
-use mathlib.Core.Path.{◌≡◌, sym, ◌∙◌}
-use Prim.Native.Nat.{◌-◌, ◌≤◌}
+use mathlib.Core.Path.{sym, ◌∙◌}
 use native.Mathlib.Nat.{sub-zero}
 use native.Mathlib.Omega.{arith}
-use borrow.Author.Rules.{rules}
-use Rattle.polygon.specs.Ears.{area_term, area}
-use Rattle.lists.specs.Loops.{run}
-use Rattle.polygon.specs.Memo.{xy}
+use Rattle.polygon.specs.Ears.{area}
 use Rattle.lists.proofs.Loops.{run_go, run_end}
 use Rattle.polygon.proofs.ears.area_of.Goals as goal
 

@@ -1,12 +1,8 @@
-use mathlib.Core.Path.{◌≡◌, sym, ◌∙◌}
+use mathlib.Core.Path.{◌≡◌}
 use Prim.Native.Nat.{◌-◌, ◌≤◌}
-use native.Mathlib.Nat.{sub-zero}
-use native.Mathlib.Omega.{arith}
-use borrow.Author.Rules.{rules}
 use Rattle.polygon.specs.Ears.{area_term, area}
 use Rattle.lists.specs.Loops.{run}
 use Rattle.polygon.specs.Memo.{xy}
-use Rattle.lists.proofs.Loops.{run_go, run_end}
 use Rattle.polygon.proofs.ears.area_of.Given as goal
 
 abbrev pub invariant-loop-i : goal.invariant-loop-i

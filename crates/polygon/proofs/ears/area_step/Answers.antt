@@ -1,6 +1,5 @@
 use native.Mathlib.Nat.{mod-lt, lt_of_lt_of_le}
 use native.Mathlib.Omega.{arith}
-use borrow.Author.Rules.{rules}
 use Rattle.polygon.specs.Ears.{area_term}
 use Rattle.polygon.proofs.ears.area_step.Goals as goal
 

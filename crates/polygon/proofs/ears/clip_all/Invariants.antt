@@ -1,16 +1,10 @@
-use mathlib.Core.List.{List, [], ◌∷◌, map}
-use mathlib.Core.Logic.{⊎_elim}
-use mathlib.Core.Path.{◌≡◌, refl, sym, ap, ◌∙◌}
-use Prim.Native.Nat.{ℕ, ◌+◌, ◌-◌, ◌*◌, ◌≤◌, ◌<◌}
-use native.Mathlib.Nat.{lt_of_le_of_lt, mul-le-mul}
-use native.Mathlib.Omega.{arith}
-use lib.Dec.{lit<}
+use mathlib.Core.List.{map}
+use mathlib.Core.Path.{◌≡◌}
+use Prim.Native.Nat.{◌+◌, ◌*◌}
 use lib.ListN.{length, take}
-use lib.Seq.{sets, length-take-le}
-use Rattle.polygon.specs.Ears.{Tri, flat, turn, fan, clip, corner, remove}
+use lib.Seq.{sets}
+use Rattle.polygon.specs.Ears.{flat, turn, clip}
 use Rattle.polygon.specs.Memo.{xy, Held}
-use Rattle.polygon.proofs.Lists.{clip_write, clip_out, clip_short, clip_none}
-use Rattle.polygon.proofs.Turns.{searched_order, held_turn}
 use Rattle.polygon.proofs.ears.clip_all.Given as goal
 
 abbrev pub invariant-loop-turns : goal.invariant-loop-turns

@@ -3,7 +3,6 @@ use Prim.Native.Nat.{◌*◌, ◌≤◌}
 use native.Mathlib.Omega.{arith}
 use lib.Ieee.{Float, lt}
 use lib.ListN.{length}
-use borrow.Author.Rules.{rules}
 use Rattle.polygon.specs.Ears.{+0, is_reversed}
 use Rattle.polygon.proofs.Turns.{held_start}
 use Rattle.polygon.proofs.Whole.{whole}
@@ -11,7 +10,7 @@ use Rattle.polygon.proofs.ears.ear_clip.Goals as goal
 
 pub clip_all-requires : goal.clip_all-requires
 clip_all-requires c =
-    let h : c.args.n * 2 ≤ length c.start.new.0 = omega (arith, c.start.auto.0) in (c.requires.0, h, held_start _ _ _ _ h c.start.ensures)
+    let h : c.args.n * 2 ≤ length c.start.new.w = omega (arith, c.start.auto.w) in (c.requires.0, h, held_start _ _ _ _ h c.start.ensures)
 
 pub returns : goal.returns
 unfolding is_reversed

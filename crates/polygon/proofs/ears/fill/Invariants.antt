@@ -1,10 +1,7 @@
-use mathlib.Core.Path.{◌≡◌, refl, ◌∙◌}
-use Prim.Native.Nat.{ℕ, ◌-◌, ◌≤◌, ◌<◌}
-use native.Mathlib.Omega.{arith}
+use mathlib.Core.Path.{◌≡◌}
+use Prim.Native.Nat.{◌-◌, ◌≤◌}
 use lib.ListN.{length}
 use Rattle.lists.specs.Parts.{Full}
-use Rattle.lists.proofs.Loops.{full_go}
-use borrow.Author.Rules.{rules}
 use Rattle.polygon.proofs.ears.fill.Given as goal
 
 abbrev pub invariant-loop-i : goal.invariant-loop-i

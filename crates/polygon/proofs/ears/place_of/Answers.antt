@@ -1,5 +1,4 @@
 use native.Mathlib.Omega.{arith}
-use borrow.Author.Rules.{rules}
 use Rattle.polygon.specs.Ears.{place}
 use Rattle.polygon.proofs.ears.place_of.Goals as goal
 

@@ -1,11 +1,5 @@
-use mathlib.Core.List.{map}
-use mathlib.Core.Path.{◌≡◌, refl, sym, ◌∙◌}
-use Prim.Native.Nat.{◌+◌, ◌-◌, ◌*◌, ◌≤◌}
+use mathlib.Core.Path.{refl, sym, ◌∙◌}
 use native.Mathlib.Omega.{arith}
-use lib.ListN.{length, get_or, drop}
-use lib.Seq.{sets}
-use borrow.Author.Rules.{rules}
-use Rattle.polygon.specs.Ears.{flat, turn, fan, fan_from}
 use Rattle.polygon.proofs.Lists.{fan_start, fan_write, fan_written}
 use Rattle.polygon.proofs.ears.put_fan.Goals as goal
 
@@ -29,7 +23,7 @@ loop-k-smaller c = omega arith
 
 pub loop-k-preserved : goal.loop-k-preserved
 loop-k-preserved c =
-    (omega arith, omega arith, omega arith, c.put_tri.auto.0 ∙ c.loop-k.invariant.3, rw (c.put_tri.ensures, c.get-a.ensures, c.get.ensures, c.get-in-loop-k.ensures) (fan_write c.args.rev c.loop-k.out c.loop-k.at c.args.idx.now c.loop-k.k c.loop-k-test.true ∙ c.loop-k.invariant.4))
+    (omega arith, omega arith, omega arith, c.put_tri.auto.out ∙ c.loop-k.invariant.3, rw (c.put_tri.ensures, c.get-a.ensures, c.get.ensures, c.get-in-loop-k.ensures) (fan_write c.args.rev c.loop-k.out c.loop-k.at c.args.idx.now c.loop-k.k c.loop-k-test.true ∙ c.loop-k.invariant.4))
 
 pub shape_of-out : goal.shape_of-out
 shape_of-out c = c.loop-k.invariant.3

@@ -1,12 +1,9 @@
 use mathlib.Core.List.{map}
-use mathlib.Core.Path.{◌≡◌, refl, sym, ◌∙◌}
+use mathlib.Core.Path.{◌≡◌}
 use Prim.Native.Nat.{◌+◌, ◌-◌, ◌*◌, ◌≤◌}
-use native.Mathlib.Omega.{arith}
 use lib.ListN.{length, get_or, drop}
 use lib.Seq.{sets}
-use borrow.Author.Rules.{rules}
 use Rattle.polygon.specs.Ears.{flat, turn, fan, fan_from}
-use Rattle.polygon.proofs.Lists.{fan_start, fan_write, fan_written}
 use Rattle.polygon.proofs.ears.put_fan.Given as goal
 
 abbrev pub invariant-loop-k : goal.invariant-loop-k

@@ -1,13 +1,10 @@
 use mathlib.Core.List.{List}
-use mathlib.Core.Path.{◌≡◌, refl, sym, ap, ◌∙◌}
-use Prim.Native.Nat.{ℕ, ◌-◌, ◌≤◌}
+use mathlib.Core.Path.{refl, sym, ap, ◌∙◌}
+use Prim.Native.Nat.{ℕ}
 use native.Mathlib.Nat.{sub-zero}
 use native.Mathlib.Omega.{arith}
-use lib.ListN.{length, take}
-use lib.Seq.{sets}
-use borrow.Author.Rules.{rules}
-use Rattle.polygon.specs.Ears.{place, order}
-use Rattle.lists.specs.Loops.{tab}
+use lib.ListN.{take}
+use Rattle.polygon.specs.Ears.{order}
 use Rattle.polygon.proofs.Count.{length_order}
 use Rattle.lists.proofs.Loops.{tab_go, tab_end}
 use Rattle.lists.proofs.Stores.{take_sets}
@@ -25,7 +22,7 @@ loop-i-smaller c = omega arith
 
 pub loop-i-preserved : goal.loop-i-preserved
 loop-i-preserved c =
-    (omega arith, c.put.auto.0 ∙ c.loop-i.invariant.1, rw (c.put.ensures, c.place_of.ensures) (sym (tab_go _ _ _ _ c.loop-i-test.true) ∙ c.loop-i.invariant.2))
+    (omega arith, c.put.auto.table ∙ c.loop-i.invariant.1, rw (c.put.ensures, c.place_of.ensures) (sym (tab_go _ _ _ _ c.loop-i-test.true) ∙ c.loop-i.invariant.2))
 
 pub shape_of-w : goal.shape_of-w
 shape_of-w c = c.loop-i.invariant.1

@@ -1,16 +1,9 @@
-use mathlib.Core.List.{List}
-use mathlib.Core.Path.{◌≡◌, refl, sym, ap, ◌∙◌}
-use Prim.Native.Nat.{ℕ, ◌-◌, ◌≤◌}
-use native.Mathlib.Nat.{sub-zero}
-use native.Mathlib.Omega.{arith}
-use lib.ListN.{length, take}
+use mathlib.Core.Path.{◌≡◌}
+use Prim.Native.Nat.{◌-◌, ◌≤◌}
+use lib.ListN.{length}
 use lib.Seq.{sets}
-use borrow.Author.Rules.{rules}
 use Rattle.polygon.specs.Ears.{place, order}
 use Rattle.lists.specs.Loops.{tab}
-use Rattle.polygon.proofs.Count.{length_order}
-use Rattle.lists.proofs.Loops.{tab_go, tab_end}
-use Rattle.lists.proofs.Stores.{take_sets}
 use Rattle.polygon.proofs.ears.set_order.Given as goal
 
 abbrev pub invariant-loop-i : goal.invariant-loop-i

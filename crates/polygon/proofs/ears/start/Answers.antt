@@ -2,7 +2,6 @@ use mathlib.Core.Path.{refl}
 use Prim.Native.Nat.{◌*◌, ◌-◌, ◌≤◌}
 use native.Mathlib.Omega.{arith}
 use lib.ListN.{length}
-use borrow.Author.Rules.{rules}
 use borrow.Rule.Slice.PartMut.{put_mid, same_len_mid}
 use Rattle.polygon.proofs.Turns.{fresh_start}
 use Rattle.polygon.proofs.ears.start.Goals as goal
@@ -10,7 +9,7 @@ use Rattle.polygon.proofs.ears.start.Goals as goal
 pub returns : goal.returns
 returns c =
     let n = c.args.n in
-    let w = c.set_order.new.0 in
-    let ones = c.fill.new.0 in
-    let h : n * 2 ≤ length w = omega (arith, c.set_order.auto.0) in
-    fresh_start n c.args.rev w ones c.fill-2.new.0 h c.set_order.ensures (n * 2) refl c.fill.auto.0 c.fill.ensures (put_mid n (n * 2 - n) w ones) refl (same_len_mid n (n * 2 - n) w ones c.fill.auto.0) c.fill-2.auto.0 c.fill-2.ensures
+    let w = c.set_order.new.w in
+    let ones = c.fill.new.s in
+    let h : n * 2 ≤ length w = omega (arith, c.set_order.auto.w) in
+    fresh_start n c.args.rev w ones c.fill-2.new.s h c.set_order.ensures (n * 2) refl c.fill.auto.s c.fill.ensures (put_mid n (n * 2 - n) w ones) refl (same_len_mid n (n * 2 - n) w ones c.fill.auto.s) c.fill-2.auto.s c.fill-2.ensures

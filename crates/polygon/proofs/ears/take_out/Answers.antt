@@ -1,10 +1,9 @@
 use mathlib.Core.List.{List}
-use mathlib.Core.Path.{◌≡◌, refl, sym, ap, ◌∙◌}
-use Prim.Native.Nat.{ℕ, ◌-◌, ◌<◌}
+use mathlib.Core.Path.{refl, sym, ap, ◌∙◌}
+use Prim.Native.Nat.{ℕ, ◌-◌}
 use native.Mathlib.Omega.{arith}
 use lib.ListN.{length, take, length-set}
-use borrow.Author.Rules.{rules}
-use Rattle.polygon.proofs.Lists.{shift, shift_go, shift_end, shift_take}
+use Rattle.polygon.proofs.Lists.{shift_go, shift_end, shift_take}
 use Rattle.polygon.proofs.ears.take_out.Goals as goal
 
 pub loop-k-init : goal.loop-k-init

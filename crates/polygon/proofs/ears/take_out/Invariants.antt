@@ -1,10 +1,7 @@
-use mathlib.Core.List.{List}
-use mathlib.Core.Path.{◌≡◌, refl, sym, ap, ◌∙◌}
-use Prim.Native.Nat.{ℕ, ◌-◌, ◌<◌}
-use native.Mathlib.Omega.{arith}
-use lib.ListN.{length, take, length-set}
-use borrow.Author.Rules.{rules}
-use Rattle.polygon.proofs.Lists.{shift, shift_go, shift_end, shift_take}
+use mathlib.Core.Path.{◌≡◌}
+use Prim.Native.Nat.{◌-◌, ◌<◌}
+use lib.ListN.{length}
+use Rattle.polygon.proofs.Lists.{shift}
 use Rattle.polygon.proofs.ears.take_out.Given as goal
 
 abbrev pub invariant-loop-k : goal.invariant-loop-k

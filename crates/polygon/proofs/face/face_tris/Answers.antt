@@ -3,7 +3,6 @@ use Prim.Native.Nat.{◌*◌}
 use native.Mathlib.Omega.{arith}
 use lib.ListN.{length, take}
 use lib.Seq.{length-take-le}
-use borrow.Author.Rules.{rules}
 use Rattle.polygon.proofs.Count.{face_fan, face_ears}
 use Rattle.polygon.proofs.Whole.{length_pairs, by_pairs}
 use Rattle.polygon.proofs.face.face_tris.Goals as goal

@@ -1,11 +1,9 @@
-use mathlib.Core.Path.{◌≡◌, refl, sym, ◌∙◌}
+use mathlib.Core.Path.{◌≡◌}
 use Prim.Native.Nat.{◌-◌, ◌≤◌}
-use native.Mathlib.Omega.{arith}
 use lib.ListN.{length}
 use lib.Seq.{sets}
-use borrow.Author.Rules.{rules}
 use Rattle.polygon.specs.Ears.{fan, outline, flat}
-use Rattle.polygon.proofs.Triangles.{Rest, outline_start, outline_go, outline_end}
+use Rattle.polygon.proofs.Triangles.{Rest}
 use Rattle.polygon.proofs.face.put_outline_fan.Given as goal
 
 abbrev pub invariant-loop-t : goal.invariant-loop-t

@@ -3,7 +3,6 @@ use Prim.Native.Nat.{◌*◌}
 use native.Mathlib.Omega.{arith}
 use lib.ListN.{take}
 use lib.Seq.{length-take-le}
-use borrow.Author.Rules.{rules}
 use Rattle.lists.proofs.Stores.{tail_sets}
 use Rattle.polygon.specs.Ears.{flat}
 use Rattle.polygon.specs.Face.{face_tris}
@@ -20,4 +19,4 @@ face_tris-requires c =
 
 pub returns : goal.returns
 returns c =
-    tail_sets (flat (face_tris c.args.convex (pairs (take (c.args.n * 2) c.args.plane.now)))) c.args.out.now c.face_tris.new.1.1.1.1.0 c.args.at (omega arith) c.face_tris.ensures
+    tail_sets (flat (face_tris c.args.convex (pairs (take (c.args.n * 2) c.args.plane.now)))) c.args.out.now c.face_tris.new.out c.args.at (omega arith) c.face_tris.ensures

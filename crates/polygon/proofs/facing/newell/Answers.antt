@@ -1,11 +1,5 @@
-use mathlib.Core.List.{◌∷◌}
-use mathlib.Core.Path.{◌≡◌, sym, ◌∙◌}
-use Prim.Native.Nat.{◌-◌, ◌≤◌}
+use mathlib.Core.Path.{sym, ◌∙◌}
 use native.Mathlib.Omega.{arith}
-use lib.ListN.{length, drop}
-use borrow.Author.Rules.{rules}
-use Rattle.polygon.specs.Facing.{newell_from, newell}
-use Rattle.polygon.specs.Points.{spots}
 use Rattle.polygon.proofs.EdgeSums.{newell_none, newell_start, newell_go, newell_end}
 use Rattle.polygon.proofs.facing.newell.Goals as goal
 

@@ -1,12 +1,9 @@
 use mathlib.Core.List.{◌∷◌}
-use mathlib.Core.Path.{◌≡◌, sym, ◌∙◌}
+use mathlib.Core.Path.{◌≡◌}
 use Prim.Native.Nat.{◌-◌, ◌≤◌}
-use native.Mathlib.Omega.{arith}
 use lib.ListN.{length, drop}
-use borrow.Author.Rules.{rules}
 use Rattle.polygon.specs.Facing.{newell_from, newell}
 use Rattle.polygon.specs.Points.{spots}
-use Rattle.polygon.proofs.EdgeSums.{newell_none, newell_start, newell_go, newell_end}
 use Rattle.polygon.proofs.facing.newell.Given as goal
 
 abbrev pub invariant-loop-i : goal.invariant-loop-i

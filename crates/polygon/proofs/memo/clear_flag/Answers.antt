@@ -3,7 +3,6 @@ use Prim.Native.Nat.{◌≤◌}
 use native.Mathlib.Omega.{arith}
 use lib.ListN.{length}
 use lib.Seq.{set_out}
-use borrow.Author.Rules.{rules}
 use Rattle.polygon.specs.Memo.{flags}
 use Rattle.polygon.proofs.Tables.{flag_order, flag_set, flag_kept, length_flags_le}
 use Rattle.polygon.proofs.memo.clear_flag.Goals as goal

@@ -1,11 +1,7 @@
-use mathlib.Core.Path.{◌≡◌, refl, sym, ◌∙◌}
+use mathlib.Core.Path.{◌≡◌}
 use mathlib.Core.Bool.{false}
 use Prim.Native.Nat.{ℕ, ◌-◌, ◌≤◌, ◌<◌}
-use native.Mathlib.Omega.{arith}
-use borrow.Author.Rules.{rules}
-use Rattle.lists.proofs.Searches.{count_step, one_small}
 use Rattle.polygon.specs.Memo.{xy, dot_of, in_way, hits}
-use Rattle.polygon.proofs.Blocks.{not_in_way}
 use Rattle.polygon.proofs.memo.count_near.Given as goal
 
 -- The count is 0 as long as no corner is near, and then none is in the way.

@@ -1,7 +1,6 @@
 use mathlib.Core.Path.{sym, ◌∙◌}
 use Prim.Native.Nat.{ℕ, ◌<◌}
 use native.Mathlib.Omega.{arith}
-use borrow.Author.Rules.{rules}
 use Rattle.polygon.proofs.Turns.{decide_bent, decide_new, decide_blocked, decide_on, decide_from}
 use Rattle.polygon.proofs.memo.decide.Goals as goal
 

@@ -1,13 +1,10 @@
-use mathlib.Core.Path.{◌≡◌, refl, sym, ◌∙◌}
-use Prim.Native.Nat.{◌-◌, ◌≤◌}
+use mathlib.Core.Path.{refl, sym, ◌∙◌}
+use Prim.Native.Nat.{◌≤◌}
 use native.Mathlib.Nat.{sub-zero}
 use native.Mathlib.Omega.{arith}
-use lib.ListN.{length, take}
+use lib.ListN.{length}
 use lib.Seq.{length-take-le}
-use borrow.Author.Rules.{rules}
-use Rattle.polygon.specs.Ears.{is_ear, first_ear}
-use Rattle.lists.specs.Loops.{first}
-use Rattle.polygon.specs.Memo.{xy, Searched}
+use Rattle.polygon.specs.Ears.{first_ear}
 use Rattle.lists.proofs.Loops.{first_go, first_stop, first_end}
 use Rattle.polygon.proofs.Tables.{as_was}
 use Rattle.polygon.proofs.Turns.{searched_ear, searched_tells, searched_sound, searched_then}
@@ -23,7 +20,7 @@ is_ear-requires c =
     let S = c.loop-i.invariant.3 in (c.loop-i-test.true, c.requires.0, c.requires.1, omega arith, searched_tells _ _ _ _ S _ c.requires.0 c.requires.3, searched_sound _ _ _ _ S)
 
 pub shape_of-w-then-is_ear : goal.shape_of-w-then-is_ear
-shape_of-w-then-is_ear c = c.is_ear.auto.1.0 ∙ c.loop-i.invariant.2
+shape_of-w-then-is_ear c = c.is_ear.auto.w ∙ c.loop-i.invariant.2
 
 pub returns-then-is_ear : goal.returns-then-is_ear
 returns-then-is_ear c =
@@ -31,7 +28,7 @@ returns-then-is_ear c =
 
 pub loop-i-preserved : goal.loop-i-preserved
 loop-i-preserved c =
-    let S = c.loop-i.invariant.3 in (omega arith, sym (first_go _ _ _ c.loop-i-test.true (searched_ear _ _ _ _ S _ c.requires.0 _ _ c.is_ear.ensures.0 ∙ c.if-is_ear.false)) ∙ c.loop-i.invariant.1, c.is_ear.auto.1.0 ∙ c.loop-i.invariant.2, searched_then _ _ _ _ S _ c.is_ear.ensures.1)
+    let S = c.loop-i.invariant.3 in (omega arith, sym (first_go _ _ _ c.loop-i-test.true (searched_ear _ _ _ _ S _ c.requires.0 _ _ c.is_ear.ensures.0 ∙ c.if-is_ear.false)) ∙ c.loop-i.invariant.1, c.is_ear.auto.w ∙ c.loop-i.invariant.2, searched_then _ _ _ _ S _ c.is_ear.ensures.1)
 
 pub shape_of-w : goal.shape_of-w
 shape_of-w c = c.loop-i.invariant.2

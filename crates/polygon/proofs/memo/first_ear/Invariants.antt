@@ -1,16 +1,9 @@
-use mathlib.Core.Path.{◌≡◌, refl, sym, ◌∙◌}
+use mathlib.Core.Path.{◌≡◌}
 use Prim.Native.Nat.{◌-◌, ◌≤◌}
-use native.Mathlib.Nat.{sub-zero}
-use native.Mathlib.Omega.{arith}
 use lib.ListN.{length, take}
-use lib.Seq.{length-take-le}
-use borrow.Author.Rules.{rules}
 use Rattle.polygon.specs.Ears.{is_ear, first_ear}
 use Rattle.lists.specs.Loops.{first}
 use Rattle.polygon.specs.Memo.{xy, Searched}
-use Rattle.lists.proofs.Loops.{first_go, first_stop, first_end}
-use Rattle.polygon.proofs.Tables.{as_was}
-use Rattle.polygon.proofs.Turns.{searched_ear, searched_tells, searched_sound, searched_then}
 use Rattle.polygon.proofs.memo.first_ear.Given as goal
 
 abbrev pub invariant-loop-i : goal.invariant-loop-i

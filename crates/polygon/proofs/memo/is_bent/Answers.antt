@@ -1,6 +1,5 @@
 use mathlib.Core.Path.{ap, ◌∙◌}
 use lib.Ieee.{Float, le}
-use borrow.Author.Rules.{rules}
 use Rattle.polygon.specs.Ears.{+0, cross2}
 use Rattle.polygon.specs.Memo.{spot_of}
 use Rattle.polygon.proofs.memo.is_bent.Goals as goal

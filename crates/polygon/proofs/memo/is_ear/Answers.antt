@@ -1,6 +1,5 @@
 use mathlib.Core.Path.{◌∙◌}
 use native.Mathlib.Omega.{arith}
-use borrow.Author.Rules.{rules}
 use Rattle.polygon.proofs.Keep.{known_read}
 use Rattle.polygon.proofs.Turns.{ear_in}
 use Rattle.polygon.proofs.memo.is_ear.Goals as goal

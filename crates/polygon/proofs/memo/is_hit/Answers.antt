@@ -1,5 +1,4 @@
 use mathlib.Core.Path.{ap, ◌∙◌}
-use borrow.Author.Rules.{rules}
 use borrow.Author.Tests.{eq-eqb, ne_eqb}
 use Rattle.polygon.specs.Memo.{hits, in_way}
 use Rattle.polygon.specs.declared.memo.Dot.{Dot}

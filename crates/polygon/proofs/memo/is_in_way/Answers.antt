@@ -1,4 +1,3 @@
-use borrow.Author.Rules.{rules}
 use borrow.Author.Tests.{eq-eqb, ne_eqb}
 use Rattle.polygon.specs.Memo.{in_way}
 use Rattle.polygon.proofs.memo.is_in_way.Goals as goal

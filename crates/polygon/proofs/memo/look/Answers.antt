@@ -1,4 +1,3 @@
-use borrow.Author.Rules.{rules}
 use Rattle.polygon.proofs.Tables.{look_other, look_past, look_there}
 use Rattle.polygon.proofs.memo.look.Goals as goal
 

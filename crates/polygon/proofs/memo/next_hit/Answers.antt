@@ -1,5 +1,4 @@
 use mathlib.Core.Path.{◌∙◌}
-use borrow.Author.Rules.{rules}
 use Rattle.polygon.proofs.Blocks.{first_read}
 use Rattle.polygon.proofs.memo.next_hit.Goals as goal
 

@@ -1,4 +1,3 @@
-use borrow.Author.Rules.{rules}
 use Rattle.polygon.specs.Memo.{xy}
 use Rattle.polygon.proofs.Turns.{others_found, others_back}
 use Rattle.polygon.proofs.memo.other_hit.Goals as goal

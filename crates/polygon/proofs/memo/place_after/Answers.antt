@@ -1,4 +1,3 @@
-use borrow.Author.Rules.{rules}
 use Rattle.lists.proofs.Loops.{on_last, on_more}
 use Rattle.polygon.proofs.memo.place_after.Goals as goal
 

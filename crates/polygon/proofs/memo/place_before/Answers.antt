@@ -1,4 +1,3 @@
-use borrow.Author.Rules.{rules}
 use Rattle.lists.proofs.Loops.{back_zero, back_some}
 use Rattle.polygon.proofs.memo.place_before.Goals as goal
 

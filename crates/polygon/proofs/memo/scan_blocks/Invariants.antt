@@ -1,12 +1,8 @@
-use mathlib.Core.Path.{◌≡◌, refl, sym, ◌∙◌}
-use Prim.Native.Nat.{◌-◌, ◌≤◌}
-use native.Mathlib.Omega.{arith}
+use mathlib.Core.Path.{◌≡◌}
+use Prim.Native.Nat.{◌-◌}
 use lib.ListN.{length}
-use borrow.Author.Rules.{rules}
 use Rattle.lists.specs.Loops.{first}
 use Rattle.polygon.specs.Memo.{xy, dot_of, in_way, hits}
-use Rattle.lists.proofs.Loops.{first_end}
-use Rattle.lists.proofs.Searches.{block_hit, block_past}
 use Rattle.polygon.proofs.memo.scan_blocks.Given as goal
 
 -- What is left to be searched gives what was to be found.

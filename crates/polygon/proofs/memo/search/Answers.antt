@@ -1,6 +1,5 @@
 use mathlib.Core.Path.{refl, ap, ◌∙◌}
 use Prim.Native.Nat.{◌-◌, ◌*◌}
-use borrow.Author.Rules.{rules}
 use borrow.Rule.Slice.PartMut.{put_mid, put_same}
 use Rattle.polygon.proofs.Tables.{flags_part}
 use Rattle.polygon.proofs.Turns.{search_free, search_hit}

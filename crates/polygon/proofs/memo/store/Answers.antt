@@ -1,4 +1,3 @@
-use borrow.Author.Rules.{rules}
 use Rattle.polygon.proofs.Tables.{store_at}
 use Rattle.polygon.proofs.memo.store.Goals as goal
 

@@ -1,4 +1,3 @@
-use borrow.Author.Rules.{rules}
 use Rattle.polygon.proofs.memo.take_word.Goals as goal
 
 pub returns : goal.returns

@@ -1,5 +1,4 @@
 use mathlib.Core.Path.{sym}
-use borrow.Author.Rules.{rules}
 use Rattle.polygon.proofs.Projection.{entry_last}
 use Rattle.polygon.proofs.plane.entry_of.Goals as goal
 

@@ -1,4 +1,3 @@
-use borrow.Author.Rules.{rules}
 use Rattle.polygon.specs.Plane.{handed}
 use Rattle.polygon.proofs.plane.handed_of.Goals as goal
 

@@ -1,6 +1,5 @@
 use mathlib.Core.Path.{sym}
 use lib.Seq.{set_out}
-use borrow.Author.Rules.{rules}
 use Rattle.polygon.proofs.plane.put_float.Goals as goal
 
 pub returns-else-k-out : goal.returns-else-k-out

@@ -1,5 +1,4 @@
 use native.Mathlib.Numerals.{add-one}
-use borrow.Author.Rules.{rules}
 use Rattle.polygon.specs.Plane.{flat2, projected}
 use Rattle.polygon.proofs.plane.put_projected.Goals as goal
 

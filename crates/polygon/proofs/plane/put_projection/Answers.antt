@@ -1,11 +1,6 @@
-use mathlib.Core.List.{map}
-use mathlib.Core.Path.{◌≡◌, refl, sym, ◌∙◌}
-use Prim.Native.Nat.{◌≤◌, ◌-◌, ◌*◌}
-use lib.ListN.{length, drop}
-use lib.Seq.{sets}
+use mathlib.Core.Path.{refl, sym, ◌∙◌}
 use borrow.Author.Rules.{rules}
-use Rattle.polygon.specs.Plane.{flat2, projected}
-use Rattle.polygon.specs.Points.{spots}
+use Rattle.polygon.specs.Plane.{projected}
 use Rattle.polygon.proofs.Projection.{projected_go, projected_end}
 use Rattle.polygon.proofs.plane.put_projection.Goals as goal
 
@@ -17,7 +12,7 @@ spot-p-requires c = c.point_number.ensures.1
 
 pub loop-i-preserved : goal.loop-i-preserved
 loop-i-preserved c =
-    (search rules, c.put_projected.auto.0 ∙ c.loop-i.invariant.1, rw (c.put_projected.ensures, c.spot-p.ensures, c.point_number.ensures.0) (projected_go _ _ _ _ _ c.loop-i-test.true ∙ c.loop-i.invariant.2))
+    (search rules, c.put_projected.auto.out ∙ c.loop-i.invariant.1, rw (c.put_projected.ensures, c.spot-p.ensures, c.point_number.ensures.0) (projected_go _ _ _ _ _ c.loop-i-test.true ∙ c.loop-i.invariant.2))
 
 pub shape_of-out : goal.shape_of-out
 shape_of-out c = c.loop-i.invariant.1

@@ -1,12 +1,10 @@
 use mathlib.Core.List.{map}
-use mathlib.Core.Path.{◌≡◌, refl, sym, ◌∙◌}
+use mathlib.Core.Path.{◌≡◌}
 use Prim.Native.Nat.{◌≤◌, ◌-◌, ◌*◌}
 use lib.ListN.{length, drop}
 use lib.Seq.{sets}
-use borrow.Author.Rules.{rules}
 use Rattle.polygon.specs.Plane.{flat2, projected}
 use Rattle.polygon.specs.Points.{spots}
-use Rattle.polygon.proofs.Projection.{projected_go, projected_end}
 use Rattle.polygon.proofs.plane.put_projection.Given as goal
 
 abbrev pub invariant-loop-i : goal.invariant-loop-i

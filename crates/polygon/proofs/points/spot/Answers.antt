@@ -1,4 +1,3 @@
-use borrow.Author.Rules.{rules}
 use Rattle.polygon.specs.Points.{spot}
 use Rattle.polygon.proofs.points.spot.Goals as goal
 

@@ -1,5 +1,4 @@
 use Rattle.primitives.specs.Primitives.{primitive_count}
-use borrow.Author.Rules.{rules}
 use Rattle.primitives.proofs.places.count_in.Goals as goal
 
 pub returns-in-Triangles : goal.returns-in-Triangles

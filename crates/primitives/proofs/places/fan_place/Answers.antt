@@ -1,6 +1,5 @@
 use native.Mathlib.Omega.{arith}
 use Rattle.primitives.proofs.Counting.{fan_first, fan_next}
-use borrow.Author.Rules.{rules}
 use Rattle.primitives.proofs.places.fan_place.Goals as goal
 
 pub returns-then-i-eq0 : goal.returns-then-i-eq0

@@ -1,14 +1,9 @@
-use Prim.Native.Nat.{◌≤◌, ◌-◌}
-use mathlib.Core.Path.{◌≡◌}
 use native.Mathlib.Omega.{arith}
-use lib.ListN.{drop}
 use Rattle.bits.specs.Bits.{entries}
-use Rattle.block.specs.Runs.{all_below}
 use Rattle.block.proofs.RunLaws.{below_not, below_step, below_all}
 use Rattle.primitives.specs.Primitives.{primitive_of}
 use Rattle.primitives.proofs.Closed.{primitive_long}
 use Rattle.primitives.proofs.Counting.{entry_at}
-use borrow.Author.Rules.{rules}
 use Rattle.primitives.proofs.places.is_present.Goals as goal
 
 pub place_of-requires : goal.place_of-requires

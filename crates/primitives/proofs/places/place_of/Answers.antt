@@ -2,7 +2,6 @@ use Rattle.primitives.specs.Kept.{width_of}
 use native.Mathlib.Omega.{arith}
 use Rattle.primitives.proofs.Counting.{place_three, place_four}
 use Rattle.primitives.proofs.Closed.{width_four}
-use borrow.Author.Rules.{rules}
 use Rattle.primitives.proofs.places.place_of.Goals as goal
 
 pub overflow_mul-result : goal.overflow_mul-result

@@ -1,5 +1,4 @@
 use Rattle.primitives.proofs.Counting.{strip_turn, strip_third}
-use borrow.Author.Rules.{rules}
 use Rattle.primitives.proofs.places.strip_place.Goals as goal
 
 pub returns-then-i-lt2 : goal.returns-then-i-lt2

@@ -1,5 +1,4 @@
 use Rattle.primitives.specs.Kept.{width_of}
-use borrow.Author.Rules.{rules}
 use Rattle.primitives.proofs.places.width_of.Goals as goal
 
 pub returns-in-Triangles : goal.returns-in-Triangles

@@ -1,5 +1,4 @@
 use Rattle.primitives.proofs.Meeting.{rest_part, rest_past}
-use borrow.Author.Rules.{rules}
 use Rattle.primitives.proofs.stretches.rest_at.Goals as goal
 
 pub returns-then-start-n : goal.returns-then-start-n

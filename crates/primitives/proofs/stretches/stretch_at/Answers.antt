@@ -1,5 +1,4 @@
 use Rattle.primitives.proofs.Meeting.{rest_quads, fan_part, strip_part}
-use borrow.Author.Rules.{rules}
 use Rattle.primitives.proofs.stretches.stretch_at.Goals as goal
 
 pub returns-in-Triangles : goal.returns-in-Triangles

@@ -1,13 +1,10 @@
-use Prim.Native.Nat.{◌+◌, ◌-◌, ◌≤◌}
-use mathlib.Core.Path.{◌≡◌, ap}
+use mathlib.Core.Path.{ap}
 use native.Mathlib.Omega.{arith}
 use lib.ListN.{length}
 use Rattle.bits.specs.Bits.{entries}
 use Rattle.primitives.specs.Primitives.{primitive_of}
-use Rattle.primitives.specs.Kept.{kept_over, kept_primitives}
-use Rattle.primitives.specs.Stretches.{stretches_left}
+use Rattle.primitives.specs.Kept.{kept_primitives}
 use Rattle.primitives.proofs.Meeting.{kept_start, count_step, count_over}
-use borrow.Author.Rules.{rules}
 use Rattle.primitives.proofs.totals.kept_count.Goals as goal
 
 pub loop-start-init : goal.loop-start-init
@@ -25,8 +22,8 @@ loop-start-smaller c = omega (arith, c.next_start-start.ensures, c.loop-start-te
 
 pub loop-start-preserved : goal.loop-start-preserved
 loop-start-preserved c =
-    (omega (arith, c.next_start-start.ensures, c.stretch_at-part.ensures.within, c.loop-start-test.true), omega (arith, c.next_start-start.ensures, c.kept_in-kept.ensures.1, c.loop-start.invariant.1), count_step (λ r. primitive_of c.args.g r.items) c.args.points c.args.g c.args.list.now c.loop-start.start c.loop-start.auto c.loop-start.invariant.2 c.stretch_at-part.result.now c.next_start-start.ensures c.loop-start-test.true c.stretch_at-part.ensures c.kept_in-kept.ensures.0)
+    (omega (arith, c.next_start-start.ensures, c.stretch_at-part.ensures.within, c.loop-start-test.true), omega (arith, c.next_start-start.ensures, c.kept_in-kept.ensures.1, c.loop-start.invariant.1), count_step (λ r. primitive_of c.args.g r.items) c.args.points c.args.g c.args.list.now c.loop-start.start c.loop-start.kept c.loop-start.invariant.2 c.stretch_at-part.result.now c.next_start-start.ensures c.loop-start-test.true c.stretch_at-part.ensures c.kept_in-kept.ensures.0)
 
 pub returns : goal.returns
 returns c =
-    (count_over (λ r. primitive_of c.args.g r.items) c.args.points c.args.g c.args.list.now c.loop-start.start c.loop-start.auto c.loop-start.invariant.2 c.loop-start-test.false, omega (arith, c.loop-start.invariant))
+    (count_over (λ r. primitive_of c.args.g r.items) c.args.points c.args.g c.args.list.now c.loop-start.start c.loop-start.kept c.loop-start.invariant.2 c.loop-start-test.false, omega (arith, c.loop-start.invariant))

@@ -1,13 +1,10 @@
 use Prim.Native.Nat.{◌+◌, ◌-◌, ◌≤◌}
-use mathlib.Core.Path.{◌≡◌, ap}
-use native.Mathlib.Omega.{arith}
+use mathlib.Core.Path.{◌≡◌}
 use lib.ListN.{length}
 use Rattle.bits.specs.Bits.{entries}
 use Rattle.primitives.specs.Primitives.{primitive_of}
 use Rattle.primitives.specs.Kept.{kept_over, kept_primitives}
 use Rattle.primitives.specs.Stretches.{stretches_left}
-use Rattle.primitives.proofs.Meeting.{kept_start, count_step, count_over}
-use borrow.Author.Rules.{rules}
 use Rattle.primitives.proofs.totals.kept_count.Given as goal
 
 abbrev pub invariant-loop-start : goal.invariant-loop-start

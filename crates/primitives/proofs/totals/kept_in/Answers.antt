@@ -1,15 +1,13 @@
-use Prim.Native.Nat.{◌+◌, ◌-◌, ◌/◌, ◌≤◌, ◌<◌}
-use mathlib.Core.Logic.{⊎_elim}
-use mathlib.Core.Path.{◌≡◌, sym, ap, ◌∙◌}
+use Prim.Native.Nat.{◌/◌, ◌<◌}
+use mathlib.Core.Path.{sym, ap, ◌∙◌}
 use native.Mathlib.Omega.{arith}
 use lib.ListN.{length}
 use Rattle.bits.specs.Bits.{entries}
 use Rattle.bits.proofs.Entries.{entries_length}
 use Rattle.primitives.specs.Primitives.{primitive_count, primitive_of}
-use Rattle.primitives.specs.Kept.{kept_by}
-use Rattle.primitives.proofs.Counting.{count_most, kept_left, left_first, count_kept, count_lost, count_all}
-use borrow.Author.Rules.{rules}
+use Rattle.primitives.proofs.Counting.{count_most, left_first, count_kept, count_lost, count_all}
 use Rattle.primitives.proofs.totals.kept_in.Goals as goal
+use Rattle.primitives.proofs.totals.kept_in.Goals.{then-is_present, else-is_present}
 
 pub loop-k-init : goal.loop-k-init
 loop-k-init c =
@@ -20,8 +18,18 @@ is_present-requires c = omega (arith, c.loop-k-test.true, c.count_in-n.ensures, 
 
 pub loop-k-preserved : goal.loop-k-preserved
 loop-k-preserved c =
-    let es = entries c.args.part.now in let l = entries_length c.args.part.now in let t : c.loop-k.k < primitive_count c.args.g (length es) = rw l (omega (arith, c.loop-k-test.true, c.count_in-n.ensures)) in ⊎_elim (λ w. (omega arith, omega (arith, c.loop-k.invariant.1, w.1), rw w.1 (count_kept (primitive_of c.args.g es) c.args.points c.args.g es c.loop-k.k c.loop-k.auto c.loop-k.invariant.2 t (sym c.is_present.ensures ∙ w.0.taken)))) (λ w. (omega arith, omega (arith, c.loop-k.invariant.1, w.1), rw w.1 (count_lost (primitive_of c.args.g es) c.args.points c.args.g es c.loop-k.k c.loop-k.auto c.loop-k.invariant.2 t (sym c.is_present.ensures ∙ w.0.left)))) c.if-is_present.branch
+    let es = entries c.args.part.now in
+    let l = entries_length c.args.part.now in
+    let t : c.loop-k.k < primitive_count c.args.g (length es) = rw l (omega (arith, c.loop-k-test.true, c.count_in-n.ensures)) in
+    elim c.if-is_present.branch [
+      | then-is_present w ↦
+          (omega arith, omega (arith, c.loop-k.invariant.1, w.kept-is), rw w.kept-is (count_kept (primitive_of c.args.g es) c.args.points c.args.g es c.loop-k.k c.loop-k.kept c.loop-k.invariant.2 t (sym c.is_present.ensures ∙ w.if-is_present.true)))
+      | else-is_present w ↦
+          (omega arith, omega (arith, c.loop-k.invariant.1, w.kept-is), rw w.kept-is (count_lost (primitive_of c.args.g es) c.args.points c.args.g es c.loop-k.k c.loop-k.kept c.loop-k.invariant.2 t (sym c.is_present.ensures ∙ w.if-is_present.false)))
+    ]
 
 pub returns : goal.returns
 returns c =
-    let es = entries c.args.part.now in let l = entries_length c.args.part.now in (count_all (primitive_of c.args.g es) c.args.points c.args.g es c.loop-k.k c.loop-k.auto c.loop-k.invariant.2 (rw l (omega (arith, c.loop-k-test.false, c.count_in-n.ensures))), omega (arith, c.loop-k.invariant, c.count_in-n.ensures, count_most c.args.g (length c.args.part.now / 4)))
+    let es = entries c.args.part.now in
+    let l = entries_length c.args.part.now in
+    (count_all (primitive_of c.args.g es) c.args.points c.args.g es c.loop-k.k c.loop-k.kept c.loop-k.invariant.2 (rw l (omega (arith, c.loop-k-test.false, c.count_in-n.ensures))), omega (arith, c.loop-k.invariant, c.count_in-n.ensures, count_most c.args.g (length c.args.part.now / 4)))

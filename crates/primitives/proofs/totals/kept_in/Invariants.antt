@@ -1,14 +1,10 @@
-use Prim.Native.Nat.{◌+◌, ◌-◌, ◌/◌, ◌≤◌, ◌<◌}
-use mathlib.Core.Logic.{⊎_elim}
-use mathlib.Core.Path.{◌≡◌, sym, ap, ◌∙◌}
-use native.Mathlib.Omega.{arith}
+use Prim.Native.Nat.{◌+◌, ◌-◌, ◌≤◌}
+use mathlib.Core.Path.{◌≡◌}
 use lib.ListN.{length}
 use Rattle.bits.specs.Bits.{entries}
-use Rattle.bits.proofs.Entries.{entries_length}
-use Rattle.primitives.specs.Primitives.{primitive_count, primitive_of}
+use Rattle.primitives.specs.Primitives.{primitive_of}
 use Rattle.primitives.specs.Kept.{kept_by}
-use Rattle.primitives.proofs.Counting.{count_most, kept_left, left_first, count_kept, count_lost, count_all}
-use borrow.Author.Rules.{rules}
+use Rattle.primitives.proofs.Counting.{kept_left}
 use Rattle.primitives.proofs.totals.kept_in.Given as goal
 
 abbrev pub invariant-loop-k : goal.invariant-loop-k

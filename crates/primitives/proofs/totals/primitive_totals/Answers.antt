@@ -1,7 +1,6 @@
 use native.Mathlib.Omega.{arith}
 use Rattle.bits.specs.Bits.{entries}
 use Rattle.primitives.proofs.Closed.{width_three, few_corners, few_triangles, totals_are}
-use borrow.Author.Rules.{rules}
 use Rattle.primitives.proofs.totals.primitive_totals.Goals as goal
 
 pub overflow_mul-result : goal.overflow_mul-result

@@ -20,11 +20,11 @@ put_corners-requires c =
 
 pub put_places-requires : goal.put_places-requires
 put_places-requires c =
-    let e = sym c.is_present.ensures ∙ c.if-is_present.true in let F = c.requires in (rw c.work-1.given F.room, F.corners e, rw (← (entries_length c.args.part.now)) F.there, omega (arith, F.places, entries_length c.args.part.now))
+    let e = sym c.is_present.ensures ∙ c.if-is_present.true in let F = c.requires in (rw c.put_corners.auto.work F.room, F.corners e, rw (← (entries_length c.args.part.now)) F.there, omega (arith, F.places, entries_length c.args.part.now))
 
 pub put_row-requires : goal.put_row-requires
 put_row-requires c =
-    let e = sym c.is_present.ensures ∙ c.if-is_present.true in let F = c.requires in (rw (c.work-then-is_present-1.given, c.work-1.given) F.room, F.face e, omega (arith, F.face e, F.room.many), omega (arith, F.corners e, F.room.few, c.width_of.ensures))
+    let e = sym c.is_present.ensures ∙ c.if-is_present.true in let F = c.requires in (rw (c.put_places.auto.work, c.put_corners.auto.work) F.room, F.face e, omega (arith, F.face e, F.room.many), omega (arith, F.corners e, F.room.few, c.width_of.ensures))
 
 pub overflow_add-result : goal.overflow_add-result
 overflow_add-result c =

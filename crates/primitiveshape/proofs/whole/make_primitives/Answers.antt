@@ -37,14 +37,14 @@ build-requires c =
 
 pub shape_of-work : goal.shape_of-work
 shape_of-work c =
-    c.build.auto.1.1.1.1.1.1.1.1.1.1.0 ∙ c.texture_where.ensures.kept.len ∙ c.put_tables.ensures.len
+    c.build.auto.work ∙ c.texture_where.ensures.kept.len ∙ c.put_tables.ensures.len
 
 pub shape_of-floats : goal.shape_of-floats
 shape_of-floats c =
-    c.build.auto.1.1.1.1.1.1.1.1.1.1.1.0 ∙ c.put_tables.ensures.size
+    c.build.auto.floats ∙ c.put_tables.ensures.size
 
 pub returns : goal.returns
 returns c =
     let A = c.requires.0 in
     let e = plan_by A (sized A) c.requires.1 c.plan_of-t.ensures in
-    shaped A (sized A).sizes (counted A (sized A) e) c.put_tables.ensures c.texture_where.ensures (shape c.args.missing c.args.g _ A.accepted.header A.accepted.settings c.listed_shared-shared.ensures c.list_part-coord.ensures A.kind) (mesh_is c.args.missing c.args.g _ A.accepted.header A.accepted.settings c.listed_shared-shared.ensures c.list_part-coord.ensures A.kind A.accepted.taken.attributes_are_lem (points_low A)) c.build.ensures
+    shaped A (sized A).sizes (counted A (sized A) e) c.put_tables.ensures c.texture_where.ensures (shape c.args.missing c.args.g _ A.accepted.header A.accepted.settings c.listed_shared-shared.ensures c.list_part-coord.ensures A.kind) (mesh_is c.args.missing c.args.g _ A.accepted.header A.accepted.settings c.listed_shared-shared.ensures c.list_part-coord.ensures A.kind A.accepted.taken.attributes_are (points_low A)) c.build.ensures

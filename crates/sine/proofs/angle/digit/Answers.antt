@@ -5,7 +5,6 @@ use native.Mathlib.Omega.{arith}
 use Rattle.series.specs.Series.{half_turn}
 use Rattle.math.specs.Digit.{Bit}
 use Rattle.lists.proofs.Numbers.{lt_or_le}
-use borrow.Author.Rules.{rules}
 use Rattle.sine.proofs.angle.digit.Goals as goal
 
 top_bit : (r : ℕ) → r < 2 * half_turn → Bit r half_turn ((r + (9223372036854775808 - half_turn)) / 9223372036854775808)

@@ -1,6 +1,5 @@
-use mathlib.Core.Path.{◌≡◌, ◌∙◌}
+use mathlib.Core.Path.{◌∙◌}
 use native.Mathlib.Omega.{arith}
-use borrow.Author.Rules.{rules}
 use Rattle.sine.proofs.Division.{parts_none, parts_some}
 use Rattle.sine.proofs.angle.parts.Goals as goal
 

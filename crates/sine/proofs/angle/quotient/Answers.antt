@@ -1,7 +1,5 @@
-use Prim.Native.Nat.{◌-◌}
 use native.Mathlib.Omega.{arith}
-use Rattle.sine.proofs.Division.{Div, div_none, div_start, div_next, div_end, digit_fits, digit_low}
-use borrow.Author.Rules.{rules}
+use Rattle.sine.proofs.Division.{div_none, div_start, div_next, div_end, digit_fits, digit_low}
 use Rattle.sine.proofs.angle.quotient.Goals as goal
 
 pub returns-then-n-lt37 : goal.returns-then-n-lt37

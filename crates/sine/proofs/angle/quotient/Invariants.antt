@@ -1,7 +1,5 @@
 use Prim.Native.Nat.{◌-◌}
-use native.Mathlib.Omega.{arith}
-use Rattle.sine.proofs.Division.{Div, div_none, div_start, div_next, div_end, digit_fits, digit_low}
-use borrow.Author.Rules.{rules}
+use Rattle.sine.proofs.Division.{Div}
 use Rattle.sine.proofs.angle.quotient.Given as goal
 
 abbrev pub invariant-loop-i : goal.invariant-loop-i

@@ -1,6 +1,5 @@
 use native.Mathlib.Omega.{arith}
 use Rattle.sine.proofs.Division.{left_le, right_le}
-use borrow.Author.Rules.{rules}
 use Rattle.sine.proofs.whole.blended.Goals as goal
 
 pub overflow_mul-result : goal.overflow_mul-result

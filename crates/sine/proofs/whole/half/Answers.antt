@@ -1,10 +1,10 @@
-use mathlib.Core.Path.{◌≡◌, sym, ap, ◌∙◌, subst}
+use mathlib.Core.Path.{◌≡◌, ap, ◌∙◌}
 use Prim.Native.Nat.{ℕ, ◌+◌, ◌≤◌}
 use native.Mathlib.Omega.{arith}
 use Rattle.series.specs.Series.{entry_of}
 use Rattle.series.specs.Value.{blend}
 use Rattle.series.proofs.Arc.{sin_le, cos_le}
-use Rattle.sine.specs.SinCos.{fraction_of, half_of}
+use Rattle.sine.specs.SinCos.{half_of}
 use Rattle.sine.proofs.Halves.{sin_few, cos_few}
 use borrow.Author.Rules.{rules}
 use Rattle.sine.proofs.whole.half.Goals as goal

@@ -1,7 +1,6 @@
 use Prim.Native.Nat.{ℕ, ◌-◌, ◌%◌, ◌≤◌, ◌<◌}
 use native.Mathlib.Omega.{arith}
 use Rattle.sine.proofs.Promises.{inside_low, inside_high}
-use borrow.Author.Rules.{rules}
 use Rattle.sine.proofs.whole.inside.Goals as goal
 
 -- `sine::inside` meets its contract. Assumes nothing.

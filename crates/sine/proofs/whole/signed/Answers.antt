@@ -1,4 +1,3 @@
-use borrow.Author.Rules.{rules}
 use Rattle.sine.proofs.whole.signed.Goals as goal
 
 -- `sine::signed` meets its contract. Assumes nothing.

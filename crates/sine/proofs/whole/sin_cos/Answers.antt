@@ -5,7 +5,6 @@ use lib.Dec.{T}
 use lib.Ieee.{Float, binary32, fits}
 use Rattle.sine.specs.SinCos.{sin_cos_of}
 use Rattle.sine.proofs.Promises.{in_range_lem, out_of_range, none_in_range, plain}
-use borrow.Author.Rules.{rules}
 use Rattle.sine.proofs.whole.sin_cos.Goals as goal
 
 -- `sine::sin_cos` meets its contract. Assumes nothing.

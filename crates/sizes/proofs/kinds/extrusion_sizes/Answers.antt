@@ -1,14 +1,9 @@
-use Prim.Native.Nat.{◌≤◌}
-use Rattle.tables.specs.Layout.{most}
 use native.Mathlib.Omega.{arith}
 use native.Mathlib.Nat.{lt_of_le_of_lt, mul-le-mul}
 use lib.Dec.{lit<}
 use Rattle.sizes.proofs.ByKind.{cap_few, extrusion_are}
 use borrow.Author.Rules.{rules}
 use Rattle.sizes.proofs.kinds.extrusion_sizes.Goals as goal
-
-few : (c : tie.After-cap-length) → c.cap-length.result ≤ most
-few c = cap_few c.before.before.requires.0 c.before.before.requires.1 _ c.cap-length.ensures
 
 pub cap_length-k-requires : goal.cap_length-k-requires
 cap_length-k-requires c = c.requires.0
@@ -20,16 +15,16 @@ pub overflow_mul-result : goal.overflow_mul-result
 overflow_mul-result c = omega (arith, c.net_of-t.ensures.2)
 
 pub overflow_mul-result-2 : goal.overflow_mul-result-2
-overflow_mul-result-2 c = record { fits = lt_of_le_of_lt (mul-le-mul c.cap_count-n.ensures.1 (few c)) (lit< tt) }
+overflow_mul-result-2 c = record { fits = lt_of_le_of_lt (mul-le-mul c.cap_count-n.ensures.1 (cap_few c.requires.0 c.requires.1 _ c.cap_length-k.ensures)) (lit< tt) }
 
 pub overflow_add-result : goal.overflow_add-result
-overflow_add-result c = omega (arith, c.net_of-t.ensures.2, mul-le-mul c.cap_count-n.ensures.1 (few c))
+overflow_add-result c = omega (arith, c.net_of-t.ensures.2, mul-le-mul c.cap_count-n.ensures.1 (cap_few c.requires.0 c.requires.1 _ c.cap_length-k.ensures))
 
 pub overflow_mul-result-3 : goal.overflow_mul-result-3
 overflow_mul-result-3 c = omega (arith, c.net_of-t.ensures.2)
 
 pub cap_indices-requires : goal.cap_indices-requires
-cap_indices-requires c = few c
+cap_indices-requires c = cap_few c.requires.0 c.requires.1 _ c.cap_length-k.ensures
 
 pub overflow_mul-result-4 : goal.overflow_mul-result-4
 overflow_mul-result-4 c = record { fits = lt_of_le_of_lt (mul-le-mul c.cap_count-n.ensures.1 c.cap_indices.ensures.1) (lit< tt) }

@@ -10,4 +10,4 @@ pub overflow_sub-n-2 : goal.overflow_sub-n-2
 overflow_sub-n-2 c = omega (arith, c.requires.wide)
 
 pub returns : goal.returns
-returns c = (c.product.ensures, c.product-2.ensures, rw c.product-2.ensures (quads_few _ _ c.requires.length_few_lem c.requires.width_few))
+returns c = (c.product.ensures, c.product-2.ensures, rw c.product-2.ensures (quads_few _ _ c.requires.length_few c.requires.width_few))
