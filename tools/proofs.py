@@ -3,10 +3,11 @@
 
 NOT PROVED: this tool is plain Python for people. What it writes is read and judged by the checker.
 
-An answer in a proof file names a fact by a path from `c`, the place of the need: each `.before` steps to an earlier
-place, and the next name is a thing bound there. Folded, a path says the thing alone: `@loop .inv` is of the nearest
-`loop`, `@loop:2 .inv` of the one before that, and `@:In-loop` is a place itself. Expanded, it is counted out, and an
-answer whose paths reach far names far places once, by how many steps they lie back: `let c2 = c .before .before in`.
+An answer in a Proof.antt, a proof by hand, names a fact by a path from `c`, the place of the need: each `.before` steps
+to an earlier place, and the next name is a thing bound there. Folded, a path says the thing alone: `@loop.invariant` is
+of the nearest `loop`, `@loop:2.invariant` of the one before that, and `@:In-loop` is a place itself. Expanded, it is
+counted out, and an answer whose paths reach far names far places once, by how many steps they lie back:
+`let c2 = c.before.before in`. Answers.antt, where a path needs no steps, is left alone.
 """
 import argparse
 import functools
@@ -18,17 +19,18 @@ import tempfile
 
 WORTH = 40  # characters that naming places has to spare
 OPEN, SHUT = r'(?<![^\s({\[,;])', r'(?![^\s)}\],;])'  # what may stand before and after a word
+END = r'(?![^\s)}\],;.])'  # what may stand after a part of a path
 NAME = r'[^\W\d][^\s(){},;:.@]*'
-PATH = re.compile(OPEN + r'c((?: \.before)*)(?: \.(?!before )(' + NAME + '))?' + SHUT)
-MARK = re.compile(OPEN + '@(:?)(' + NAME + r')(?::(\d+))?' + SHUT)
-NAMED = re.compile(OPEN + r'c\d+' + r'(?![^\s)}\],;.])')
-LET = re.compile(r'let (c\d+) = (c\d*)((?: \.before)+) in\s+')
+PATH = re.compile(OPEN + r'c((?:\.before' + END + r')*)(?:\.(?!before' + END + ')(' + NAME + '))?' + END)
+MARK = re.compile(OPEN + '@(:?)(' + NAME + r')(?::(\d+))?' + END)
+NAMED = re.compile(OPEN + r'c\d+' + END)
+LET = re.compile(r'let (c\d+) = (c\d*)((?:\.before)+) in\s+')
 SIGNATURE = re.compile(r'^(?:(?:unfoldable|abbrev|pub) )*([^\s({]+)(?: \{[^}]*\})? :\s', re.M)
 # What gives `c` another meaning inside an answer, and words whose parts are not looked into.
-OTHER_C = re.compile(r'λ(?:(?!\.\s).)*?(?<![^\s({,])c(?! \.)(?=[\s.:,)}])|\blet \(?c[ ,:=]|\bc ←', re.S)
+OTHER_C = re.compile(r'λ(?:(?!\.\s).)*?(?<![^\s({,])c(?!\.\S)(?=[\s.:,)}])|\blet \(?c[ ,:=]|\bc ←', re.S)
 UNREAD = re.compile(OPEN + r'(?:elim|where|do)\b' + SHUT)
 # An answer that the prover finds by itself: its signature, and one clause.
-FOUND = re.compile(r'\S+ : tie\.Need-.*\n\S+ c((?: κs)?) = search needs')
+FOUND = re.compile(r'\S+ : tie\.Need-.*\n\S+ c((?: κs)?) = search rules')
 # What reads all that is in scope, up to a bound: a name more there may keep it from a fact that lies further back.
 READS_SCOPE = re.compile(OPEN + '(?:omega|search|cc)' + SHUT)
 BOLD = '@@ '  # before a folded answer: name its places all the same
@@ -86,28 +88,31 @@ def write(path, text):
         file.write(text)
 
 
-def run(words, folder=None):
-    done = subprocess.run(['rt', *words], capture_output=True, text=True, cwd=folder or root(),
-                          env={**os.environ, 'RT_CUT': '0'})
-    return done.stdout + done.stderr
+def run(words, folder):
+    """What rt says, and its status. It works on the crate in a folder."""
+    done = subprocess.run(['rt', *words], capture_output=True, text=True, cwd=folder)
+    return done.stdout + done.stderr, done.returncode
 
 
 def laid_out(files):
-    """The files in the layout of rt fmt, which formats whole repositories: they are put in one of their own. What is
-    folded has no layout."""
+    """The files in the layout of rt fmt, which formats a whole crate: they are put in one of their own. What is folded
+    has no layout."""
     done = dict(files)
     with tempfile.TemporaryDirectory() as folder:
-        os.mkdir(os.path.join(folder, 'crates'))
-        write(os.path.join(folder, 'crates.txt'), '')
-        copies = {path: os.path.join(folder, 'crates', f'{i}.antt')
+        crate = os.path.join(os.path.realpath(folder), 'crates', 'made')
+        os.makedirs(os.path.join(crate, 'src'))
+        os.mkdir(os.path.join(crate, 'proofs'))
+        write(os.path.join(folder, 'crates.txt'), 'made:\n')
+        write(os.path.join(crate, 'src', 'lib.rt'), '')
+        copies = {path: os.path.join(crate, 'proofs', f'{i}.antt')
                   for i, (path, text) in enumerate(files.items()) if not MARK.search(text)}
         for path, copy in copies.items():
             write(copy, files[path])
-        said = run(['fmt'], folder).strip()
+        said, status = run(['fmt'], crate)
         for path, copy in copies.items():
             said = said.replace(copy, os.path.relpath(path, root()))
-        if said:
-            raise Fault('rt fmt: ' + said.split('\n')[0])
+        if status:
+            raise Fault('rt fmt: ' + said.strip().split('\n')[0])
         for path, copy in copies.items():
             done[path] = read(copy)
     return done
@@ -153,7 +158,7 @@ class Generated:
 
     def __init__(self, crate, folder=None):
         self.crate, self.folder, self.known = crate, folder, {}
-        self.library = f'Rattle·{crate}·proofs'
+        self.library = f'Rattle-{crate}-proofs'
 
     def places(self, module):
         """The places that a module has, as `whole.make_grid.Lts`; none where there is no such module."""
@@ -162,16 +167,16 @@ class Generated:
         if not os.path.isdir(os.path.join(self.folder, self.library)):
             raise Fault(f'{self.folder} has nothing of {self.crate}')
         if module not in self.known:
-            file = os.path.join(self.folder, self.library, 'proofs', *module.split('.')) + '.antt'
+            file = os.path.join(self.folder, self.library, *module.split('.')) + '.antt'
             self.known[module] = Places(read(file)) if os.path.exists(file) else None
         return self.known[module]
 
     def generate(self):
         self.own = tempfile.TemporaryDirectory()
         self.folder = self.own.name
-        said = run(['dev', self.crate, '--generated', self.folder])
+        said, _ = run(['check', '--generated', self.folder], crate_folder(self.crate))
         if not os.listdir(self.folder):
-            raise Fault(f'rt dev {self.crate} generates nothing: ' + said.strip().split('\n')[0])
+            raise Fault(f'rt check of {self.crate} generates nothing: ' + said.strip().split('\n')[0])
 
 
 # ---- proof files: definitions, and the answer in each
@@ -224,7 +229,7 @@ def whole(start, definitions):
 
 def modules_named(text):
     """The modules of places that a proof file has names for, as `tie`."""
-    found = re.findall(r'^use \S+·proofs\.proofs\.(\S+\.)(Tie|Lts\S*) as (\S+)$', text, re.M)
+    found = re.findall(r'^use Rattle\.[^.\s]+\.proofs\.(\S+\.)(Tie|Lts\S*) as (\S+)$', text, re.M)
     return {alias: function + name.replace('Tie', 'Lts') for function, name, alias in found}
 
 
@@ -253,10 +258,7 @@ def without_lets(body):
         at = named.end()
 
     def written_out(word):
-        if word[0] not in depth:
-            return word[0]
-        way = path(depth[word[0]])
-        return way if word.string.startswith(' .', word.end()) else f'({way})'
+        return path(depth[word[0]]) if word[0] in depth else word[0]
 
     term = NAMED.sub(written_out, term[at:])
     return body if NAMED.search(term) else space + term
@@ -269,10 +271,9 @@ def apart(body):
 
 
 def far_uses(body):
-    """The paths of a body that a name may stand for: those with a thing after the steps, or alone in brackets."""
+    """The paths of a body that a name may stand for: those with steps."""
     for use in PATH.finditer(body):
-        alone = body[use.start() - 1:use.start()] == '(' and body[use.end():use.end() + 1] == ')'
-        if use[1] and (use[2] or alone):
+        if use[1]:
             yield use
 
 
@@ -281,7 +282,7 @@ def call(depth):
 
 
 def path(depth, last=0):
-    return call(last) + ' .before' * (depth - last)
+    return call(last) + '.before' * (depth - last)
 
 
 def let(depth, last):
@@ -352,9 +353,8 @@ def shortened(body, named):
     for use in far_uses(body):
         depth = steps(use[1])
         last = max((d for d in named if d <= depth), default=0)
-        alone = not use[2] and last == depth
-        done += [body[at:use.start() - alone], path(depth, last), f' .{use[2]}' if use[2] else '']
-        at = use.end() + alone
+        done += [body[at:use.start()], path(depth, last), f'.{use[2]}' if use[2] else '']
+        at = use.end()
     return ''.join(done) + body[at:]
 
 
@@ -365,7 +365,10 @@ def folded(text, places, place):
 
     def mark(use):
         depth, name = steps(use[1]), use[2]
-        if depth >= len(way) or name and name not in places.things[way[depth]]:
+        if name and depth < len(way):
+            # A place opens the one before it, so that what is bound there needs no step.
+            depth = next((n for n in places.depths(place, name) if n >= depth), len(way))
+        if depth >= len(way):
             raise Fault(f'no such path: {use[0]}')
         if not name:
             return f'@:{way[depth]}' if depth else use[0]
@@ -384,7 +387,7 @@ def unfolded(text, places, place):
         nth = int(mark[3] or 1)
         if not 0 < nth <= len(depths):
             raise Fault(f'no place before has {mark[0]}')
-        return path(depths[nth - 1]) + ('' if mark[1] else f' .{mark[2]}')
+        return path(depths[nth - 1]) + ('' if mark[1] else f'.{mark[2]}')
 
     return MARK.sub(written_out, text)
 
@@ -447,7 +450,7 @@ def settle(files, _generated):
 
 
 def settled(text):
-    """The text with each answer that is `search needs` and no more in the list that the proof ends with."""
+    """The text with each answer that is `search rules` and no more in the list that the proof ends with."""
     start, definitions = parts_of(text)
     if not definitions or 'tie.spec' not in definitions[-1].text():
         return text
@@ -457,7 +460,7 @@ def settled(text):
         name = re.compile(OPEN + re.escape(answer.name) + SHUT)
         left = [other for other in others if other is not answer]
         if found and len(name.findall(ending)) == 1 and not any(name.search(other.text()) for other in left):
-            ending = name.sub(f'(λ {answer.name}{found[1]}. search needs)', ending)
+            ending = name.sub(f'(λ {answer.name}{found[1]}. search rules)', ending)
             others = left
     return whole(start, others) + ending
 
@@ -505,19 +508,15 @@ def things_at(places, place):
 
 
 def asked_for(said):
-    """The proof files that a check asks for: path and text."""
-    for path, body in re.findall(r'^help: write (\S+Proof\.antt) with these lines.*\n((?:    .*\n|\n)*)', said, re.M):
+    """The proof files that a check asks for: path and text, with a hole for each answer."""
+    for path, body in re.findall(r'^help: write (\S+\.antt) with these lines.*\n((?:    .*\n|\n)*)', said, re.M):
         text = re.sub(r'^    ', '', body, flags=re.M).rstrip() + '\n'
-        text = re.sub(r'^((?!Inv-|μ-)\S+ c(?: κs)?) = \?$', r'\1 = search needs', text, flags=re.M)
-        text = re.sub(r'^ *-- src/.*\n', '', text, flags=re.M)
-        if 'search needs' in text and 'borrow.Author.Needs' not in text:
-            text = 'use borrow.Author.Needs.{needs}\n' + text
-        yield path, text
+        yield path, re.sub(r'^ *-- src/.*\n', '', text, flags=re.M)
 
 
 def seed(crate):
     folder = crate_folder(crate)
-    for path, text in asked_for(run(['dev', crate])):
+    for path, text in asked_for(run(['check'], folder)[0]):
         path = os.path.normpath(os.path.join(folder, path))
         if os.path.exists(path):
             continue
@@ -527,10 +526,10 @@ def seed(crate):
 
 
 def shorter(text, crate):
-    own = [f'Rattle·{crate}·specs.specs.', f'Rattle·{crate}·proofs.proofs.', crate_folder(crate) + '/']
+    own = [f'Rattle.{crate}.specs.', f'Rattle.{crate}.proofs.', crate_folder(crate) + '/']
     for name in LONG_NAMES + own:
         text = text.replace(name, '')
-    text = re.sub(r'(?:\.before ?){3,}', lambda m: f'.before{{{steps(m[0])}}} ', text)
+    text = re.sub(r'(?:\.before){3,}', lambda m: f'.before{{{steps(m[0])}}}', text)
     return re.sub(r'\(…\[\d+ bytes\]…\)', '…', text)
 
 
@@ -545,8 +544,7 @@ def unproved(said, pattern):
 
 
 def dev(crate, pattern, holes):
-    crate_folder(crate)
-    said = run(['dev', crate] + ['--allow-holes'] * holes)
+    said, _ = run(['check'] + ['--allow-holes'] * holes, crate_folder(crate))
     for part in unproved(said, pattern):
         print(shorter(part, crate)[:2600], end='\n--\n')
     for line in re.findall(r'^fn (?!.*: (?:proved|no holes)).*', said, re.M):
@@ -583,7 +581,7 @@ def add_rewriting(verbs, name, words, act):
 
 
 def add_generated(verb):
-    verb.add_argument('--generated', metavar='FOLDER', help="what 'rt goals CRATE' wrote, where that is up to date")
+    verb.add_argument('--generated', metavar='FOLDER', help="what 'rt check --generated FOLDER' wrote, where that is up to date")
 
 
 def add_looking(verbs):
@@ -596,7 +594,7 @@ def add_looking(verbs):
     verb = add_verb(verbs, 'seed', 'write the proof files that the check asks for and that are not there yet',
                     lambda given: seed(given.crate))
     verb.add_argument('crate')
-    verb = add_verb(verbs, 'dev', "run 'rt dev' and print what is not proved, with names shortened",
+    verb = add_verb(verbs, 'dev', "run 'rt check' and print what is not proved, with names shortened",
                     lambda given: dev(given.crate, given.pattern, given.holes))
     verb.add_argument('crate')
     verb.add_argument('pattern', nargs='?', default='', help='only files whose path has this')
@@ -610,7 +608,7 @@ def main():
                   lambda given: rewrite_all(fold, given))
     verb = add_rewriting(verbs, 'expand', "turn '@name' into paths, and name far places once", expand_as_told)
     verb.add_argument('--bold', action='store_true', help='name them where omega, search or cc read the names too')
-    add_rewriting(verbs, 'settle', "put each answer that is 'search needs' into the list that the proof ends with",
+    add_rewriting(verbs, 'settle', "put each answer that is 'search rules' into the list that the proof ends with",
                   lambda given: rewrite_all(settle, given))
     add_looking(verbs)
     given = told.parse_args()
