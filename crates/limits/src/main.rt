@@ -7,30 +7,28 @@ mod full;
 use block::LIMIT;
 use blocks::{face, primitives, triangles};
 use full::Seen;
-use libc::STDOUT_FILENO;
+use std::io;
 
 fn is_same(a: Seen, b: Seen) -> bool {
     a.number == b.number && a.indices == b.indices && a.a == b.a && a.b == b.b && a.c == b.c
 }
 
-fn put_number(n: u64) {
-    io::write_all(STDOUT_FILENO, b" ");
-    io::print_decimal(STDOUT_FILENO, n);
+fn put_number(rt: &impl Print, n: u64) -> io::Result<()> {
+    print!(rt; " {n}")
 }
 
 // What was seen, and whether it is what the rule says.
-fn tell(name: &[u8], seen: Seen, expected: Seen) {
-    io::write_all(STDOUT_FILENO, name);
-    put_number(seen.number as u64);
-    put_number(seen.indices as u64);
-    put_number(seen.a as u64);
-    put_number(seen.b as u64);
-    put_number(seen.c as u64);
+fn tell(rt: &impl Print, name: &str, seen: Seen, expected: Seen) -> io::Result<()> {
+    print!(rt; "{name}")?;
+    put_number(rt, seen.number as u64)?;
+    put_number(rt, seen.indices as u64)?;
+    put_number(rt, seen.a as u64)?;
+    put_number(rt, seen.b as u64)?;
+    put_number(rt, seen.c as u64)?;
     if is_same(seen, expected) {
-        io::write_all(STDOUT_FILENO, b" agrees\n");
-        return;
+        return println!(rt; " agrees");
     }
-    io::write_all(STDOUT_FILENO, b" differs\n");
+    println!(rt; " differs")
 }
 
 // The refusal's number, the number of indices, and the first triangle.
@@ -58,64 +56,75 @@ const MOST: u16 = LIMIT as u16;
 
 const STRIP: u16 = MOST / 3 + 2;
 
-fn tell_primitives() {
+fn tell_primitives(rt: &impl Print) -> io::Result<()> {
     tell(
-        b"the longest strip passes:",
+        rt,
+        "the longest strip passes:",
         primitives(STRIPS, STRIP),
         seen(0, LIMIT / 3 * 3, 0, 1, 2),
-    );
+    )?;
     tell(
-        b"a strip of one entry more is refused:",
+        rt,
+        "a strip of one entry more is refused:",
         primitives(STRIPS, STRIP + 1),
         seen(7, 0, 0, 0, 0),
-    );
+    )?;
     tell(
-        b"triangles of the most entries pass:",
+        rt,
+        "triangles of the most entries pass:",
         primitives(TRIANGLES, MOST),
         seen(0, LIMIT / 3 * 3, 0, 1, 2),
-    );
+    )?;
     tell(
-        b"quads of the most entries pass:",
+        rt,
+        "quads of the most entries pass:",
         primitives(QUADS, MOST),
         seen(0, LIMIT / 4 * 6, 0, 1, 2),
-    );
+    )?;
     tell(
-        b"9 comes before 7:",
+        rt,
+        "9 comes before 7:",
         primitives(COLOURS_BY_FACE, STRIP + 1),
         seen(9, 0, 0, 0, 0),
-    );
+    )
 }
 
-fn main() {
+fn main(rt: HostRuntime) -> io::Result<()> {
     tell(
-        b"0 1 3 of 4 points is kept:",
+        &rt,
+        "0 1 3 of 4 points is kept:",
         triangles(3, 3),
         seen(0, 3, 0, 1, 2),
-    );
+    )?;
     tell(
-        b"0 1 4 of 4 points is skipped:",
+        &rt,
+        "0 1 4 of 4 points is skipped:",
         triangles(3, 4),
         seen(0, 0, 0, 0, 0),
-    );
+    )?;
     tell(
-        b"the most entries pass:",
+        &rt,
+        "the most entries pass:",
         triangles(MOST, 3),
         seen(0, LIMIT / 4 * 3, 0, 1, 2),
-    );
+    )?;
     tell(
-        b"one entry more is refused:",
+        &rt,
+        "one entry more is refused:",
         triangles(MOST + 1, 3),
         seen(4, 0, 0, 0, 0),
-    );
+    )?;
     tell(
-        b"4096 corners are clipped:",
+        &rt,
+        "4096 corners are clipped:",
         face(4096),
         seen(0, 12282, 4095, 0, 1),
-    );
+    )?;
     tell(
-        b"4097 corners are fanned:",
+        &rt,
+        "4097 corners are fanned:",
         face(4097),
         seen(0, 12285, 0, 1, 2),
-    );
-    tell_primitives();
+    )?;
+    tell_primitives(&rt)
 }

@@ -28,7 +28,7 @@ use Rattle.mesh.specs.Words.{bits}
 use Rattle.mesh.specs.Soup.{Corner, gathered, Face, Frame}
 use Rattle.mesh.specs.Normals.{outline, facing, incident, crease_sum, or_else, generated, corner_normal}
 use Rattle.mesh.specs.Vertices.{Key, no_key, same_key, key_of, keys_of, vertices, wound, locals, face_indices, indices_of}
-use Rattle.mesh.specs.Mesh.{Mesh, mesh_of, mesh}
+use Rattle.mesh.specs.Mesh.{mesh_of, mesh}
 use Rattle.mesh.specs.Arcs.{at2}
 use Rattle.mesh.specs.Extrusion.{Extrusion, extrusion_of, point_number, closes, ring_of, side_texture, cap_fit, cap_texture, corner_at, side_corner, cap_corner, extrusion_faces, extrusion_frame, extrusion_mesh}
 use Rattle.mesh.specs.SourceGather.{by_point, apart_mesh}

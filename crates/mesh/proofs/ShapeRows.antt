@@ -20,7 +20,7 @@ use Rattle.block.specs.Header.{counts_of, header_of}
 use Rattle.block.specs.Extents.{widths, words_in, list_at, list_size, place_of}
 use Rattle.block.specs.Crease.{crease_of}
 use Rattle.block.specs.Settings.{pair_or, finite_transform, transform_of, settings_of}
-use Rattle.block.specs.Runs.{ends_run, runs_from, corners, sum_over}
+use Rattle.block.specs.Runs.{ends_run, runs_from, sum_over}
 use Rattle.block.specs.Stream.{itself, number_in, number_at}
 use Rattle.block.specs.declared.texture.Pair.{Pair}
 use Rattle.block.specs.Texture.{pair_of, uv_words}

@@ -1,7 +1,7 @@
 -- Rows of one length, made by number.
 use mathlib.Core.Path.{◌≡◌, refl, sym, ap, ap₂, ◌∙◌}
 use mathlib.Core.List.{List, ◌++◌}
-use Prim.Native.Nat.{ℕ, zero, suc, ◌+◌, ◌-◌, ◌*◌, ◌/◌, ◌%◌, ◌<◌}
+use Prim.Native.Nat.{ℕ, zero, suc, ◌+◌, ◌*◌, ◌/◌, ◌%◌, ◌<◌}
 use native.Mathlib.Nat.{zero-add, suc-mul, zero-mul, add_comm}
 use Rattle.lists.specs.Loops.{tab}
 use Rattle.lists.proofs.Numbers.{column_of, row_of}

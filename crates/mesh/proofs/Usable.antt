@@ -21,7 +21,7 @@ use Rattle.block.specs.declared.crease.CreaseRule.{CreaseRule}
 use Rattle.block.specs.declared.crease.CreaseRule.TheVariants.{Own, Every, Bound}
 use Rattle.mesh.specs.Words.{floats, bits}
 use Rattle.mesh.specs.Soup.{Face, Frame}
-use Rattle.mesh.specs.Normals.{outline, facing, Hit, incident, sum_all, is_near, near_by, near_step, sum_near, near_sum, crease_sum, or_else, generated}
+use Rattle.mesh.specs.Normals.{outline, facing, Hit, incident, sum_all, is_near, near_step, sum_near, near_sum, crease_sum, or_else, generated}
 use Rattle.mesh.specs.Mend.{Usable, renorm, mend_by}
 use Rattle.mesh.proofs.Sums.{step_own, step_other}
 

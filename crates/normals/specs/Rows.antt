@@ -1,5 +1,5 @@
 -- FORMAT 10.1, 10.2: the tables that are made: owners, rows of faces, faces by number, sums; and what they say of the faces at a corner.
-use Rattle.std.specs.Prelude.{◌≡◌, Bool, true, false, cond, List, map, ℕ, suc, ◌+◌, ◌*◌, ◌≤◌, ◌<◌, eqb, length, get_or, Float}
+use Rattle.std.specs.Prelude.{◌≡◌, Bool, true, false, cond, List, map, ℕ, ◌+◌, ◌*◌, ◌≤◌, ◌<◌, eqb, length, get_or, Float}
 use Rattle.std.specs.Float.{nan, binary32}
 use Rattle.std.specs.Float.Ieee.{of_bits}
 use Rattle.math.specs.declared.vector.V3.{V3}
@@ -12,7 +12,7 @@ use Rattle.mesh.specs.Normals.{facing, Hit, sum_all, or_else}
 use Rattle.tables.specs.declared.layout.Plan.{Plan}
 use Rattle.lists.specs.Parts.{Kept}
 use Rattle.tables.specs.Layout.{Room}
-use Rattle.tables.specs.Soups.{gather_in, owner_in, start_in, face_in, frame_in, Sound, Spread}
+use Rattle.tables.specs.Soups.{gather_in, owner_in, face_in, frame_in, Sound, Spread}
 use Rattle.normals.specs.Group.{uses_from, gathers_in, Grouped}
 
 -- three words from a, as a vector

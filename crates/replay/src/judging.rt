@@ -1,6 +1,7 @@
 // One case: read, converted, told and compared.
 use crate::lending::put_converted;
 use crate::reading::{Case, Stored, read_case};
+use std::io::Read;
 
 #[derive(Clone, Copy)]
 pub(crate) enum Verdict {
@@ -15,7 +16,7 @@ fn verdict_of(out: &[u8], n: usize, expected: &[u8]) -> Verdict {
     if n != expected.len() {
         return Verdict::Differs;
     }
-    if check::same(bits::part(out, 0, n), expected) {
+    if bits::part(out, 0, n) == expected {
         return Verdict::Same;
     }
     Verdict::Differs
@@ -54,8 +55,8 @@ fn judge(
 }
 
 // The next case of the file.
-pub(crate) fn judge_next(
-    fd: i32,
+pub(crate) fn judge_next<R: Read>(
+    from: &mut R,
     block: &mut [u8],
     expected: &mut [u8],
     out: &mut [u8],
@@ -68,7 +69,7 @@ pub(crate) fn judge_next(
     words: &mut [u32],
     floats: &mut [f32],
 ) -> Verdict {
-    match read_case(fd, block, expected) {
+    match read_case(from, block, expected) {
         Case::Whole(case) => judge(
             case, block, expected, out, positions, normals, colours, textures, sources, indices,
             words, floats,

@@ -9,12 +9,12 @@ ghost use Rattle.std.specs.Prelude.{◌<◌};
 
 use block::LIMIT;
 use judging::{Verdict, judge_next};
-use libc::STDOUT_FILENO;
+use std::fs::File;
+use std::io;
+use std::io::Read;
 
-fn put_line(word: &[u8], n: u64) {
-    io::write_all(STDOUT_FILENO, word);
-    io::print_decimal(STDOUT_FILENO, n);
-    io::write_all(STDOUT_FILENO, b"\n");
+fn put_line(rt: &impl Print, word: &str, n: u64) -> io::Result<()> {
+    println!(rt; "{word}{n}")
 }
 
 // One more, as far as a u64 goes.
@@ -42,35 +42,35 @@ fn no_cases() -> Tally {
 }
 
 // With one more case, which is told where it does not agree.
-fn count(tally: Tally, verdict: Verdict) -> Tally {
+fn count(rt: &impl Print, tally: Tally, verdict: Verdict) -> io::Result<Tally> {
     let cases = tally.cases;
     let same = tally.same;
     match verdict {
-        Verdict::Same => Tally {
+        Verdict::Same => Ok(Tally {
             cases: more(cases),
             same: more(same),
             open: true,
-        },
+        }),
         Verdict::Differs => {
-            put_line(b"differs ", cases);
-            Tally {
+            put_line(rt, "differs ", cases)?;
+            Ok(Tally {
                 cases: more(cases),
                 same,
                 open: true,
-            }
+            })
         }
-        Verdict::End => Tally {
+        Verdict::End => Ok(Tally {
             cases,
             same,
             open: false,
-        },
+        }),
         Verdict::Bad => {
-            put_line(b"bad file at ", cases);
-            Tally {
+            put_line(rt, "bad file at ", cases)?;
+            Ok(Tally {
                 cases,
                 same,
                 open: false,
-            }
+            })
         }
     }
 }
@@ -87,8 +87,9 @@ fn turns_after(turns: u32, open: bool) -> u32
 }
 
 // Case after case, with the slices as the case before left them.
-fn run_cases(
-    fd: i32,
+fn run_cases<R: Read>(
+    rt: &impl Print,
+    from: &mut R,
     block: &mut [u8],
     expected: &mut [u8],
     out: &mut [u8],
@@ -100,22 +101,22 @@ fn run_cases(
     indices: &mut [u32],
     words: &mut [u32],
     floats: &mut [f32],
-) -> Tally {
+) -> io::Result<Tally> {
     let mut tally = no_cases();
     let mut turns: u32 = 1000000000;
     while turns > 0 {
         let verdict = judge_next(
-            fd, block, expected, out, positions, normals, colours, textures, sources, indices,
+            from, block, expected, out, positions, normals, colours, textures, sources, indices,
             words, floats,
         );
-        tally = count(tally, verdict);
+        tally = count(rt, tally, verdict)?;
         turns = turns_after(turns, tally.open);
     }
-    tally
+    Ok(tally)
 }
 
 // Slices for as many points and corners as edition 1 allows (FORMAT 4), and room for the longest block and text of the file.
-fn run(fd: i32) -> Tally {
+fn run<R: Read>(rt: &impl Print, from: &mut R) -> io::Result<Tally> {
     let mut block = [0u8; 40960];
     let mut expected = [0u8; 131072];
     let mut out = [0u8; 131072];
@@ -128,7 +129,8 @@ fn run(fd: i32) -> Tally {
     let mut words = [0u32; 16 * LIMIT + 8];
     let mut floats = [0.0f32; 16 * LIMIT + 8];
     run_cases(
-        fd,
+        rt,
+        from,
         &mut block,
         &mut expected,
         &mut out,
@@ -143,14 +145,9 @@ fn run(fd: i32) -> Tally {
     )
 }
 
-fn main() {
-    let fd = os::open_read(b"cases");
-    if fd < 0 {
-        os::fail(b"cases");
-        return;
-    }
-    let tally = run(fd);
-    libc::close(fd);
-    put_line(b"cases ", tally.cases);
-    put_line(b"agree ", tally.same);
+fn main(rt: HostRuntime) -> io::Result<()> {
+    let mut file = File::open(&rt, "cases")?;
+    let tally = run(&rt, &mut file)?;
+    put_line(&rt, "cases ", tally.cases)?;
+    put_line(&rt, "agree ", tally.same)
 }

@@ -1,6 +1,7 @@
 // The stored cases. A case is the number of corners that slices are lent for, the length of a block and its bytes, and the length of a text and its bytes.
 // Numbers are four bytes, most significant first.
 use block::LIMIT;
+use std::io::Read;
 
 #[derive(Clone, Copy)]
 pub enum Part {
@@ -23,42 +24,44 @@ pub enum Case {
     Bad,
 }
 
-fn read_number(fd: i32) -> Part {
+// The file may end before the first byte, and nowhere else.
+fn read_number<R: Read>(from: &mut R) -> Part {
     let mut four = [0u8; 4];
-    let got = io::read_full(fd, &mut four);
-    if got == 0 {
-        return Part::End;
+    match from.read(&mut four[..1]) {
+        Ok(0) => return Part::End,
+        Ok(_) => {}
+        Err(_) => return Part::Bad,
     }
-    if got != 4 {
+    if from.read_exact(&mut four[1..]).is_err() {
         return Part::Bad;
     }
     Part::Got(bits::word(&four, 0))
 }
 
 // So many bytes, to the start of the buffer.
-fn read_bytes(fd: i32, buffer: &mut [u8], length: u32) -> Part {
+fn read_bytes<R: Read>(from: &mut R, buffer: &mut [u8], length: u32) -> Part {
     let n = length as usize;
     if n > buffer.len() {
         return Part::Bad;
     }
-    if io::read_full(fd, &mut buffer[..n]) != n {
+    if from.read_exact(&mut buffer[..n]).is_err() {
         return Part::Bad;
     }
     Part::Got(length)
 }
 
 // A length, and so many bytes.
-fn read_part(fd: i32, buffer: &mut [u8]) -> Part {
-    match read_number(fd) {
-        Part::Got(n) => read_bytes(fd, buffer, n),
+fn read_part<R: Read>(from: &mut R, buffer: &mut [u8]) -> Part {
+    match read_number(from) {
+        Part::Got(n) => read_bytes(from, buffer, n),
         Part::End => Part::Bad,
         Part::Bad => Part::Bad,
     }
 }
 
 // Where a case begins, the file may end.
-fn read_corners(fd: i32) -> Part {
-    match read_number(fd) {
+fn read_corners<R: Read>(from: &mut R) -> Part {
+    match read_number(from) {
         Part::Got(n) => {
             if n as usize > LIMIT {
                 return Part::Bad;
@@ -70,18 +73,18 @@ fn read_corners(fd: i32) -> Part {
     }
 }
 
-pub(crate) fn read_case(fd: i32, block: &mut [u8], text: &mut [u8]) -> Case {
-    let corners = match read_corners(fd) {
+pub(crate) fn read_case<R: Read>(from: &mut R, block: &mut [u8], text: &mut [u8]) -> Case {
+    let corners = match read_corners(from) {
         Part::Got(n) => n,
         Part::End => return Case::End,
         Part::Bad => return Case::Bad,
     };
-    let n = match read_part(fd, block) {
+    let n = match read_part(from, block) {
         Part::Got(n) => n,
         Part::End => return Case::Bad,
         Part::Bad => return Case::Bad,
     };
-    match read_part(fd, text) {
+    match read_part(from, text) {
         Part::Got(m) => Case::Whole(Stored {
             corners,
             block: n,

@@ -4,13 +4,10 @@
 mod lines;
 
 use crate::lines::{ROOM, put_table};
-use libc::STDOUT_FILENO;
+use std::io;
 
-fn main() {
+fn main(rt: HostRuntime) -> io::Result<()> {
     let mut out = [0u8; ROOM];
     let n = put_table(&mut out);
-    if io::write_all(STDOUT_FILENO, &out[..n]) {
-        return;
-    }
-    os::fail(b"standard output");
+    rt.write_all(&out[..n])
 }

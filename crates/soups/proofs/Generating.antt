@@ -1,8 +1,8 @@
 -- Normals supplied, or generated.
-use mathlib.Core.Path.{◌≡◌, refl, sym, ◌∙◌, subst}
+use mathlib.Core.Path.{◌≡◌, refl, ◌∙◌}
 use mathlib.Core.Bool.{Bool, true, false}
 use mathlib.Core.List.{List}
-use Prim.Native.Nat.{ℕ, suc, ◌≤◌}
+use Prim.Native.Nat.{ℕ, suc}
 use native.Mathlib.Omega.{arith}
 use lib.Ieee.{Float}
 use lib.ListN.{length}
@@ -10,7 +10,7 @@ use Rattle.block.specs.declared.crease.CreaseRule.{CreaseRule}
 use Rattle.tables.specs.declared.layout.Plan.{Plan}
 use Rattle.lists.specs.Parts.{Kept}
 use Rattle.tables.specs.Layout.{Room}
-use Rattle.tables.specs.Soups.{number_in, start_in, Spread}
+use Rattle.tables.specs.Soups.{number_in, Spread}
 use Rattle.tables.proofs.Stays.{start_kept, number_kept}
 use Rattle.normals.specs.Written.{Generated}
 use Rattle.soups.specs.Prepared.{normals_after, Normals}

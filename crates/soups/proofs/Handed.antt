@@ -1,6 +1,6 @@
 -- FORMAT 8, 11: listed faces, made ready, with their texture written after: the tables hold their soup, and its keys.
-use mathlib.Core.Path.{◌≡◌, refl, sym, ap, ◌∙◌}
-use mathlib.Core.Bool.{Bool, true, false}
+use mathlib.Core.Path.{◌≡◌, ap, ◌∙◌}
+use mathlib.Core.Bool.{false}
 use mathlib.Core.List.{List, []}
 use Prim.Native.Nat.{ℕ, suc, ◌+◌, ◌*◌, ◌≤◌, ◌<◌}
 use native.Mathlib.Omega.{arith}
@@ -8,7 +8,7 @@ use lib.ListN.{length, get_or}
 use lib.Ieee.{Float}
 use Rattle.lists.specs.Loops.{tab}
 use Rattle.lists.specs.Lists.{join_n}
-use Rattle.mesh.specs.Soup.{Corner, no_corner, Face, Frame}
+use Rattle.mesh.specs.Soup.{Corner, no_corner, Frame}
 use Rattle.mesh.specs.Normals.{corner_normal}
 use Rattle.mesh.specs.Vertices.{keys_of}
 use Rattle.tables.specs.declared.layout.Plan.{Plan}
@@ -17,7 +17,7 @@ use Rattle.tables.specs.Soups.{owner_in, start_in, points_in, Holds}
 use Rattle.tables.specs.Listed.{Use, Listing, no_listing, faces_with, uses_at, Listed}
 use Rattle.lists.proofs.Keep.{kept_then}
 use Rattle.tables.proofs.Stays.{start_le, start_kept, owner_kept, points_kept}
-use Rattle.tables.proofs.Listings.{listed_sound, listed_holds, listed_kept, listed_long}
+use Rattle.tables.proofs.Listings.{listed_sound, listed_holds, listed_kept}
 use Rattle.vertices.specs.declared.places.Widths.{Widths}
 use Rattle.normals.specs.Written.{Generated}
 use Rattle.normals.proofs.Joined.{corner_written}

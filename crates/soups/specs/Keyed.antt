@@ -1,9 +1,8 @@
 -- FORMAT 7, 11: how the corners of listed faces get their attributes, and that the tables have them.
-use Rattle.std.specs.Prelude.{◌≡◌, true, false, ◌⊎◌, List, ℕ, ◌+◌, ◌<◌, length, get_or}
-use Rattle.bits.specs.declared.Words2.{Words2}
+use Rattle.std.specs.Prelude.{◌≡◌, true, ◌⊎◌, List, ℕ, ◌+◌, ◌<◌, length, get_or}
 use Rattle.block.specs.Stream.{get3_at, get4_at}
 use Rattle.mesh.specs.Words.{no2, no3, no4}
-use Rattle.mesh.specs.Soup.{Corner, gathered, Frame}
+use Rattle.mesh.specs.Soup.{Corner, gathered}
 use Rattle.tables.specs.declared.layout.Plan.{Plan}
 use Rattle.tables.specs.Soups.{start_in}
 use Rattle.tables.specs.Listed.{Use, Listing, no_use, no_listing, uses_at}

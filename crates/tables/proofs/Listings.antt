@@ -1,5 +1,5 @@
 -- Tables that hold listed faces hold the soup of these faces.
-use mathlib.Core.Path.{◌≡◌, refl, sym, ap, ap₂, ◌∙◌}
+use mathlib.Core.Path.{◌≡◌, refl, sym, ap, ◌∙◌}
 use mathlib.Core.List.{List, [], ◌∷◌, map}
 use Prim.Native.Nat.{ℕ, suc, ◌+◌, ◌≤◌, ◌<◌}
 use native.Mathlib.Nat.{not-suc-le-zero}
@@ -13,7 +13,7 @@ use Rattle.lists.specs.Parts.{Kept}
 use Rattle.tables.specs.Soups.{point_in, gather_in, start_in, place_in, points_in, Sound, Holds}
 use Rattle.tables.specs.Listed.{Use, Listing, no_use, no_listing, faces_with, uses_at, Listed}
 use Rattle.tables.proofs.Stays.{start_le, point_kept, place_kept, start_kept, number_kept}
-use Rattle.tables.proofs.Held.{Is, holds_of}
+use Rattle.tables.proofs.Held.{holds_of}
 
 -- faces none of which is empty
 pub dense_full : (fs : List Face) → ((j : ℕ) → j < length fs → 0 < length (get_or fs j [])) → dense fs ≡ fs

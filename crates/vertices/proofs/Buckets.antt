@@ -5,7 +5,7 @@ use Prim.Native.Nat.{ℕ, ◌+◌, ◌*◌, ◌/◌, ◌%◌, ◌^◌, ◌≤◌
 use native.Mathlib.Nat.{mul-le-mul, mul-lt-mul_of_pos_right, div-lt_iff_lt-mul}
 use native.Mathlib.Omega.{arith}
 use lib.Bits.{bit_xor, xor_lt}
-use lib.ListN.{length, get_or, take, drop, length-take, get_or-eq_default}
+use lib.ListN.{get_or, take, drop, length-take, get_or-eq_default}
 use Rattle.lists.specs.Parts.{seg}
 use Rattle.tables.specs.Layout.{most}
 use Rattle.vertices.specs.declared.places.Widths.{Widths}

@@ -1,7 +1,6 @@
 use mathlib.Core.Path.{◌∙◌}
 use Rattle.build.proofs.Asked.{ready_at, cornered_at, corners_ready, tables_kept, faces_ready, faces_room, indices_there, mending_ready}
 use Rattle.build.proofs.Joined.{built}
-use borrow.Author.Rules.{rules}
 use Rattle.build.proofs.whole.build.Goals as goal
 
 pub all_vertices-n-requires : goal.all_vertices-n-requires

@@ -1,5 +1,4 @@
 use Rattle.corners.specs.Corner.{colour_at}
-use borrow.Author.Rules.{rules}
 use Rattle.corners.proofs.key.colour_of.Goals as goal
 
 pub returns : goal.returns

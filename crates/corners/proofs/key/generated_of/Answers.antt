@@ -1,5 +1,4 @@
 use Rattle.corners.proofs.Floats.{generated_words}
-use borrow.Author.Rules.{rules}
 use Rattle.corners.proofs.key.generated_of.Goals as goal
 
 pub returns : goal.returns

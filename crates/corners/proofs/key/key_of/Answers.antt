@@ -1,7 +1,6 @@
 use mathlib.Core.List.{◌++◌}
 use Rattle.mesh.specs.Words.{words2, words3, words4}
 use Rattle.corners.specs.Corner.{colour_at, words_at}
-use borrow.Author.Rules.{rules}
 use Rattle.corners.proofs.key.key_of.Goals as goal
 
 pub returns : goal.returns

@@ -1,5 +1,4 @@
 use Rattle.corners.specs.Corner.{normal_at}
-use borrow.Author.Rules.{rules}
 use Rattle.corners.proofs.key.normal_of.Goals as goal
 
 pub returns-then-a : goal.returns-then-a

@@ -1,6 +1,5 @@
 use mathlib.Core.Path.{refl}
 use Rattle.corners.specs.Corner.{texture_at}
-use borrow.Author.Rules.{rules}
 use Rattle.corners.proofs.key.texture_of.Goals as goal
 
 pub returns : goal.returns

@@ -1,6 +1,5 @@
 use native.Mathlib.Omega.{arith}
-use Prim.Native.Nat.{◌-◌}
-use Rattle.corners.proofs.Corners.{Turning, turned_start, turned_laid, turned_lengths, turned_ready, turned_next, turned_all}
+use Rattle.corners.proofs.Corners.{turned_start, turned_laid, turned_lengths, turned_ready, turned_next, turned_all}
 use borrow.Author.Rules.{rules}
 use Rattle.corners.proofs.whole.all_vertices.Goals as goal
 

@@ -1,6 +1,5 @@
 use native.Mathlib.Omega.{arith}
 use Rattle.corners.proofs.Corners.{number_few}
-use borrow.Author.Rules.{rules}
 use Rattle.corners.proofs.whole.number_corner.Goals as goal
 
 pub vertex-r-requires : goal.vertex-r-requires

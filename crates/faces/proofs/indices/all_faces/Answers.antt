@@ -1,8 +1,5 @@
-use mathlib.Core.Path.{◌≡◌, refl, ◌∙◌}
-use Prim.Native.Nat.{◌-◌}
-use lib.ListN.{length}
-use Rattle.faces.proofs.Turning.{Facing, facing_start, facing_ready, facing_room, facing_go, facing_end}
-use borrow.Author.Rules.{rules}
+use mathlib.Core.Path.{refl, ◌∙◌}
+use Rattle.faces.proofs.Turning.{facing_start, facing_ready, facing_room, facing_go, facing_end}
 use Rattle.faces.proofs.indices.all_faces.Goals as goal
 
 pub loop-g-init : goal.loop-g-init

@@ -1,8 +1,7 @@
-use mathlib.Core.Path.{◌≡◌, refl, ◌∙◌}
+use mathlib.Core.Path.{◌≡◌}
 use Prim.Native.Nat.{◌-◌}
 use lib.ListN.{length}
-use Rattle.faces.proofs.Turning.{Facing, facing_start, facing_ready, facing_room, facing_go, facing_end}
-use borrow.Author.Rules.{rules}
+use Rattle.faces.proofs.Turning.{Facing}
 use Rattle.faces.proofs.indices.all_faces.Given as goal
 
 abbrev pub invariant-loop-g : goal.invariant-loop-g

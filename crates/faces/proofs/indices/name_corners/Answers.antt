@@ -4,7 +4,6 @@ use Prim.Native.Nat.{ℕ, ◌+◌, ◌-◌}
 use lib.ListN.{drop}
 use Rattle.lists.specs.Parts.{spliced}
 use Rattle.faces.specs.Naming.{threes, numbered}
-use borrow.Author.Rules.{rules}
 use Rattle.lists.proofs.Keep.{part_seg}
 use Rattle.faces.proofs.indices.name_corners.Goals as goal
 

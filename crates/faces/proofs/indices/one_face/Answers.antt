@@ -1,7 +1,6 @@
 use mathlib.Core.Path.{refl}
 use native.Mathlib.Omega.{arith}
 use Rattle.faces.proofs.Pieces.{few_put, more_put}
-use borrow.Author.Rules.{rules}
 use Rattle.faces.proofs.indices.one_face.Goals as goal
 
 pub stretch_of-r-requires : goal.stretch_of-r-requires

@@ -2,7 +2,6 @@ use mathlib.Core.Path.{refl}
 use Prim.Native.Nat.{◌+◌, ◌-◌, ◌*◌}
 use native.Mathlib.Omega.{arith}
 use Rattle.faces.proofs.Pieces.{corners_in, corners_put}
-use borrow.Author.Rules.{rules}
 use Rattle.lists.proofs.Keep.{part_length, kept_mid}
 use Rattle.faces.proofs.indices.put_corners.Goals as goal
 

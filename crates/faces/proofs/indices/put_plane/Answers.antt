@@ -2,7 +2,6 @@ use mathlib.Core.Path.{refl}
 use Prim.Native.Nat.{◌+◌}
 use native.Mathlib.Omega.{arith}
 use Rattle.faces.proofs.Pieces.{plane_made}
-use borrow.Author.Rules.{rules}
 use Rattle.lists.proofs.Keep.{part_length}
 use Rattle.faces.proofs.indices.put_plane.Goals as goal
 

@@ -1,4 +1,3 @@
-use borrow.Author.Rules.{rules}
 use Rattle.faces.specs.Indices.{corners_floats}
 use Rattle.faces.proofs.indices.put_plane_where.Goals as goal
 

@@ -1,6 +1,5 @@
 use Rattle.mesh.specs.Vertices.{wound}
 use Rattle.faces.specs.Naming.{numbered}
-use borrow.Author.Rules.{rules}
 use Rattle.faces.proofs.naming.name_tri.Goals as goal
 
 pub returns-then-ccw : goal.returns-then-ccw

@@ -1,5 +1,4 @@
 use Rattle.lists.proofs.Splices.{put_three}
-use borrow.Author.Rules.{rules}
 use Rattle.faces.proofs.naming.put_three.Goals as goal
 
 pub returns : goal.returns

@@ -1,8 +1,6 @@
 use mathlib.Core.Path.{refl}
-use Prim.Native.Nat.{◌-◌}
 use native.Mathlib.Omega.{arith}
-use Rattle.faces.proofs.Threes.{Renaming, renaming_start, renaming_go, renaming_end}
-use borrow.Author.Rules.{rules}
+use Rattle.faces.proofs.Threes.{renaming_start, renaming_go, renaming_end}
 use Rattle.faces.proofs.naming.rename.Goals as goal
 
 pub loop-i-init : goal.loop-i-init

@@ -1,8 +1,5 @@
-use mathlib.Core.Path.{refl}
 use Prim.Native.Nat.{◌-◌}
-use native.Mathlib.Omega.{arith}
-use Rattle.faces.proofs.Threes.{Renaming, renaming_start, renaming_go, renaming_end}
-use borrow.Author.Rules.{rules}
+use Rattle.faces.proofs.Threes.{Renaming}
 use Rattle.faces.proofs.naming.rename.Given as goal
 
 abbrev pub invariant-loop-i : goal.invariant-loop-i

@@ -1,7 +1,5 @@
-use Rattle.mending.proofs.Table.{Cleared, cleared_start, cleared_go, cleared_end}
-use lib.ListN.{length}
-use Prim.Native.Nat.{◌≤◌, ◌-◌}
-use mathlib.Core.Path.{◌≡◌, refl}
+use Rattle.mending.proofs.Table.{cleared_start, cleared_go, cleared_end}
+use mathlib.Core.Path.{refl}
 use borrow.Author.Rules.{rules}
 use Rattle.mending.proofs.mend.clear.Goals as goal
 

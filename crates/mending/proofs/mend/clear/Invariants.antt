@@ -1,8 +1,7 @@
-use Rattle.mending.proofs.Table.{Cleared, cleared_start, cleared_go, cleared_end}
+use Rattle.mending.proofs.Table.{Cleared}
 use lib.ListN.{length}
 use Prim.Native.Nat.{◌≤◌, ◌-◌}
-use mathlib.Core.Path.{◌≡◌, refl}
-use borrow.Author.Rules.{rules}
+use mathlib.Core.Path.{◌≡◌}
 use Rattle.mending.proofs.mend.clear.Given as goal
 
 abbrev pub invariant-loop-i : goal.invariant-loop-i

@@ -1,9 +1,5 @@
-use lib.ListN.{length}
-use Prim.Native.Nat.{◌≤◌, ◌-◌, ◌*◌}
-use mathlib.Core.Path.{◌≡◌, refl, ◌∙◌}
-use mathlib.Core.List.{[]}
-use Rattle.mending.specs.Mend.{lent_frame, lent_keys}
-use Rattle.mending.proofs.Table.{Left, left_start, left_go, left_end}
+use mathlib.Core.Path.{refl, ◌∙◌}
+use Rattle.mending.proofs.Table.{left_start, left_go, left_end}
 use borrow.Author.Rules.{rules}
 use Rattle.mending.proofs.mend.first_normals.Goals as goal
 

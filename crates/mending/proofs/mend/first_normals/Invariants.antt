@@ -1,10 +1,9 @@
 use lib.ListN.{length}
 use Prim.Native.Nat.{◌≤◌, ◌-◌, ◌*◌}
-use mathlib.Core.Path.{◌≡◌, refl, ◌∙◌}
+use mathlib.Core.Path.{◌≡◌}
 use mathlib.Core.List.{[]}
 use Rattle.mending.specs.Mend.{lent_frame, lent_keys}
-use Rattle.mending.proofs.Table.{Left, left_start, left_go, left_end}
-use borrow.Author.Rules.{rules}
+use Rattle.mending.proofs.Table.{Left}
 use Rattle.mending.proofs.mend.first_normals.Given as goal
 
 abbrev pub invariant-loop-n : goal.invariant-loop-n

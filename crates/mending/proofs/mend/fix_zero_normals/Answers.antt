@@ -1,9 +1,6 @@
 use native.Mathlib.Omega.{arith}
-use mathlib.Core.Path.{◌≡◌, refl, ◌∙◌}
-use Prim.Native.Nat.{◌-◌}
-use lib.ListN.{length}
-use Rattle.mending.specs.Mend.{Served}
-use Rattle.mending.proofs.Fixing.{none_made, Mending, mending_start, mending_go, mending_end}
+use mathlib.Core.Path.{refl}
+use Rattle.mending.proofs.Fixing.{none_made, mending_start, mending_go, mending_end}
 use borrow.Author.Rules.{rules}
 use Rattle.mending.proofs.mend.fix_zero_normals.Goals as goal
 

@@ -1,10 +1,8 @@
-use native.Mathlib.Omega.{arith}
-use mathlib.Core.Path.{◌≡◌, refl, ◌∙◌}
+use mathlib.Core.Path.{◌≡◌}
 use Prim.Native.Nat.{◌-◌}
 use lib.ListN.{length}
 use Rattle.mending.specs.Mend.{Served}
-use Rattle.mending.proofs.Fixing.{none_made, Mending, mending_start, mending_go, mending_end}
-use borrow.Author.Rules.{rules}
+use Rattle.mending.proofs.Fixing.{Mending}
 use Rattle.mending.proofs.mend.fix_zero_normals.Given as goal
 
 abbrev pub invariant-loop-v : goal.invariant-loop-v

@@ -1,4 +1,3 @@
-use borrow.Author.Rules.{rules}
 use Rattle.mending.proofs.mend.floats_of.Goals as goal
 
 pub returns : goal.returns

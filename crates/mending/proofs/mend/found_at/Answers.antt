@@ -2,7 +2,6 @@ use mathlib.Core.Path.{sym, ap, ◌∙◌}
 use Rattle.math.specs.Vector.{y_axis}
 use Rattle.mesh.specs.Normals.{or_else}
 use Rattle.mending.proofs.Table.{found_is}
-use borrow.Author.Rules.{rules}
 use Rattle.mending.proofs.mend.found_at.Goals as goal
 
 pub returns-in_default : goal.returns-in_default

@@ -1,5 +1,4 @@
 use Rattle.mending.proofs.Fixing.{made_here}
-use borrow.Author.Rules.{rules}
 use Rattle.mending.proofs.mend.make_table.Goals as goal
 
 pub returns-then-made : goal.returns-then-made

@@ -1,6 +1,5 @@
 use borrow.Author.Tests.{eq-eqb, ne_eqb}
 use Rattle.mending.specs.Mend.{marked}
-use borrow.Author.Rules.{rules}
 use Rattle.mending.proofs.mend.mark.Goals as goal
 
 pub returns-then-old-eq0 : goal.returns-then-old-eq0

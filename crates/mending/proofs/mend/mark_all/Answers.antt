@@ -1,5 +1,4 @@
 use Rattle.mending.specs.Mend.{marked_all}
-use borrow.Author.Rules.{rules}
 use Rattle.mending.proofs.mend.mark_all.Goals as goal
 
 pub returns : goal.returns

@@ -2,7 +2,6 @@ use mathlib.Core.Path.{sym, ◌∙◌}
 use native.Mathlib.Omega.{arith}
 use Rattle.mending.proofs.Fixing.{mend_scaled, mend_found, all_made}
 use Rattle.mending.proofs.NearOne.{near_kept}
-use borrow.Author.Rules.{rules}
 use Rattle.mending.proofs.mend.mend_one.Goals as goal
 
 pub returns-then-is_near_one : goal.returns-then-is_near_one

@@ -1,5 +1,4 @@
 use Rattle.mending.specs.Mend.{noted}
-use borrow.Author.Rules.{rules}
 use Rattle.mending.proofs.mend.note.Goals as goal
 
 pub returns-in_default : goal.returns-in_default

@@ -1,4 +1,3 @@
-use borrow.Author.Rules.{rules}
 use Rattle.mending.proofs.mend.scaled.Goals as goal
 
 pub returns-then-abs : goal.returns-then-abs

@@ -2,7 +2,6 @@ use mathlib.Core.Path.{sym, ap, ◌∙◌}
 use mathlib.Core.List.{[]}
 use Rattle.mesh.specs.Words.{floats}
 use Rattle.mending.proofs.Lent.{spot_in, spot_out}
-use borrow.Author.Rules.{rules}
 use Rattle.mending.proofs.mend.spot_of.Goals as goal
 
 pub returns-then-v-count : goal.returns-then-v-count

@@ -1,7 +1,6 @@
 use mathlib.Core.Path.{ap, ap₂, ◌∙◌}
 use Rattle.math.specs.Vector.{unit_of, vcross}
 use Rattle.mesh.specs.Mend.{tri_normal}
-use borrow.Author.Rules.{rules}
 use Rattle.mending.proofs.mend.tri_normal.Goals as goal
 
 pub returns : goal.returns

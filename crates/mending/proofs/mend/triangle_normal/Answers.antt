@@ -2,7 +2,6 @@ use mathlib.Core.Path.{ap, ◌∙◌}
 use Rattle.mesh.specs.Mend.{vertex_spot, tri_normal}
 use Rattle.mending.specs.Mend.{triangle_normal, lent_frame, lent_keys}
 use mathlib.Core.List.{[]}
-use borrow.Author.Rules.{rules}
 use Rattle.mending.proofs.mend.triangle_normal.Goals as goal
 
 pub returns : goal.returns

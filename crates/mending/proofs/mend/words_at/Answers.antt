@@ -1,5 +1,4 @@
 use Rattle.mesh.specs.Words.{point_words}
-use borrow.Author.Rules.{rules}
 use Rattle.mending.proofs.mend.words_at.Goals as goal
 
 pub returns : goal.returns

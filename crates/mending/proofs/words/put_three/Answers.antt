@@ -1,5 +1,4 @@
 use native.Mathlib.Numerals.{add-one, add-two}
-use borrow.Author.Rules.{rules}
 use Rattle.mending.proofs.words.put_three.Goals as goal
 
 pub returns : goal.returns

@@ -1,7 +1,6 @@
 use mathlib.Core.Path.{refl}
 use Rattle.lists.specs.Parts.{seg}
 use Rattle.normals.proofs.Making.{facing_made}
-use borrow.Author.Rules.{rules}
 use Rattle.normals.proofs.facing.face_normal.Goals as goal
 
 pub returns : goal.returns

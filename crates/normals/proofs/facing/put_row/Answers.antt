@@ -1,6 +1,5 @@
 use native.Mathlib.Omega.{arith}
 use Rattle.normals.proofs.Making.{row_made}
-use borrow.Author.Rules.{rules}
 use Rattle.normals.proofs.facing.put_row.Goals as goal
 
 pub store_unit-requires : goal.store_unit-requires

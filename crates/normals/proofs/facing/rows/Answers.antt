@@ -1,4 +1,3 @@
-use borrow.Author.Rules.{rules}
 use Rattle.normals.proofs.facing.rows.Goals as goal
 
 pub rows_by_fours-g-requires : goal.rows_by_fours-g-requires

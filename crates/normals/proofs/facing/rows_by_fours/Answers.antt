@@ -1,12 +1,6 @@
 use native.Mathlib.Omega.{arith}
-use mathlib.Core.Path.{◌≡◌}
-use Prim.Native.Nat.{◌-◌, ◌≤◌}
-use Rattle.lists.specs.Parts.{Kept}
-use Rattle.tables.specs.Soups.{Sound}
 use Rattle.lists.proofs.Keep.{kept_all}
-use Rattle.normals.specs.Rows.{Rowed}
 use Rattle.normals.proofs.Making.{rows_four}
-use borrow.Author.Rules.{rules}
 use Rattle.normals.proofs.facing.rows_by_fours.Goals as goal
 
 pub loop-g-init : goal.loop-g-init

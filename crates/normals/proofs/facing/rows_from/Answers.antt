@@ -1,12 +1,6 @@
 use native.Mathlib.Omega.{arith}
 use mathlib.Core.Path.{◌≡◌, refl, ◌∙◌}
-use Prim.Native.Nat.{◌-◌, ◌≤◌}
-use lib.ListN.{length}
-use Rattle.tables.specs.Soups.{Sound}
-use Rattle.lists.proofs.Keep.{kept_all}
-use Rattle.normals.specs.Rows.{Onward}
 use Rattle.normals.proofs.Making.{rows_next, row_sound}
-use borrow.Author.Rules.{rules}
 use Rattle.normals.proofs.facing.rows_from.Goals as goal
 
 pub loop-k-init : goal.loop-k-init

@@ -1,12 +1,8 @@
-use native.Mathlib.Omega.{arith}
-use mathlib.Core.Path.{◌≡◌, refl, ◌∙◌}
+use mathlib.Core.Path.{◌≡◌}
 use Prim.Native.Nat.{◌-◌, ◌≤◌}
 use lib.ListN.{length}
 use Rattle.tables.specs.Soups.{Sound}
-use Rattle.lists.proofs.Keep.{kept_all}
 use Rattle.normals.specs.Rows.{Onward}
-use Rattle.normals.proofs.Making.{rows_next, row_sound}
-use borrow.Author.Rules.{rules}
 use Rattle.normals.proofs.facing.rows_from.Given as goal
 
 abbrev pub invariant-loop-k : goal.invariant-loop-k

@@ -1,11 +1,8 @@
 use native.Mathlib.Omega.{arith}
 use mathlib.Core.Path.{◌≡◌, refl, ap, ◌∙◌}
-use Prim.Native.Nat.{◌-◌, ◌≤◌}
-use lib.ListN.{length}
 use Rattle.mesh.specs.Normals.{or_else}
-use Rattle.normals.specs.Rows.{normal_in, unit_in, no_unit, Mirrored}
+use Rattle.normals.specs.Rows.{normal_in, unit_in}
 use Rattle.normals.proofs.Floats.{mirror_none, mirror_next}
-use borrow.Author.Rules.{rules}
 use Rattle.normals.proofs.mirror.mirror.Goals as goal
 
 pub loop-g-init : goal.loop-g-init

@@ -1,11 +1,7 @@
-use native.Mathlib.Omega.{arith}
-use mathlib.Core.Path.{◌≡◌, refl, ap, ◌∙◌}
+use mathlib.Core.Path.{◌≡◌}
 use Prim.Native.Nat.{◌-◌, ◌≤◌}
 use lib.ListN.{length}
-use Rattle.mesh.specs.Normals.{or_else}
-use Rattle.normals.specs.Rows.{normal_in, unit_in, no_unit, Mirrored}
-use Rattle.normals.proofs.Floats.{mirror_none, mirror_next}
-use borrow.Author.Rules.{rules}
+use Rattle.normals.specs.Rows.{no_unit, Mirrored}
 use Rattle.normals.proofs.mirror.mirror.Given as goal
 
 abbrev pub invariant-loop-g : goal.invariant-loop-g

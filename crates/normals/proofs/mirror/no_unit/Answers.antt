@@ -1,6 +1,5 @@
 use mathlib.Core.Path.{refl}
 use lib.Ieee.{div, of_bits}
-use borrow.Author.Rules.{rules}
 use Rattle.normals.proofs.mirror.no_unit.Goals as goal
 
 pub returns : goal.returns

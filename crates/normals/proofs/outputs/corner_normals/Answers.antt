@@ -1,5 +1,4 @@
 use native.Mathlib.Omega.{arith}
-use borrow.Author.Rules.{rules}
 use Rattle.normals.proofs.outputs.corner_normals.Goals as goal
 
 pub first_normals-c-requires : goal.first_normals-c-requires

@@ -1,5 +1,4 @@
 use Rattle.normals.proofs.Begun.{begun_none, summed_bound, begun_bound}
-use borrow.Author.Rules.{rules}
 use Rattle.normals.proofs.outputs.first_normals.Goals as goal
 
 pub returns-in-Own : goal.returns-in-Own

@@ -1,6 +1,5 @@
 use borrow.Author.Tests.{eq-eqb, ne_eqb}
 use Rattle.normals.specs.Written.{again}
-use borrow.Author.Rules.{rules}
 use Rattle.normals.proofs.outputs.is_again.Goals as goal
 
 pub gather_of-requires : goal.gather_of-requires

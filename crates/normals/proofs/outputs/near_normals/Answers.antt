@@ -1,12 +1,8 @@
 use native.Mathlib.Omega.{arith}
-use Prim.Native.Nat.{◌-◌}
 use mathlib.Core.Path.{refl, ap, ◌∙◌}
 use Rattle.math.specs.Vector.{unit_of}
-use Rattle.block.specs.declared.crease.CreaseRule.TheVariants.{Bound}
-use Rattle.normals.specs.Written.{Begun}
 use Rattle.normals.proofs.Summing.{rows_read}
 use Rattle.normals.proofs.Begun.{begun_none, begun_four}
-use borrow.Author.Rules.{rules}
 use Rattle.normals.proofs.outputs.near_normals.Goals as goal
 
 pub loop-c-init : goal.loop-c-init

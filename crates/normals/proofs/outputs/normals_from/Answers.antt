@@ -1,13 +1,8 @@
 use native.Mathlib.Omega.{arith}
 use mathlib.Core.Path.{◌≡◌, refl, ◌∙◌}
-use Prim.Native.Nat.{◌-◌, ◌≤◌}
-use lib.ListN.{length}
-use Rattle.normals.specs.Rows.{Summed}
-use Rattle.normals.specs.Written.{Continued}
 use Rattle.normals.proofs.Floats.{summed_put, vector_size}
 use Rattle.normals.proofs.Begun.{begun_next}
 use Rattle.normals.proofs.Soups.{corner_is}
-use borrow.Author.Rules.{rules}
 use Rattle.normals.proofs.outputs.normals_from.Goals as goal
 
 pub loop-k-init : goal.loop-k-init

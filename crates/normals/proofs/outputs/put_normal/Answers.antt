@@ -1,7 +1,6 @@
 use native.Mathlib.Omega.{arith}
 use Rattle.normals.proofs.Floats.{vector_size}
 use Rattle.normals.proofs.Begun.{normal_is, put_is}
-use borrow.Author.Rules.{rules}
 use Rattle.normals.proofs.outputs.put_normal.Goals as goal
 
 pub owner_of-own-requires : goal.owner_of-own-requires

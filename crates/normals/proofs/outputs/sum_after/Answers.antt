@@ -1,6 +1,5 @@
 use mathlib.Core.Path.{sym, ◌∙◌}
 use Rattle.normals.proofs.Begun.{sum_again}
-use borrow.Author.Rules.{rules}
 use Rattle.normals.proofs.outputs.sum_after.Goals as goal
 
 pub is_again-requires : goal.is_again-requires

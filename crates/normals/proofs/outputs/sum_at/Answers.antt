@@ -3,7 +3,6 @@ use mathlib.Core.Path.{◌∙◌}
 use Prim.Native.Nat.{◌<◌}
 use Rattle.normals.specs.Rows.{normal_in, unit_in}
 use Rattle.normals.proofs.Begun.{sum_some, sum_none}
-use borrow.Author.Rules.{rules}
 use Rattle.normals.proofs.outputs.sum_at.Goals as goal
 
 pub gather_of-p-requires : goal.gather_of-p-requires

@@ -1,7 +1,6 @@
 use native.Mathlib.Omega.{arith}
 use Rattle.lists.proofs.Keep.{kept_all}
 use Rattle.normals.proofs.Summing.{sums_all, sums_own, sums_bound}
-use borrow.Author.Rules.{rules}
 use Rattle.normals.proofs.points.share.Goals as goal
 
 pub returns-in-Own : goal.returns-in-Own

@@ -2,7 +2,6 @@ use native.Mathlib.Omega.{arith}
 use mathlib.Core.Path.{ap, ◌∙◌}
 use Rattle.mesh.specs.Normals.{sum_all}
 use Rattle.normals.proofs.Walks.{ends_fit, faces_low, faces_hit}
-use borrow.Author.Rules.{rules}
 use Rattle.normals.proofs.points.sum_all.Goals as goal
 
 pub start_at-from-requires : goal.start_at-from-requires

@@ -1,12 +1,10 @@
 use native.Mathlib.Omega.{arith}
 use mathlib.Core.Path.{refl}
-use Prim.Native.Nat.{ℕ, ◌-◌, ◌<◌, ◌≤◌}
-use lib.ListN.{length}
+use Prim.Native.Nat.{ℕ, ◌<◌}
 use Rattle.lists.proofs.Lists.{All_get_or}
 use Rattle.mesh.specs.Normals.{sum_all}
 use Rattle.normals.specs.Rows.{normal_in}
-use Rattle.normals.proofs.Walks.{Left, left_start, left_step, left_end, all_one, all_none}
-use borrow.Author.Rules.{rules}
+use Rattle.normals.proofs.Walks.{left_start, left_step, left_end, all_one, all_none}
 use Rattle.normals.proofs.points.sum_faces.Goals as goal
 
 pub loop-k-init : goal.loop-k-init

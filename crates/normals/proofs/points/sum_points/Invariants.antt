@@ -1,11 +1,6 @@
-use native.Mathlib.Omega.{arith}
-use mathlib.Core.Path.{◌≡◌}
 use Prim.Native.Nat.{◌-◌, ◌≤◌}
 use Rattle.lists.specs.Parts.{Kept}
-use Rattle.lists.proofs.Keep.{kept_all}
 use Rattle.normals.specs.Rows.{SummedTo}
-use Rattle.normals.proofs.Summing.{ready_kept, sums_none, sums_next}
-use borrow.Author.Rules.{rules}
 use Rattle.normals.proofs.points.sum_points.Given as goal
 
 abbrev pub invariant-loop-p : goal.invariant-loop-p

@@ -2,7 +2,6 @@ use native.Mathlib.Omega.{arith}
 use mathlib.Core.Path.{◌∙◌}
 use Rattle.normals.specs.Rows.{unit_in}
 use Rattle.normals.proofs.Arms.{normal_made}
-use borrow.Author.Rules.{rules}
 use Rattle.normals.proofs.sums.corner_normal.Goals as goal
 
 pub overflow_mul-own : goal.overflow_mul-own

@@ -3,7 +3,6 @@ use mathlib.Core.Path.{refl}
 use Rattle.normals.specs.Rows.{sum_in}
 use Rattle.normals.proofs.Arms.{unit_own, unit_every, unit_bound, unit_bound_none}
 use Rattle.normals.proofs.Summing.{sums_read, rows_read}
-use borrow.Author.Rules.{rules}
 use Rattle.normals.proofs.sums.crease_unit.Goals as goal
 
 pub returns-in-Own : goal.returns-in-Own

@@ -1,11 +1,8 @@
 use native.Mathlib.Omega.{arith}
-use Prim.Native.Nat.{◌-◌, ◌≤◌}
-use lib.ListN.{length}
 use Rattle.mesh.specs.Normals.{sum_near}
 use mathlib.Core.Path.{◌∙◌}
 use Rattle.lists.proofs.Lists.{all_low}
-use Rattle.normals.proofs.Walks.{Left, left_start, left_step, left_end, near_one_lem, near_nothing}
-use borrow.Author.Rules.{rules}
+use Rattle.normals.proofs.Walks.{left_start, left_step, left_end, near_one_lem, near_nothing}
 use Rattle.normals.proofs.sums.near_faces.Goals as goal
 
 pub overflow_mul-t : goal.overflow_mul-t

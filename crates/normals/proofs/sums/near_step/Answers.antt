@@ -1,5 +1,4 @@
 use Rattle.normals.proofs.Arms.{near_own, near_far, near_yes}
-use borrow.Author.Rules.{rules}
 use Rattle.normals.proofs.sums.near_step.Goals as goal
 
 pub returns-then-g-own : goal.returns-then-g-own

@@ -4,7 +4,6 @@ use Rattle.math.specs.declared.vector.Unit.{Unit}
 use Rattle.math.specs.Vector.{y_axis}
 use Rattle.mesh.specs.Normals.{or_else}
 use Rattle.normals.specs.Rows.{unit_in}
-use borrow.Author.Rules.{rules}
 use Rattle.normals.proofs.sums.normal_by.Goals as goal
 
 pub overflow_mul-own : goal.overflow_mul-own

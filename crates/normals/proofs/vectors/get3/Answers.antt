@@ -1,6 +1,5 @@
 use mathlib.Core.Path.{refl}
 use Rattle.normals.specs.Rows.{vector}
-use borrow.Author.Rules.{rules}
 use Rattle.normals.proofs.vectors.get3.Goals as goal
 
 pub returns : goal.returns

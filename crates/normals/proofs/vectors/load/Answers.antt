@@ -1,5 +1,4 @@
 use Rattle.normals.specs.Rows.{at3}
-use borrow.Author.Rules.{rules}
 use Rattle.normals.proofs.vectors.load.Goals as goal
 
 pub returns : goal.returns

@@ -2,7 +2,6 @@ use mathlib.Core.Path.{ap}
 use borrow.Author.Tests.{eq-eqb, ne_eqb}
 use Rattle.math.specs.declared.vector.Unit.TheVariants.{Of}
 use Rattle.normals.specs.Rows.{unit_at}
-use borrow.Author.Rules.{rules}
 use Rattle.normals.proofs.vectors.load_unit.Goals as goal
 
 pub returns-then-work-a-eq0 : goal.returns-then-work-a-eq0

@@ -1,4 +1,3 @@
-use borrow.Author.Rules.{rules}
 use Rattle.mesh.specs.Normals.{or_else}
 use Rattle.normals.proofs.vectors.or_else.Goals as goal
 

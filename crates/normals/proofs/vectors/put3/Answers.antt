@@ -1,7 +1,6 @@
 use native.Mathlib.Omega.{arith}
 use lib.ListN.{length-set}
 use Rattle.lists.proofs.Splices.{put_three}
-use borrow.Author.Rules.{rules}
 use Rattle.normals.proofs.vectors.put3.Goals as goal
 
 pub bounds-part-a-2 : goal.bounds-part-a-2

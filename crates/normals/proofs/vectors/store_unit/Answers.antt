@@ -2,7 +2,6 @@ use native.Mathlib.Omega.{arith}
 use mathlib.Core.Path.{refl, ◌∙◌}
 use lib.ListN.{length-set}
 use Rattle.normals.proofs.Making.{unit_some, unit_none}
-use borrow.Author.Rules.{rules}
 use Rattle.normals.proofs.vectors.store_unit.Goals as goal
 
 pub store3-requires : goal.store3-requires

@@ -4,7 +4,6 @@ use Rattle.normals.specs.Written.{spread}
 use Rattle.normals.proofs.Fills.{made_front}
 use Rattle.normals.proofs.Soups.{generated_all}
 use Rattle.normals.proofs.Summing.{made_kept}
-use borrow.Author.Rules.{rules}
 use Rattle.normals.proofs.whole.generate.Goals as goal
 
 pub share-requires : goal.share-requires

@@ -1,5 +1,4 @@
 use Rattle.normals.proofs.Making.{made, after_owners, after_rows}
-use borrow.Author.Rules.{rules}
 use Rattle.normals.proofs.whole.prepare.Goals as goal
 
 pub owners-requires : goal.owners-requires

@@ -1,9 +1,4 @@
-use borrow.Author.Rules.{rules}
 use Rattle.soups.specs.Attributes.{attributes_of}
-use Rattle.soups.proofs.attributes.attributes_of.Reads as reads
-use Rattle.soups.proofs.attributes.attributes_of.Lts as lts
-use Rattle.block.proofs.color_stream.Reads as color-stream-reads
-use Rattle.block.proofs.normal_stream.Reads as normal-stream-reads
 use Rattle.soups.proofs.attributes.attributes_of.Goals as goal
 
 pub returns : goal.returns

@@ -1,11 +1,6 @@
 use mathlib.Core.Path.{ap, ◌∙◌}
 use mathlib.Core.Bool.{Bool, cond}
-use borrow.Author.Rules.{rules}
 use Rattle.soups.specs.Attributes.{face_widths}
-use Rattle.soups.proofs.attributes.face_widths.Reads as reads
-use Rattle.soups.proofs.attributes.face_widths.Lts as lts
-use Rattle.soups.proofs.attributes.is_textured.Reads as is-textured-reads
-use Rattle.soups.proofs.attributes.width_if.Reads as width-if-reads
 use Rattle.soups.proofs.attributes.face_widths.Goals as goal
 
 pub returns : goal.returns

@@ -1,8 +1,5 @@
 use mathlib.Core.Path.{sym, ap}
 use mathlib.Core.Bool.{Bool, ◌||◌}
-use borrow.Author.Rules.{rules}
-use Rattle.soups.proofs.attributes.is_textured.Reads as reads
-use Rattle.soups.proofs.attributes.is_textured.Lts as lts
 use Rattle.soups.proofs.attributes.is_textured.Goals as goal
 
 pub returns-then-h : goal.returns-then-h

@@ -1,9 +1,5 @@
-use borrow.Author.Rules.{rules}
 use Rattle.lists.proofs.Keep.{kept_all}
 use Rattle.soups.proofs.Generating.{as_supplied, as_generated}
-use Rattle.soups.proofs.ready.generate_where.Reads as reads
-use Rattle.soups.proofs.ready.generate_where.Lts as lts
-use Rattle.normals.proofs.generate.Reads as generate-reads
 use Rattle.soups.proofs.ready.generate_where.Goals as goal
 
 pub returns-then-supplied : goal.returns-then-supplied

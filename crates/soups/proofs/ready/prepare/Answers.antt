@@ -2,11 +2,6 @@ use native.Mathlib.Omega.{arith}
 use Rattle.lists.proofs.Keep.{kept_then}
 use Rattle.tables.proofs.Stays.{sound_kept}
 use Rattle.soups.proofs.Generating.{spread_from}
-use borrow.Author.Rules.{rules}
-use Rattle.soups.proofs.ready.prepare.Reads as reads
-use Rattle.soups.proofs.ready.prepare.Lts as lts
-use Rattle.soups.proofs.ready.generate_where.Reads as generate-where-reads
-use Rattle.soups.proofs.ready.spread_numbers.Reads as spread-numbers-reads
 use Rattle.soups.proofs.ready.prepare.Goals as goal
 
 pub spread_numbers-requires : goal.spread_numbers-requires

@@ -1,16 +1,9 @@
 use native.Mathlib.Omega.{arith}
 use mathlib.Core.Path.{◌≡◌}
-use Prim.Native.Nat.{◌-◌, ◌≤◌}
-use Rattle.lists.specs.Parts.{Kept}
-use Rattle.tables.specs.Soups.{number_in, Sound, Spread}
+use Rattle.tables.specs.Soups.{number_in}
 use Rattle.lists.proofs.Keep.{kept_all}
 use Rattle.tables.proofs.Stays.{number_kept}
 use Rattle.tables.proofs.Spreads.{spread_none, spread_next}
-use borrow.Author.Rules.{rules}
-use Rattle.soups.proofs.ready.spread_numbers.Reads as reads
-use Rattle.soups.proofs.ready.spread_numbers.Lts as lts
-use Rattle.tables.proofs.stretch_of.Reads as stretch-of-reads
-use Rattle.tables.proofs.fill.Reads as fill-reads
 use Rattle.soups.proofs.ready.spread_numbers.Goals as goal
 
 pub loop-g-init : goal.loop-g-init

@@ -1,7 +1,5 @@
 use borrow.Author.Rules.{rules}
 use Rattle.tables.specs.Layout.{plan_of}
-use Rattle.tables.proofs.layout.plan_of.Reads as reads
-use Rattle.tables.proofs.layout.plan_of.Lts as lts
 use Rattle.tables.proofs.layout.plan_of.Goals as goal
 
 pub returns : goal.returns

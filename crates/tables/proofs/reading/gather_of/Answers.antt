@@ -1,5 +1,4 @@
 use mathlib.Core.Path.{ap, ◌∙◌}
-use borrow.Author.Rules.{rules}
 use Rattle.mesh.specs.Soup.{gathered}
 use Rattle.tables.specs.Soups.{point_in, gather_in}
 use Rattle.tables.proofs.reading.gather_of.Goals as goal

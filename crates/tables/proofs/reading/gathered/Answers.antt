@@ -2,7 +2,6 @@ use mathlib.Core.Path.{sym}
 use native.Mathlib.Nat.{mod-le}
 use native.Mathlib.Omega.{arith}
 use Rattle.mesh.proofs.Gathered.{gathered_alone, gathered_last, gathered_own}
-use borrow.Author.Rules.{rules}
 use Rattle.tables.proofs.reading.gathered.Goals as goal
 
 pub returns-then-ring-eq0 : goal.returns-then-ring-eq0

@@ -1,4 +1,3 @@
-use borrow.Author.Rules.{rules}
 use Rattle.tables.proofs.Stays.{ends_of}
 use Rattle.tables.proofs.reading.stretch_of.Goals as goal
 

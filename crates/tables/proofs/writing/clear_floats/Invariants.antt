@@ -1,9 +1,7 @@
 use Prim.Native.Nat.{◌-◌}
-use native.Mathlib.Omega.{arith}
 use lib.ListN.{length}
 use lib.Ieee.{binary32, of_bits}
-use borrow.Author.Rules.{rules}
-use Rattle.lists.proofs.Pieces.{Singles, singles_none, same_more, same_all}
+use Rattle.lists.proofs.Pieces.{Singles}
 use Rattle.tables.proofs.writing.clear_floats.Given as goal
 
 abbrev pub invariant-loop-i : goal.invariant-loop-i

@@ -1,8 +1,5 @@
-use Prim.Native.Nat.{◌-◌}
 use native.Mathlib.Omega.{arith}
-use lib.ListN.{length}
-use borrow.Author.Rules.{rules}
-use Rattle.lists.proofs.Pieces.{Singles, singles_none, same_more, same_all}
+use Rattle.lists.proofs.Pieces.{singles_none, same_more, same_all}
 use Rattle.tables.proofs.writing.clear_words.Goals as goal
 
 pub loop-i-init : goal.loop-i-init

@@ -1,8 +1,6 @@
 use Prim.Native.Nat.{◌-◌}
-use native.Mathlib.Omega.{arith}
 use lib.ListN.{length}
-use borrow.Author.Rules.{rules}
-use Rattle.lists.proofs.Pieces.{Singles, singles_none, same_more, same_all}
+use Rattle.lists.proofs.Pieces.{Singles}
 use Rattle.tables.proofs.writing.clear_words.Given as goal
 
 abbrev pub invariant-loop-i : goal.invariant-loop-i

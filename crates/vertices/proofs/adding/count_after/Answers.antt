@@ -1,7 +1,6 @@
 use borrow.Author.Tests.{eq-eqb, ne_eqb}
 use native.Mathlib.Numerals.{add-one}
 use Rattle.vertices.specs.Adding.{count_after}
-use borrow.Author.Rules.{rules}
 use Rattle.vertices.proofs.adding.count_after.Goals as goal
 
 pub returns-then-r-n : goal.returns-then-r-n

@@ -1,7 +1,6 @@
 use native.Mathlib.Omega.{arith}
 use lib.ListN.{length-set}
 use Rattle.vertices.specs.Adding.{linked}
-use borrow.Author.Rules.{rules}
 use Rattle.vertices.proofs.adding.link.Goals as goal
 
 pub bounds-work-head-2 : goal.bounds-work-head-2

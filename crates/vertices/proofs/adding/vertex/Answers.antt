@@ -2,7 +2,6 @@ use mathlib.Core.Path.{sym, ◌∙◌}
 use native.Mathlib.Omega.{arith}
 use Rattle.vertices.proofs.Keys.{roomy_le}
 use Rattle.vertices.proofs.Held.{laid_le, vertexed_old, vertexed_new}
-use borrow.Author.Rules.{rules}
 use Rattle.vertices.proofs.adding.vertex.Goals as goal
 
 pub bucket_of-bucket-requires : goal.bucket_of-bucket-requires

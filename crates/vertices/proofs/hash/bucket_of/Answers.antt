@@ -1,6 +1,5 @@
 use native.Mathlib.Omega.{arith}
 use Rattle.vertices.proofs.Buckets.{corner_bucket, bucket_small, bucket_below}
-use borrow.Author.Rules.{rules}
 use Rattle.vertices.proofs.hash.bucket_of.Goals as goal
 
 pub overflow_mul-result : goal.overflow_mul-result

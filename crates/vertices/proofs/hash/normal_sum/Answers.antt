@@ -1,6 +1,5 @@
 use native.Mathlib.Omega.{arith}
 use Rattle.vertices.specs.Hash.{normal_sum}
-use borrow.Author.Rules.{rules}
 use Rattle.vertices.proofs.hash.normal_sum.Goals as goal
 
 pub returns : goal.returns

@@ -2,7 +2,6 @@ use native.Mathlib.Omega.{arith}
 use mathlib.Core.Path.{refl}
 use Rattle.vertices.specs.Hash.{spread_of}
 use Rattle.vertices.proofs.Buckets.{halves_fit}
-use borrow.Author.Rules.{rules}
 use Rattle.vertices.proofs.hash.spread.Goals as goal
 
 pub overflow_mul-result : goal.overflow_mul-result

@@ -3,7 +3,6 @@ use mathlib.Core.Path.{sym, ◌∙◌}
 use native.Mathlib.Omega.{arith}
 use Rattle.lists.proofs.Keep.{seg_at}
 use Rattle.vertices.proofs.Buckets.{unmade_word}
-use borrow.Author.Rules.{rules}
 use Rattle.vertices.proofs.hash.word_where.Goals as goal
 
 pub returns-then-k-n : goal.returns-then-k-n

@@ -1,7 +1,6 @@
 use native.Mathlib.Numerals.{add-one, add-two}
 use native.Mathlib.Omega.{arith}
 use lib.ListN.{length-set}
-use borrow.Author.Rules.{rules}
 use Rattle.vertices.proofs.parts.put_three.Goals as goal
 
 pub bounds-dst-at-2 : goal.bounds-dst-at-2

@@ -1,12 +1,8 @@
-use native.Mathlib.Omega.{arith}
-use native.Mathlib.Nat.{add-zero, sub-zero}
-use mathlib.Core.Path.{◌≡◌, refl, sym, ◌∙◌}
+use mathlib.Core.Path.{◌≡◌}
 use Prim.Native.Nat.{◌+◌, ◌-◌, ◌≤◌}
-use lib.ListN.{length, length-set}
+use lib.ListN.{length}
 use lib.Seq.{sets}
 use Rattle.lists.specs.Parts.{seg}
-use Rattle.lists.proofs.Words.{seg_three, put_next, put_end}
-use borrow.Author.Rules.{rules}
 use Rattle.vertices.proofs.parts.put_words.Given as goal
 
 abbrev pub invariant-loop-t : goal.invariant-loop-t

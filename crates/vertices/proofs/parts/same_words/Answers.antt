@@ -1,9 +1,6 @@
 use native.Mathlib.Omega.{arith}
 use native.Mathlib.Nat.{add-zero, sub-zero}
-use mathlib.Core.Path.{◌≡◌, sym, ◌∙◌}
-use Prim.Native.Nat.{◌+◌, ◌-◌, ◌≤◌}
-use Rattle.lists.specs.Lists.{same_words}
-use Rattle.lists.specs.Parts.{seg}
+use mathlib.Core.Path.{sym, ◌∙◌}
 use Rattle.lists.proofs.Words.{same_next, same_differ, same_end}
 use borrow.Author.Rules.{rules}
 use Rattle.vertices.proofs.parts.same_words.Goals as goal

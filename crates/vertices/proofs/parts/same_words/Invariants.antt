@@ -1,11 +1,7 @@
-use native.Mathlib.Omega.{arith}
-use native.Mathlib.Nat.{add-zero, sub-zero}
-use mathlib.Core.Path.{◌≡◌, sym, ◌∙◌}
+use mathlib.Core.Path.{◌≡◌}
 use Prim.Native.Nat.{◌+◌, ◌-◌, ◌≤◌}
 use Rattle.lists.specs.Lists.{same_words}
 use Rattle.lists.specs.Parts.{seg}
-use Rattle.lists.proofs.Words.{same_next, same_differ, same_end}
-use borrow.Author.Rules.{rules}
 use Rattle.vertices.proofs.parts.same_words.Given as goal
 
 abbrev pub invariant-loop-t : goal.invariant-loop-t

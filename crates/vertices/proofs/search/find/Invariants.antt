@@ -1,11 +1,7 @@
-use mathlib.Core.Path.{sym, ◌∙◌}
-use native.Mathlib.Omega.{arith}
 use Prim.Native.Nat.{ℕ}
 use Rattle.vertices.specs.Search.{corner_key, bucket_at, Chained}
 use Rattle.vertices.proofs.Seek.{up_to}
-use Rattle.vertices.proofs.Keys.{roomy_le}
-use Rattle.vertices.proofs.ChainLaws.{Met, met_start, met_step, met_below, met_found, met_end}
-use borrow.Author.Rules.{rules}
+use Rattle.vertices.proofs.ChainLaws.{Met}
 use Rattle.vertices.proofs.search.find.Given as goal
 
 -- the code does not read n, so it is any n whose vertices are chained

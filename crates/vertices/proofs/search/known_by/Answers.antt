@@ -1,7 +1,6 @@
 use native.Mathlib.Omega.{arith}
 use Prim.Native.Nat.{◌<◌}
 use Rattle.vertices.proofs.ChainLaws.{known_none, known_at}
-use borrow.Author.Rules.{rules}
 use Rattle.vertices.proofs.search.known_by.Goals as goal
 
 pub returns-then-word-gt0 : goal.returns-then-word-gt0

@@ -1,7 +1,6 @@
 use borrow.Author.Tests.{eq-eqb, ne_eqb}
 use mathlib.Core.Path.{sym, ◌∙◌}
 use Rattle.vertices.proofs.Keys.{same_key_lem}
-use borrow.Author.Rules.{rules}
 use Rattle.vertices.proofs.search.same_vertex.Goals as goal
 
 pub returns-then-v-wide : goal.returns-then-v-wide
