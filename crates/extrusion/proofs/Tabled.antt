@@ -93,12 +93,12 @@ module _ (n m cap : ℕ) (b e : Bool) (hn : 2 ≤ n) (hm : 2 ≤ m) (hc : cap �
   at_corner : (a j i : ℕ) → seg w a (length (flat (face_points n m cap b e))) ≡ flat (face_points n m cap b e) → j < t.faces → i < length (uses_at (extrusion_listings n m cap b e) j)
       → use_of (get_or w (a + (start_in w t j + i)) 0) ≡ get_or (uses_at (extrusion_listings n m cap b e) j) i no_use
   at_corner a j i q h l =
-      let j-lt : j < length (face_points n m cap b e) = omega arith in
-      let i_lt : i < length (get_or (face_points n m cap b e) j []) = rw (uses_length n m cap b e j j-lt) at l in
+      let j_lt : j < length (face_points n m cap b e) = omega arith in
+      let i_lt : i < length (get_or (face_points n m cap b e) j []) = rw (uses_length n m cap b e j j_lt) at l in
       let c_lt : start_in w t j + i < t.count = omega (arith, starts_rise j h, starts_up (suc j) h) in
       ap use_of (copied a (start_in w t j + i) q c_lt
-      ∙ ap (λ (k : ℕ). get_or (flat (face_points n m cap b e)) (k + i) 0) (start_sum j (omega arith)) ∙ flat_place (face_points n m cap b e) j i 0 j-lt i_lt)
-      ∙ sym (use_at n m cap b e j i j-lt l)
+      ∙ ap (λ (k : ℕ). get_or (flat (face_points n m cap b e)) (k + i) 0) (start_sum j (omega arith)) ∙ flat_place (face_points n m cap b e) j i 0 j_lt i_lt)
+      ∙ sym (use_at n m cap b e j i j_lt l)
 
   listed : t.spots ≡ n * m → Listed w t (extrusion_listings n m cap b e)
   unfolding start_in point_in place_in number_in

@@ -30,8 +30,8 @@ use Rattle.geometry.proofs.Made.{elements_made}
 
 face_set_made : (missing : Words4) (bs : List ℕ) → (header_of bs).kind ≡ FaceSet → made missing bs ≡ made_of (header_of bs) (slices_of (face_set_mesh missing bs))
 unfolding made block_mesh
-face_set_made missing bs face-set =
-    ap (λ (k : Kind). made_of (header_of bs) (slices_of (by_kind k (face_set_mesh missing bs) (line_set_mesh missing bs) (grid_mesh missing bs) (extrusion_mesh bs) (λ g. primitive_mesh missing g bs)))) face-set
+face_set_made missing bs is_face_set =
+    ap (λ (k : Kind). made_of (header_of bs) (slices_of (by_kind k (face_set_mesh missing bs) (line_set_mesh missing bs) (grid_mesh missing bs) (extrusion_mesh bs) (λ g. primitive_mesh missing g bs)))) is_face_set
 
 -- ---- what is made of a mesh shows the same at a corner as the mesh, but for what is not made
 
@@ -61,18 +61,18 @@ module _ (h : Header) where
   -- FORMAT 5: of a face set the normals are always made
   normals_made : h.kind ≡ FaceSet → (S : Slices) (l : List ℕ) → map (normal_at (made_of h S)) l ≡ map (normal_at S) l
   unfolding made_of normal_at
-  normals_made face-set S l = ap (λ (k : Kind). map (λ (v : ℕ). take 3 (drop (3 * v) (cond (not (is_lines k)) S.normals []))) l) face-set
+  normals_made is_face_set S l = ap (λ (k : Kind). map (λ (v : ℕ). take 3 (drop (3 * v) (cond (not (is_lines k)) S.normals []))) l) is_face_set
 
   others_made : {missing : Words4} {b c : List ℕ} {S T : Slices} {r : ℕ} → h.kind ≡ FaceSet → OthersStay missing b c S T r → OthersStay missing b c (made_of h S) (made_of h T) r
   unfolding made_of
-  others_made {missing} {b} {c} {S} {T} {r} face-set O = record {
+  others_made {missing} {b} {c} {S} {T} {r} is_face_set O = record {
     numbers = O.numbers;
     others = λ j l ne.
         let s = run_part b S.indices j in
         let t = run_part c T.indices j in
         record {
           corners = shown_at_lem S s ∙ ap (map (where_made h)) (O.others j l ne).corners ∙ sym (shown_at_lem T t);
-          normals = λ n. normals_made face-set S s ∙ (O.others j l ne).normals n ∙ sym (normals_made face-set T t);
+          normals = λ n. normals_made is_face_set S s ∙ (O.others j l ne).normals n ∙ sym (normals_made is_face_set T t);
         };
     parts_b = O.parts_b;
     parts_c = O.parts_c;
@@ -83,9 +83,9 @@ module _ (h : Header) where
 -- FORMAT 13: b is a face set and c is equal to it but inside run r; x and y are any two calls on them, under one `Call`, that were not refused
 pub apart : {call : Call} (b c : List ℕ) (r : ℕ) → (header_of b).kind ≡ FaceSet → OneRun b c r → (x : AcceptedCall call b) (y : AcceptedCall call c)
     → OthersStay call.colour b c (elements_of x) (elements_of y) r
-apart {call} b c r face-set h x y =
+apart {call} b c r is_face_set h x y =
     let e : header_of b ≡ header_of c = heads b c r h in
-    let O = others_made (header_of b) face-set (one_run call.colour b c r h) in
-    let p = elements_made b x ∙ face_set_made call.colour b face-set in
-    let q = elements_made c y ∙ face_set_made call.colour c (ap (λ (g : Header). g.kind) (sym e) ∙ face-set) ∙ ap (λ (g : Header). made_of g (slices_of (face_set_mesh call.colour c))) (sym e) in
+    let O = others_made (header_of b) is_face_set (one_run call.colour b c r h) in
+    let p = elements_made b x ∙ face_set_made call.colour b is_face_set in
+    let q = elements_made c y ∙ face_set_made call.colour c (ap (λ (g : Header). g.kind) (sym e) ∙ is_face_set) ∙ ap (λ (g : Header). made_of g (slices_of (face_set_mesh call.colour c))) (sym e) in
     subst (λ (w : Slices × Slices). OthersStay call.colour b c w.0 w.1 r) (λ i. (sym p i, sym q i)) O
