@@ -1,8 +1,5 @@
-use Prim.Native.Nat.{◌-◌, ◌<◌}
+use Prim.Native.Nat.{◌-◌}
 use Rattle.extrusion.proofs.Lengths.{length_start, length_step}
-use Rattle.extrusion.specs.Steps.{step_of}
-use Rattle.mesh.specs.Arcs.{length_to}
-use borrow.Author.Rules.{rules}
 use mathlib.Core.Path.{◌≡◌}
 use native.Mathlib.Omega.{arith}
 use Rattle.extrusion.proofs.arcs.arc_total.Goals as goal

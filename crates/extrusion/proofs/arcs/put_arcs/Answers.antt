@@ -1,6 +1,5 @@
 use Rattle.extrusion.proofs.Blocks.{section_few, section_room, spine_few, spine_room}
 use Rattle.extrusion.proofs.Lengths.{arcs_put}
-use borrow.Author.Rules.{rules}
 use native.Mathlib.Omega.{arith}
 use Rattle.extrusion.proofs.arcs.put_arcs.Goals as goal
 

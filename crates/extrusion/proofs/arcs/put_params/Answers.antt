@@ -1,11 +1,6 @@
-use Prim.Native.Nat.{◌-◌, ◌<◌}
-use Rattle.extrusion.proofs.Lengths.{length_start, length_step, param_is, param_at, params_all}
-use Rattle.lists.proofs.Pieces.{Singles, singles_none, singles_more}
-use Rattle.extrusion.specs.Steps.{step_of}
-use Rattle.mesh.specs.Arcs.{length_to}
-use borrow.Author.Rules.{rules}
+use Rattle.extrusion.proofs.Lengths.{length_start, length_step, param_is, params_all}
+use Rattle.lists.proofs.Pieces.{singles_none, singles_more}
 use lib.ListN.{length-set}
-use mathlib.Core.Path.{◌≡◌}
 use native.Mathlib.Omega.{arith}
 use Rattle.extrusion.proofs.arcs.put_params.Goals as goal
 

@@ -1,5 +1,4 @@
 use Rattle.extrusion.proofs.Lengths.{step2_is}
-use borrow.Author.Rules.{rules}
 use Rattle.extrusion.proofs.arcs.section_step.Goals as goal
 
 pub returns : goal.returns

@@ -1,5 +1,4 @@
 use Rattle.extrusion.proofs.Lengths.{share_even, share_part}
-use borrow.Author.Rules.{rules}
 use Rattle.extrusion.proofs.arcs.share.Goals as goal
 
 pub returns-then-t : goal.returns-then-t

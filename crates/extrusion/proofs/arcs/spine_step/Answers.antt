@@ -1,5 +1,4 @@
 use Rattle.extrusion.proofs.Lengths.{step3_is}
-use borrow.Author.Rules.{rules}
 use Rattle.extrusion.proofs.arcs.spine_step.Goals as goal
 
 pub returns : goal.returns

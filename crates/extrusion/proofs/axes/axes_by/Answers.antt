@@ -1,5 +1,4 @@
 use Rattle.extrusion.proofs.Planes.{by_bent, by_straight}
-use borrow.Author.Rules.{rules}
 use Rattle.extrusion.proofs.axes.axes_by.Goals as goal
 
 pub returns-in-Of : goal.returns-in-Of

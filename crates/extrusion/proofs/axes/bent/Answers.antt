@@ -1,5 +1,4 @@
 use Rattle.extrusion.proofs.Planes.{bent_is}
-use borrow.Author.Rules.{rules}
 use Rattle.extrusion.proofs.axes.bent.Goals as goal
 
 pub returns : goal.returns

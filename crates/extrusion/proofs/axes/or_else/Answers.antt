@@ -1,5 +1,4 @@
 use Rattle.mesh.specs.Normals.{or_else}
-use borrow.Author.Rules.{rules}
 use mathlib.Core.Path.{refl}
 use Rattle.extrusion.proofs.axes.or_else.Goals as goal
 

@@ -1,5 +1,4 @@
 use Rattle.extrusion.proofs.Planes.{pick_is}
-use borrow.Author.Rules.{rules}
 use Rattle.extrusion.proofs.axes.pick_z.Goals as goal
 
 pub returns : goal.returns

@@ -1,5 +1,4 @@
 use Rattle.extrusion.proofs.Planes.{straight_is}
-use borrow.Author.Rules.{rules}
 use Rattle.extrusion.proofs.axes.straight.Goals as goal
 
 pub returns : goal.returns

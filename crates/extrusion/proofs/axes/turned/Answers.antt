@@ -1,5 +1,4 @@
 use Rattle.extrusion.proofs.Planes.{turned_not, turned_over}
-use borrow.Author.Rules.{rules}
 use Rattle.extrusion.proofs.axes.turned.Goals as goal
 
 pub returns-then-dot : goal.returns-then-dot

@@ -1,5 +1,4 @@
 use Rattle.extrusion.proofs.Planes.{upright_is}
-use borrow.Author.Rules.{rules}
 use Rattle.extrusion.proofs.axes.upright.Goals as goal
 
 pub returns : goal.returns

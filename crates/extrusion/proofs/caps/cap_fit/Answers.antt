@@ -1,6 +1,5 @@
 use Rattle.extrusion.proofs.Blocks.{section_of_lem, section_room}
 use Rattle.mesh.specs.Extrusion.{cap_fit, twos}
-use borrow.Author.Rules.{rules}
 use mathlib.Core.Path.{◌∙◌, ap}
 use Rattle.extrusion.proofs.caps.cap_fit.Goals as goal
 

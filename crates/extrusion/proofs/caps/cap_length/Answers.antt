@@ -1,7 +1,6 @@
 use Rattle.extrusion.proofs.Blocks.{section_room}
 use Rattle.extrusion.proofs.Fitting.{cap_closed, cap_open}
 use Rattle.extrusion.proofs.Values.{count2}
-use borrow.Author.Rules.{rules}
 use native.Mathlib.Omega.{arith}
 use Rattle.extrusion.proofs.caps.cap_length.Goals as goal
 

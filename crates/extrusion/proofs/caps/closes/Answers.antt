@@ -1,7 +1,6 @@
 use Rattle.lists.proofs.Tests.{and_on, and_off}
 use Rattle.extrusion.proofs.Fitting.{closes_long, closes_short}
 use Rattle.extrusion.proofs.Values.{count2}
-use borrow.Author.Rules.{rules}
 use mathlib.Core.Path.{◌∙◌}
 use Rattle.extrusion.proofs.caps.closes.Goals as goal
 

@@ -1,7 +1,6 @@
 use Rattle.extrusion.proofs.Blocks.{section_room}
 use Rattle.extrusion.proofs.Fitting.{ring_closed, ring_open}
 use Rattle.extrusion.proofs.Values.{count2}
-use borrow.Author.Rules.{rules}
 use Rattle.extrusion.proofs.caps.ring_width.Goals as goal
 
 pub closes-requires : goal.closes-requires

@@ -1,10 +1,7 @@
-use Prim.Native.Nat.{◌-◌, ◌≤◌}
 use Rattle.block.specs.declared.texture.Pair.{Pair}
-use Rattle.extrusion.proofs.Fitting.{fit_is, s_of, span_more, span_none, t_of}
+use Rattle.extrusion.proofs.Fitting.{fit_is, span_more, span_none}
 use Rattle.extrusion.proofs.Values.{count2}
 use Rattle.mesh.specs.Extrusion.{twos}
-use Rattle.mesh.specs.Texture.{span_of}
-use borrow.Author.Rules.{rules}
 use lib.ListN.{length}
 use mathlib.Core.Path.{◌≡◌, ap}
 use native.Mathlib.Omega.{arith}

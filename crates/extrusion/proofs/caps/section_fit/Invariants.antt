@@ -1,13 +1,8 @@
 use Prim.Native.Nat.{◌-◌, ◌≤◌}
-use Rattle.block.specs.declared.texture.Pair.{Pair}
-use Rattle.extrusion.proofs.Fitting.{fit_is, s_of, span_more, span_none, t_of}
-use Rattle.extrusion.proofs.Values.{count2}
+use Rattle.extrusion.proofs.Fitting.{s_of, t_of}
 use Rattle.mesh.specs.Extrusion.{twos}
 use Rattle.mesh.specs.Texture.{span_of}
-use borrow.Author.Rules.{rules}
-use lib.ListN.{length}
-use mathlib.Core.Path.{◌≡◌, ap}
-use native.Mathlib.Omega.{arith}
+use mathlib.Core.Path.{◌≡◌}
 use Rattle.extrusion.proofs.caps.section_fit.Given as goal
 
 abbrev pub invariant-loop-j : goal.invariant-loop-j

@@ -1,6 +1,5 @@
 use native.Mathlib.Omega.{arith}
 use Rattle.extrusion.proofs.Counted.{caps_by}
-use borrow.Author.Rules.{rules}
 use Rattle.extrusion.proofs.faces.cap_count.Goals as goal
 
 pub returns : goal.returns

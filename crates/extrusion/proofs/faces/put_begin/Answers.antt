@@ -3,7 +3,6 @@ use Rattle.lists.proofs.Splices.{splice_start}
 use Rattle.lists.proofs.Tabs.{length_by}
 use Rattle.extrusion.proofs.Sides.{begin_no, begin_yes}
 use Rattle.lists.specs.Parts.{spliced}
-use borrow.Author.Rules.{rules}
 use lib.ListN.{length}
 use mathlib.Core.List.{List}
 use mathlib.Core.Path.{◌∙◌, ap, sym}

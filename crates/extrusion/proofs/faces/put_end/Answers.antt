@@ -2,7 +2,6 @@ use Rattle.lists.proofs.Splices.{splice_start}
 use Rattle.lists.proofs.Tabs.{length_by}
 use Rattle.extrusion.proofs.Sides.{end_no, end_yes}
 use Rattle.lists.specs.Parts.{spliced}
-use borrow.Author.Rules.{rules}
 use mathlib.Core.Path.{◌∙◌, ap, sym}
 use native.Mathlib.Omega.{arith}
 use Rattle.extrusion.proofs.faces.put_end.Goals as goal

@@ -1,4 +1,3 @@
-use borrow.Author.Rules.{rules}
 use Rattle.extrusion.proofs.faces.put_point_number.Goals as goal
 
 pub returns : goal.returns

@@ -1,6 +1,5 @@
 use Rattle.extrusion.proofs.Sides.{quad_put}
 use native.Mathlib.Omega.{arith}
-use borrow.Author.Rules.{rules}
 use Rattle.lists.proofs.Numbers.{next_row, row_least}
 use Rattle.extrusion.proofs.faces.put_quad.Goals as goal
 

@@ -1,10 +1,6 @@
 use Prim.Native.Nat.{◌-◌}
-use Rattle.lists.proofs.Pieces.{Pieces, pieces_all, pieces_more, pieces_none}
-use Rattle.extrusion.proofs.Sides.{quad_length}
+use Rattle.lists.proofs.Pieces.{Pieces}
 use Rattle.mesh.specs.Quads.{quad}
-use borrow.Author.Rules.{rules}
-use mathlib.Core.Path.{refl}
-use native.Mathlib.Omega.{arith}
 use Rattle.mesh.specs.Extrusion.{point_number}
 use Rattle.extrusion.proofs.faces.put_quad_row.Given as goal
 

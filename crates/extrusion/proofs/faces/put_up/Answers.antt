@@ -1,8 +1,6 @@
-use Prim.Native.Nat.{◌+◌, ◌-◌}
-use Rattle.lists.proofs.Pieces.{Singles, singles_none, singles_more, singles_all}
+use Rattle.lists.proofs.Pieces.{singles_none, singles_more, singles_all}
 use mathlib.Core.Path.{refl}
 use native.Mathlib.Omega.{arith}
-use borrow.Author.Rules.{rules}
 use Rattle.extrusion.proofs.faces.put_up.Goals as goal
 
 pub loop-j-init : goal.loop-j-init

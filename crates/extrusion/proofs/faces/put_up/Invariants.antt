@@ -1,8 +1,5 @@
 use Prim.Native.Nat.{◌+◌, ◌-◌}
-use Rattle.lists.proofs.Pieces.{Singles, singles_none, singles_more, singles_all}
-use mathlib.Core.Path.{refl}
-use native.Mathlib.Omega.{arith}
-use borrow.Author.Rules.{rules}
+use Rattle.lists.proofs.Pieces.{Singles}
 use Rattle.extrusion.proofs.faces.put_up.Given as goal
 
 abbrev pub invariant-loop-j : goal.invariant-loop-j

@@ -1,6 +1,5 @@
 use Rattle.lists.proofs.Numbers.{last_row, rows_least}
 use Rattle.extrusion.proofs.Sides.{begin_room, end_room, sides_room, uses_put}
-use borrow.Author.Rules.{rules}
 use Prim.Native.Nat.{◌-◌, ◌*◌}
 use mathlib.Core.Path.{◌≡◌, refl}
 use native.Mathlib.Omega.{arith}

@@ -1,5 +1,4 @@
 use Rattle.extrusion.proofs.Planes.{end_closed, end_first, end_last}
-use borrow.Author.Rules.{rules}
 use Rattle.extrusion.proofs.frames.along_end.Goals as goal
 
 pub returns-then-is_closed : goal.returns-then-is_closed

@@ -1,12 +1,7 @@
 use Prim.Native.Nat.{◌-◌, ◌≤◌}
-use Rattle.extrusion.proofs.Planes.{first_step}
-use Rattle.extrusion.proofs.Values.{count3}
 use Rattle.mesh.specs.Extrusion.{threes}
-use Rattle.mesh.specs.Frames.{first_of, first_z, z_own}
-use borrow.Author.Rules.{rules}
-use lib.ListN.{length}
-use mathlib.Core.Path.{◌≡◌, refl}
-use native.Mathlib.Omega.{arith}
+use Rattle.mesh.specs.Frames.{first_of, z_own}
+use mathlib.Core.Path.{◌≡◌}
 use Rattle.extrusion.proofs.frames.first_z.Given as goal
 
 abbrev pub invariant-loop-i : goal.invariant-loop-i

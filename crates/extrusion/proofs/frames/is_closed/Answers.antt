@@ -1,6 +1,5 @@
 use Rattle.extrusion.proofs.Planes.{closed_long, closed_short}
 use Rattle.extrusion.proofs.Values.{count3}
-use borrow.Author.Rules.{rules}
 use Rattle.extrusion.proofs.frames.is_closed.Goals as goal
 
 pub returns-then-n-gt2 : goal.returns-then-n-gt2

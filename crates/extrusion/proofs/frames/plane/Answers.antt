@@ -1,5 +1,4 @@
 use Rattle.extrusion.proofs.Planes.{bend_is}
-use borrow.Author.Rules.{rules}
 use Rattle.extrusion.proofs.frames.plane.Goals as goal
 
 pub returns : goal.returns

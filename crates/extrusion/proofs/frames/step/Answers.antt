@@ -1,5 +1,4 @@
 use Rattle.math.specs.Vector.{vsub}
-use borrow.Author.Rules.{rules}
 use mathlib.Core.Path.{◌∙◌, ap₂}
 use Rattle.extrusion.proofs.frames.step.Goals as goal
 

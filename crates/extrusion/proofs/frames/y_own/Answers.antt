@@ -1,6 +1,5 @@
 use Rattle.extrusion.proofs.Planes.{inner, y_end, y_inner}
 use Rattle.extrusion.proofs.Values.{count3}
-use borrow.Author.Rules.{rules}
 use native.Mathlib.Omega.{arith}
 use Rattle.extrusion.proofs.frames.y_own.Goals as goal
 

@@ -1,5 +1,4 @@
 use Rattle.extrusion.proofs.Planes.{z_closed, z_first, z_last, z_none}
-use borrow.Author.Rules.{rules}
 use Rattle.extrusion.proofs.frames.z_end.Goals as goal
 
 pub returns-then-is_closed : goal.returns-then-is_closed

@@ -1,6 +1,5 @@
 use Rattle.extrusion.proofs.Planes.{inner, z_end_lem, z_inner}
 use Rattle.extrusion.proofs.Values.{count3}
-use borrow.Author.Rules.{rules}
 use native.Mathlib.Omega.{arith}
 use Rattle.extrusion.proofs.frames.z_own.Goals as goal
 

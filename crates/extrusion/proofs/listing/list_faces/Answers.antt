@@ -1,5 +1,4 @@
 use Rattle.extrusion.proofs.Tabled.{faces_put, room_corners, room_numbers, room_places, room_starts, sides_most, starts_room, uses_room}
-use borrow.Author.Rules.{rules}
 use mathlib.Core.Path.{refl}
 use native.Mathlib.Omega.{arith}
 use Rattle.extrusion.proofs.listing.list_faces.Goals as goal

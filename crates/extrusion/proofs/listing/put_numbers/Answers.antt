@@ -1,6 +1,4 @@
-use Prim.Native.Nat.{◌-◌}
-use Rattle.lists.proofs.Pieces.{Singles, singles_none, singles_more, singles_all}
-use borrow.Author.Rules.{rules}
+use Rattle.lists.proofs.Pieces.{singles_none, singles_more, singles_all}
 use native.Mathlib.Omega.{arith}
 use Rattle.extrusion.proofs.listing.put_numbers.Goals as goal
 

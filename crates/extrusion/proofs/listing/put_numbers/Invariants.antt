@@ -1,7 +1,5 @@
 use Prim.Native.Nat.{◌-◌}
-use Rattle.lists.proofs.Pieces.{Singles, singles_none, singles_more, singles_all}
-use borrow.Author.Rules.{rules}
-use native.Mathlib.Omega.{arith}
+use Rattle.lists.proofs.Pieces.{Singles}
 use Rattle.extrusion.proofs.listing.put_numbers.Given as goal
 
 abbrev pub invariant-loop-j : goal.invariant-loop-j

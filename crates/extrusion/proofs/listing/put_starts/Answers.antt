@@ -1,9 +1,6 @@
-use Prim.Native.Nat.{◌+◌, ◌-◌}
 use Rattle.extrusion.proofs.Counting.{size_most, start_more, start_none, start_rises}
-use Rattle.extrusion.specs.Listings.{start_at}
-use Rattle.lists.proofs.Pieces.{Singles, singles_none, singles_more, singles_all}
-use borrow.Author.Rules.{rules}
-use mathlib.Core.Path.{◌∙◌, ◌≡◌}
+use Rattle.lists.proofs.Pieces.{singles_none, singles_more, singles_all}
+use mathlib.Core.Path.{◌∙◌}
 use native.Mathlib.Omega.{arith}
 use Rattle.extrusion.proofs.listing.put_starts.Goals as goal
 

@@ -1,10 +1,7 @@
 use Prim.Native.Nat.{◌+◌, ◌-◌}
-use Rattle.extrusion.proofs.Counting.{size_most, start_more, start_none, start_rises}
 use Rattle.extrusion.specs.Listings.{start_at}
-use Rattle.lists.proofs.Pieces.{Singles, singles_none, singles_more, singles_all}
-use borrow.Author.Rules.{rules}
-use mathlib.Core.Path.{◌∙◌, ◌≡◌}
-use native.Mathlib.Omega.{arith}
+use Rattle.lists.proofs.Pieces.{Singles}
+use mathlib.Core.Path.{◌≡◌}
 use Rattle.extrusion.proofs.listing.put_starts.Given as goal
 
 abbrev pub invariant-loop-j : goal.invariant-loop-j

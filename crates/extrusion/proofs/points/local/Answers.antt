@@ -1,5 +1,4 @@
 use Rattle.mesh.specs.Extrusion.{local}
-use borrow.Author.Rules.{rules}
 use Rattle.extrusion.proofs.points.local.Goals as goal
 
 pub returns : goal.returns

@@ -1,5 +1,4 @@
 use Rattle.extrusion.proofs.Planes.{placed_is}
-use borrow.Author.Rules.{rules}
 use Rattle.extrusion.proofs.points.placed.Goals as goal
 
 pub returns : goal.returns

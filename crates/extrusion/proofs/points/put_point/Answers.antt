@@ -1,6 +1,5 @@
 use Rattle.lists.proofs.Splices.{put_three}
 use Rattle.lists.specs.Parts.{spliced}
-use borrow.Author.Rules.{rules}
 use lib.ListN.{length-set}
 use mathlib.Core.List.{[], ◌∷◌}
 use mathlib.Core.Path.{◌∙◌}

@@ -1,6 +1,5 @@
 use Rattle.lists.proofs.Numbers.{rows_room}
 use Rattle.extrusion.proofs.Blocks.{points_put, scale_room, section_room, spine_room, turn_room}
-use borrow.Author.Rules.{rules}
 use Rattle.extrusion.proofs.points.put_points.Goals as goal
 
 pub put_rows-requires : goal.put_rows-requires

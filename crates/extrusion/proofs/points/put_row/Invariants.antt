@@ -1,12 +1,8 @@
 use Prim.Native.Nat.{◌-◌}
-use Rattle.lists.proofs.Pieces.{Pieces, pieces_all, pieces_more, pieces_none}
-use Rattle.extrusion.proofs.Walking.{row_is, spot_is, spot_length, spot_of}
+use Rattle.lists.proofs.Pieces.{Pieces}
+use Rattle.extrusion.proofs.Walking.{spot_of}
 use Rattle.extrusion.specs.Rows.{axes_of}
 use Rattle.mesh.specs.Extrusion.{twos}
-use Rattle.lists.specs.Parts.{spliced}
-use borrow.Author.Rules.{rules}
-use mathlib.Core.Path.{◌∙◌, refl, ap}
-use native.Mathlib.Omega.{arith}
 use Rattle.extrusion.proofs.points.put_row.Given as goal
 
 abbrev pub invariant-loop-j : goal.invariant-loop-j

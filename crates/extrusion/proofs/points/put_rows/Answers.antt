@@ -1,12 +1,8 @@
-use Prim.Native.Nat.{◌*◌, ◌-◌, ◌<◌, ◌^◌}
+use Prim.Native.Nat.{◌*◌}
 use Rattle.lists.proofs.Pieces.{pieces_all}
 use Rattle.extrusion.proofs.Values.{count2}
-use Rattle.extrusion.proofs.Walking.{Walked, walk_start, walk_step}
-use Rattle.mesh.specs.Extrusion.{threes, turn_in, twos}
-use Rattle.lists.specs.Loops.{tab}
+use Rattle.extrusion.proofs.Walking.{walk_start, walk_step}
 use Rattle.lists.proofs.Numbers.{piece_room}
-use borrow.Author.Rules.{rules}
-use lib.ListN.{length}
 use native.Mathlib.Omega.{arith}
 use Rattle.extrusion.proofs.points.put_rows.Goals as goal
 

@@ -1,13 +1,8 @@
-use Prim.Native.Nat.{◌*◌, ◌-◌, ◌<◌, ◌^◌}
-use Rattle.lists.proofs.Pieces.{pieces_all}
-use Rattle.extrusion.proofs.Values.{count2}
-use Rattle.extrusion.proofs.Walking.{Walked, walk_start, walk_step}
+use Prim.Native.Nat.{◌-◌, ◌<◌, ◌^◌}
+use Rattle.extrusion.proofs.Walking.{Walked}
 use Rattle.mesh.specs.Extrusion.{threes, turn_in, twos}
 use Rattle.lists.specs.Loops.{tab}
-use Rattle.lists.proofs.Numbers.{piece_room}
-use borrow.Author.Rules.{rules}
 use lib.ListN.{length}
-use native.Mathlib.Omega.{arith}
 use Rattle.extrusion.proofs.points.put_rows.Given as goal
 
 abbrev pub invariant-loop-i : goal.invariant-loop-i

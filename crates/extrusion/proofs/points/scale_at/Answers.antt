@@ -1,5 +1,4 @@
 use Rattle.extrusion.proofs.Values.{count2, scale_first, scale_none, scale_own}
-use borrow.Author.Rules.{rules}
 use mathlib.Core.Path.{refl}
 use Rattle.extrusion.proofs.points.scale_at.Goals as goal
 

@@ -1,5 +1,4 @@
 use Rattle.extrusion.proofs.Values.{turn_first, turn_none, turn_own}
-use borrow.Author.Rules.{rules}
 use mathlib.Core.Path.{refl}
 use Rattle.extrusion.proofs.points.turn_at.Goals as goal
 

@@ -1,4 +1,3 @@
-use borrow.Author.Rules.{rules}
 use lib.Ieee.{binary32, of_bits}
 use mathlib.Core.Path.{◌∙◌, ap}
 use Rattle.extrusion.proofs.reading.float_in.Goals as goal

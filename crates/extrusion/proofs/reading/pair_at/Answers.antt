@@ -1,5 +1,4 @@
 use Rattle.extrusion.proofs.Values.{pair_is}
-use borrow.Author.Rules.{rules}
 use Rattle.extrusion.proofs.reading.pair_at.Goals as goal
 
 pub returns : goal.returns

@@ -1,5 +1,4 @@
 use Rattle.extrusion.proofs.Values.{spine_is}
-use borrow.Author.Rules.{rules}
 use Rattle.extrusion.proofs.reading.spine_at.Goals as goal
 
 pub returns : goal.returns

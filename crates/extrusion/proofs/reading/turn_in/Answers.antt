@@ -1,5 +1,4 @@
 use Rattle.extrusion.proofs.Values.{turn_is}
-use borrow.Author.Rules.{rules}
 use Rattle.extrusion.proofs.reading.turn_in.Goals as goal
 
 pub returns : goal.returns

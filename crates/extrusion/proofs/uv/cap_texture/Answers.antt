@@ -1,5 +1,4 @@
 use Rattle.mesh.specs.Extrusion.{cap_texture}
-use borrow.Author.Rules.{rules}
 use Rattle.extrusion.proofs.uv.cap_texture.Goals as goal
 
 pub returns : goal.returns

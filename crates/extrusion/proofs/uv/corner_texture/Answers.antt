@@ -1,5 +1,4 @@
 use Rattle.extrusion.proofs.Textures.{corner_made, corner_none}
-use borrow.Author.Rules.{rules}
 use Rattle.extrusion.proofs.uv.corner_texture.Goals as goal
 
 pub plain_texture-w-requires : goal.plain_texture-w-requires

@@ -1,6 +1,5 @@
 use Rattle.extrusion.proofs.Blocks.{section_room}
 use Rattle.extrusion.proofs.Textures.{column_lt, column_reach, on_cap, on_side, row_reach, sides_fit}
-use borrow.Author.Rules.{rules}
 use native.Mathlib.Omega.{arith}
 use Rattle.extrusion.proofs.uv.plain_texture.Goals as goal
 

@@ -1,11 +1,7 @@
 use Prim.Native.Nat.{◌-◌, ℕ}
-use Rattle.extrusion.proofs.Textures.{corner_within, texture_read}
 use Rattle.extrusion.specs.Corners.{extrusion_texture}
 use Rattle.mesh.specs.Extrusion.{extrusion_of}
-use borrow.Author.Rules.{rules}
-use mathlib.Core.Path.{ap, refl}
-use native.Mathlib.Omega.{arith}
-use Rattle.lists.proofs.Pieces.{Pieces, pieces_none, pieces_more, pieces_all, pieces_kept}
+use Rattle.lists.proofs.Pieces.{Pieces}
 use Rattle.mesh.specs.Words.{words2}
 use Rattle.extrusion.proofs.uv.put_textures.Given as goal
 

@@ -1,12 +1,7 @@
 use native.Mathlib.Omega.{arith}
-use Prim.Native.Nat.{◌-◌, ◌/◌}
-use lib.ListN.{length}
-use Rattle.tables.specs.Listed.{Beside}
 use Rattle.tables.proofs.Besides.{beside_all, beside_then}
-use Rattle.faceset.specs.Passing.{Planned, Underway}
 use Rattle.faceset.proofs.Adding.{first_beside}
 use Rattle.faceset.proofs.Turns.{planned_beside, pass_start, pass_end}
-use borrow.Author.Rules.{rules}
 use Rattle.faceset.proofs.listing.list_faces.Goals as goal
 
 pub loop-p-init : goal.loop-p-init

@@ -1,6 +1,5 @@
 use mathlib.Core.Path.{sym, ◌∙◌}
 use Rattle.faceset.proofs.Turns.{turn_fits, turn_kept, turn_lost}
-use borrow.Author.Rules.{rules}
 use Rattle.faceset.proofs.listing.pass_run.Goals as goal
 
 pub put_face-requires : goal.put_face-requires

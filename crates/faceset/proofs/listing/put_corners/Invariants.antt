@@ -1,14 +1,7 @@
-use mathlib.Core.Path.{ap, ◌∙◌}
-use native.Mathlib.Omega.{arith}
 use Prim.Native.Nat.{◌-◌}
 use lib.ListN.{get_or}
 use Rattle.bits.specs.Bits.{entries}
-use Rattle.bits.proofs.Entries.{entries_length}
-use Rattle.block.proofs.RunLaws.{kept_below}
-use Rattle.lists.proofs.Pieces.{Singles, singles_none, singles_more, singles_all}
-use Rattle.lists.specs.Parts.{spliced}
-use Rattle.lists.proofs.Tabs.{tab_list}
-use borrow.Author.Rules.{rules}
+use Rattle.lists.proofs.Pieces.{Singles}
 use Rattle.faceset.proofs.listing.put_corners.Given as goal
 
 abbrev pub invariant-loop-i : goal.invariant-loop-i

@@ -8,7 +8,6 @@ use Rattle.faceset.specs.Listings.{use_of}
 use Rattle.faceset.proofs.Faces.{used_points, used_places}
 use Rattle.faceset.proofs.Writing.{face_added_lem}
 use Rattle.bits.proofs.Entries.{entries_length}
-use borrow.Author.Rules.{rules}
 use Rattle.faceset.proofs.listing.put_face.Goals as goal
 
 pub returns : goal.returns

@@ -1,7 +1,5 @@
 use native.Mathlib.Omega.{arith}
-use Prim.Native.Nat.{◌+◌, ◌-◌}
-use Rattle.lists.proofs.Pieces.{Singles, singles_none, singles_more, singles_all}
-use borrow.Author.Rules.{rules}
+use Rattle.lists.proofs.Pieces.{singles_none, singles_more, singles_all}
 use Rattle.faceset.proofs.listing.put_places.Goals as goal
 
 pub loop-i-init : goal.loop-i-init

@@ -1,6 +1,5 @@
 use native.Mathlib.Omega.{arith}
 use lib.ListN.{length-set}
-use borrow.Author.Rules.{rules}
 use Rattle.faceset.proofs.listing.put_row.Goals as goal
 
 pub bounds-work-t-2 : goal.bounds-work-t-2

@@ -1,13 +1,10 @@
 use native.Mathlib.Omega.{arith}
-use Prim.Native.Nat.{◌-◌}
-use lib.ListN.{get_or}
 use Rattle.bits.specs.Bits.{entries}
 use Rattle.bits.proofs.Entries.{entries_length}
-use Rattle.lists.proofs.Pieces.{Singles, singles_none, singles_more, singles_all}
+use Rattle.lists.proofs.Pieces.{singles_none, singles_more, singles_all}
 use mathlib.Core.Path.{ap, ◌∙◌}
 use Rattle.lists.specs.Parts.{spliced}
 use Rattle.lists.proofs.Tabs.{tab_take}
-use borrow.Author.Rules.{rules}
 use Rattle.faceset.proofs.points.put_points.Goals as goal
 
 pub loop-i-init : goal.loop-i-init

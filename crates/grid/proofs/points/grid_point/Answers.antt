@@ -2,7 +2,6 @@ use Rattle.grid.proofs.Numbers.{column_few, row_few}
 use Rattle.bits.proofs.Entries.{entries_length}
 use Rattle.mesh.specs.Grid.{grid_point}
 use native.Mathlib.Omega.{arith}
-use borrow.Author.Rules.{rules}
 use Rattle.grid.proofs.points.grid_point.Goals as goal
 
 pub nonzero_rem-k : goal.nonzero_rem-k

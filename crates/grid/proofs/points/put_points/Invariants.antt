@@ -1,14 +1,10 @@
-use mathlib.Core.List.{List}
-use lib.ListN.{length}
-use Rattle.lists.proofs.Pieces.{Pieces, pieces_none, pieces_more, pieces_all}
-use Rattle.mesh.specs.Grid.{x_dimension, z_dimension, grid_point, grid_points}
+use Rattle.lists.proofs.Pieces.{Pieces}
+use Rattle.mesh.specs.Grid.{x_dimension, z_dimension, grid_point}
 use Rattle.mesh.specs.Words.{words3}
 use Rattle.block.specs.Extents.{list_bytes}
 use Rattle.bits.specs.Bits.{entries}
-use mathlib.Core.Path.{◌≡◌, refl, ap, ◌∙◌}
-use Prim.Native.Nat.{ℕ, ◌*◌, ◌-◌, ◌<◌}
-use native.Mathlib.Omega.{arith}
-use borrow.Author.Rules.{rules}
+use mathlib.Core.Path.{◌≡◌}
+use Prim.Native.Nat.{ℕ, ◌*◌, ◌-◌}
 use Rattle.grid.proofs.points.put_points.Given as goal
 
 abbrev pub invariant-loop-k : goal.invariant-loop-k

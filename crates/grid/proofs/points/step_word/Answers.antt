@@ -1,4 +1,3 @@
-use borrow.Author.Rules.{rules}
 use Rattle.grid.proofs.points.step_word.Goals as goal
 
 pub returns : goal.returns

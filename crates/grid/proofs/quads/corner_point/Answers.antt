@@ -1,9 +1,7 @@
 use Rattle.mesh.specs.Quads.{quad}
 use Rattle.lists.proofs.Numbers.{four_left}
 use Rattle.grid.proofs.Numbers.{corner_is, quad_fits}
-use Prim.Native.Nat.{◌-◌}
 use native.Mathlib.Omega.{arith}
-use borrow.Author.Rules.{rules}
 use Rattle.grid.proofs.quads.corner_point.Goals as goal
 
 pub point_at-requires : goal.point_at-requires

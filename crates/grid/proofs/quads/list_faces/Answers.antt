@@ -1,6 +1,5 @@
 use Rattle.grid.proofs.Held.{corners_asked, tables_written}
 use native.Mathlib.Omega.{arith}
-use borrow.Author.Rules.{rules}
 use Rattle.grid.proofs.quads.list_faces.Goals as goal
 
 pub put_corners-requires : goal.put_corners-requires

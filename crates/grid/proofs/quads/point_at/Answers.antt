@@ -1,6 +1,5 @@
 use Rattle.grid.proofs.Numbers.{product_fits}
 use native.Mathlib.Omega.{arith}
-use borrow.Author.Rules.{rules}
 use Rattle.grid.proofs.quads.point_at.Goals as goal
 
 pub overflow_mul-result : goal.overflow_mul-result

@@ -1,9 +1,6 @@
-use Rattle.grid.specs.Listings.{corner_point}
-use Rattle.lists.proofs.Pieces.{Singles, singles_none, singles_more, singles_all}
+use Rattle.lists.proofs.Pieces.{singles_none, singles_more, singles_all}
 use mathlib.Core.Path.{◌∙◌}
-use Prim.Native.Nat.{◌-◌}
 use native.Mathlib.Omega.{arith}
-use borrow.Author.Rules.{rules}
 use Rattle.grid.proofs.quads.put_corners.Goals as goal
 
 pub loop-c-init : goal.loop-c-init

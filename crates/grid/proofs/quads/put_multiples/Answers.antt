@@ -1,8 +1,6 @@
-use Rattle.lists.proofs.Pieces.{Singles, singles_none, singles_more, singles_all}
-use Prim.Native.Nat.{ℕ, ◌-◌, ◌*◌}
+use Rattle.lists.proofs.Pieces.{singles_none, singles_more, singles_all}
 use native.Mathlib.Omega.{arith}
 use Rattle.lists.proofs.Numbers.{multiple_below}
-use borrow.Author.Rules.{rules}
 use Rattle.grid.proofs.quads.put_multiples.Goals as goal
 
 pub loop-j-init : goal.loop-j-init

@@ -1,8 +1,5 @@
-use Rattle.lists.proofs.Pieces.{Singles, singles_none, singles_more, singles_all}
+use Rattle.lists.proofs.Pieces.{Singles}
 use Prim.Native.Nat.{ℕ, ◌-◌, ◌*◌}
-use native.Mathlib.Omega.{arith}
-use Rattle.lists.proofs.Numbers.{multiple_below}
-use borrow.Author.Rules.{rules}
 use Rattle.grid.proofs.quads.put_multiples.Given as goal
 
 abbrev pub invariant-loop-j : goal.invariant-loop-j

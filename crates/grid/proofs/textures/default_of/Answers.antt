@@ -1,7 +1,6 @@
 use Rattle.grid.proofs.Numbers.{column_few, row_few}
 use Rattle.mesh.specs.Grid.{grid_default}
 use native.Mathlib.Omega.{arith}
-use borrow.Author.Rules.{rules}
 use Rattle.grid.proofs.textures.default_of.Goals as goal
 
 pub nonzero_rem-p : goal.nonzero_rem-p

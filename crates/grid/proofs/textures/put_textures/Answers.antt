@@ -1,12 +1,10 @@
 use Rattle.grid.specs.Textures.{grid_texture}
 use Rattle.lists.proofs.Keep.{kept_at}
-use Rattle.lists.proofs.Pieces.{Pieces, pieces_none, pieces_more, pieces_all, pieces_kept}
+use Rattle.lists.proofs.Pieces.{pieces_none, pieces_more, pieces_all, pieces_kept}
 use Rattle.mesh.specs.Words.{words2}
-use lib.ListN.{get_or}
 use mathlib.Core.Path.{◌∙◌, ap, refl}
-use Prim.Native.Nat.{ℕ, ◌+◌, ◌-◌}
+use Prim.Native.Nat.{◌+◌}
 use native.Mathlib.Omega.{arith}
-use borrow.Author.Rules.{rules}
 use Rattle.grid.proofs.textures.put_textures.Goals as goal
 
 pub loop-c-init : goal.loop-c-init

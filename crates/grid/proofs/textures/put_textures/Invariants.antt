@@ -1,12 +1,8 @@
 use Rattle.grid.specs.Textures.{grid_texture}
-use Rattle.lists.proofs.Keep.{kept_at}
-use Rattle.lists.proofs.Pieces.{Pieces, pieces_none, pieces_more, pieces_all, pieces_kept}
+use Rattle.lists.proofs.Pieces.{Pieces}
 use Rattle.mesh.specs.Words.{words2}
 use lib.ListN.{get_or}
-use mathlib.Core.Path.{◌∙◌, ap, refl}
 use Prim.Native.Nat.{ℕ, ◌+◌, ◌-◌}
-use native.Mathlib.Omega.{arith}
-use borrow.Author.Rules.{rules}
 use Rattle.grid.proofs.textures.put_textures.Given as goal
 
 abbrev pub invariant-loop-c : goal.invariant-loop-c

@@ -1,5 +1,4 @@
 use Rattle.grid.specs.Textures.{grid_texture}
-use borrow.Author.Rules.{rules}
 use Rattle.grid.proofs.textures.texture_of.Goals as goal
 
 pub returns : goal.returns

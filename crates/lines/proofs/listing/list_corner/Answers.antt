@@ -2,7 +2,6 @@ use mathlib.Core.Path.{refl}
 use native.Mathlib.Omega.{arith}
 use lib.ListN.{length-set}
 use Rattle.lines.specs.Uses.{listed_at}
-use borrow.Author.Rules.{rules}
 use Rattle.lines.proofs.listing.list_corner.Goals as goal
 
 pub bounds-work-t-2 : goal.bounds-work-t-2

@@ -1,9 +1,6 @@
-use mathlib.Core.Path.{◌≡◌, refl}
-use Prim.Native.Nat.{◌+◌, ◌-◌, ◌/◌, ◌≤◌}
+use mathlib.Core.Path.{refl}
 use native.Mathlib.Omega.{arith}
-use lib.ListN.{length}
-use Rattle.lines.proofs.Entries.{Listing, listing_start, listing_here, listing_next, listing_end}
-use borrow.Author.Rules.{rules}
+use Rattle.lines.proofs.Entries.{listing_start, listing_here, listing_next, listing_end}
 use Rattle.lines.proofs.listing.list_entries.Goals as goal
 
 pub loop-start-init : goal.loop-start-init

@@ -1,9 +1,7 @@
-use mathlib.Core.Path.{◌≡◌, refl}
+use mathlib.Core.Path.{◌≡◌}
 use Prim.Native.Nat.{◌+◌, ◌-◌, ◌/◌, ◌≤◌}
-use native.Mathlib.Omega.{arith}
 use lib.ListN.{length}
-use Rattle.lines.proofs.Entries.{Listing, listing_start, listing_here, listing_next, listing_end}
-use borrow.Author.Rules.{rules}
+use Rattle.lines.proofs.Entries.{Listing}
 use Rattle.lines.proofs.listing.list_entries.Given as goal
 
 abbrev pub invariant-loop-start : goal.invariant-loop-start

@@ -3,7 +3,6 @@ use Rattle.lines.specs.Uses.{listed}
 use Rattle.lines.proofs.Usage.{use_here, use_past}
 use mathlib.Core.Path.{refl, sym}
 use native.Mathlib.Nat.{add-zero}
-use borrow.Author.Rules.{rules}
 use Rattle.lines.proofs.listing.list_entry.Goals as goal
 
 pub list_corner-requires : goal.list_corner-requires

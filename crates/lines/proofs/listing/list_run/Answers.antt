@@ -1,11 +1,10 @@
-use mathlib.Core.Path.{◌≡◌, refl}
-use Prim.Native.Nat.{◌-◌, ◌/◌, ◌<◌}
+use mathlib.Core.Path.{refl}
+use Prim.Native.Nat.{◌<◌}
 use native.Mathlib.Omega.{arith}
 use lib.ListN.{length}
 use Rattle.bits.specs.Bits.{entries}
 use Rattle.bits.proofs.Entries.{entries_length}
-use Rattle.lines.proofs.Entries.{RunListing, run_start, entry_here, entry_next, run_end}
-use borrow.Author.Rules.{rules}
+use Rattle.lines.proofs.Entries.{run_start, entry_here, entry_next, run_end}
 use Rattle.lines.proofs.listing.list_run.Goals as goal
 
 pub loop-j-init : goal.loop-j-init

@@ -1,11 +1,8 @@
-use mathlib.Core.Path.{◌≡◌, refl}
-use Prim.Native.Nat.{◌-◌, ◌/◌, ◌<◌}
-use native.Mathlib.Omega.{arith}
+use mathlib.Core.Path.{◌≡◌}
+use Prim.Native.Nat.{◌-◌, ◌/◌}
 use lib.ListN.{length}
 use Rattle.bits.specs.Bits.{entries}
-use Rattle.bits.proofs.Entries.{entries_length}
-use Rattle.lines.proofs.Entries.{RunListing, run_start, entry_here, entry_next, run_end}
-use borrow.Author.Rules.{rules}
+use Rattle.lines.proofs.Entries.{RunListing}
 use Rattle.lines.proofs.listing.list_run.Given as goal
 
 abbrev pub invariant-loop-j : goal.invariant-loop-j

@@ -3,7 +3,6 @@ use mathlib.Core.Option.{some}
 use native.Mathlib.Omega.{arith}
 use Rattle.lines.specs.Steps.{last_of}
 use Rattle.lines.proofs.Pairs.{line_none, vertex_here, vertex_past, corner_here, corner_past}
-use borrow.Author.Rules.{rules}
 use Rattle.lines.proofs.pairing.put_entry.Goals as goal
 
 pub offset_bounds-numbers-c : goal.offset_bounds-numbers-c

@@ -3,7 +3,6 @@ use Prim.Native.Nat.{ℕ, ◌+◌}
 use native.Mathlib.Omega.{arith}
 use lib.ListN.{length-set}
 use Rattle.lines.proofs.Pairs.{line_two, line_put, line_left}
-use borrow.Author.Rules.{rules}
 use Rattle.lines.proofs.pairing.put_line.Goals as goal
 
 pub bounds-indices-at : goal.bounds-indices-at

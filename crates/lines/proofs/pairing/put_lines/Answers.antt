@@ -1,13 +1,10 @@
-use mathlib.Core.Path.{◌≡◌, refl, ◌∙◌}
-use Prim.Native.Nat.{◌+◌, ◌-◌, ◌/◌, ◌≤◌}
+use mathlib.Core.Path.{refl, ◌∙◌}
 use native.Mathlib.Nat.{zero-add}
 use native.Mathlib.Omega.{arith}
-use lib.ListN.{length}
-use Rattle.lists.specs.Parts.{seg, spliced}
+use Rattle.lists.specs.Parts.{spliced}
 use Rattle.lists.proofs.Keep.{length_seg, part_seg}
 use Rattle.lists.proofs.Putting.{left_all}
-use Rattle.lines.proofs.Pairs.{Lining, lining_here, lining_room, lining_next, lining_end}
-use borrow.Author.Rules.{rules}
+use Rattle.lines.proofs.Pairs.{lining_here, lining_room, lining_next, lining_end}
 use Rattle.lines.proofs.pairing.put_lines.Goals as goal
 
 pub loop-start-init : goal.loop-start-init

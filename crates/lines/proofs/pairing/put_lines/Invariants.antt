@@ -1,13 +1,8 @@
-use mathlib.Core.Path.{◌≡◌, refl, ◌∙◌}
+use mathlib.Core.Path.{◌≡◌}
 use Prim.Native.Nat.{◌+◌, ◌-◌, ◌/◌, ◌≤◌}
-use native.Mathlib.Nat.{zero-add}
-use native.Mathlib.Omega.{arith}
 use lib.ListN.{length}
-use Rattle.lists.specs.Parts.{seg, spliced}
-use Rattle.lists.proofs.Keep.{length_seg, part_seg}
-use Rattle.lists.proofs.Putting.{left_all}
-use Rattle.lines.proofs.Pairs.{Lining, lining_here, lining_room, lining_next, lining_end}
-use borrow.Author.Rules.{rules}
+use Rattle.lists.specs.Parts.{seg}
+use Rattle.lines.proofs.Pairs.{Lining}
 use Rattle.lines.proofs.pairing.put_lines.Given as goal
 
 abbrev pub invariant-loop-start : goal.invariant-loop-start

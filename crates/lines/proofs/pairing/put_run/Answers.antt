@@ -1,5 +1,5 @@
-use mathlib.Core.Path.{◌≡◌, refl}
-use Prim.Native.Nat.{◌-◌, ◌/◌, ◌<◌}
+use mathlib.Core.Path.{refl}
+use Prim.Native.Nat.{◌<◌}
 use native.Mathlib.Omega.{arith}
 use lib.ListN.{length}
 use Rattle.lists.specs.Parts.{spliced}
@@ -7,8 +7,7 @@ use Rattle.bits.specs.Bits.{entries}
 use Rattle.bits.proofs.Entries.{entries_length}
 use Rattle.lines.specs.Steps.{last_of}
 use Rattle.lists.proofs.Putting.{left_all}
-use Rattle.lines.proofs.Pairs.{Pairing, pairing_here, pairing_room, pairing_next, pairing_end}
-use borrow.Author.Rules.{rules}
+use Rattle.lines.proofs.Pairs.{pairing_here, pairing_room, pairing_next, pairing_end}
 use Rattle.lines.proofs.pairing.put_run.Goals as goal
 
 pub loop-j-init : goal.loop-j-init

@@ -1,14 +1,8 @@
-use mathlib.Core.Path.{◌≡◌, refl}
-use Prim.Native.Nat.{◌-◌, ◌/◌, ◌<◌}
-use native.Mathlib.Omega.{arith}
+use mathlib.Core.Path.{◌≡◌}
+use Prim.Native.Nat.{◌-◌, ◌/◌}
 use lib.ListN.{length}
-use Rattle.lists.specs.Parts.{spliced}
 use Rattle.bits.specs.Bits.{entries}
-use Rattle.bits.proofs.Entries.{entries_length}
-use Rattle.lines.specs.Steps.{last_of}
-use Rattle.lists.proofs.Putting.{left_all}
-use Rattle.lines.proofs.Pairs.{Pairing, pairing_here, pairing_room, pairing_next, pairing_end}
-use borrow.Author.Rules.{rules}
+use Rattle.lines.proofs.Pairs.{Pairing}
 use Rattle.lines.proofs.pairing.put_run.Given as goal
 
 abbrev pub invariant-loop-j : goal.invariant-loop-j

@@ -1,13 +1,9 @@
 use Prim.Native.Nat.{◌+◌, ◌-◌, ◌≤◌}
 use mathlib.Core.Path.{◌≡◌}
 use mathlib.Core.Bool.{false}
-use native.Mathlib.Omega.{arith}
 use Rattle.bits.specs.Bits.{entries}
-use Rattle.bits.proofs.Entries.{entries_length}
 use Rattle.block.specs.Runs.{runs, runs_left, sum_over}
-use Rattle.block.proofs.RunLaws.{sum_turn, sum_ended}
 use Rattle.mesh.specs.Sizes.{named, lines_after}
-use borrow.Author.Rules.{rules}
 use Rattle.lines.proofs.totals.line_totals.Given as goal
 
 abbrev pub invariant-loop-start : goal.invariant-loop-start

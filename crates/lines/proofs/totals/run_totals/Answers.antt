@@ -1,11 +1,7 @@
-use mathlib.Core.Path.{◌≡◌, refl}
-use Prim.Native.Nat.{◌-◌, ◌/◌}
+use mathlib.Core.Path.{refl}
 use native.Mathlib.Omega.{arith}
-use lib.ListN.{length}
-use Rattle.bits.specs.Bits.{entries}
 use Rattle.bits.proofs.Entries.{entries_length}
-use Rattle.lines.proofs.Counting.{Counting, counting_start, counting_next, counting_end}
-use borrow.Author.Rules.{rules}
+use Rattle.lines.proofs.Counting.{counting_start, counting_next, counting_end}
 use Rattle.lines.proofs.totals.run_totals.Goals as goal
 
 pub loop-j-init : goal.loop-j-init

@@ -1,11 +1,8 @@
-use mathlib.Core.Path.{◌≡◌, refl}
+use mathlib.Core.Path.{◌≡◌}
 use Prim.Native.Nat.{◌-◌, ◌/◌}
-use native.Mathlib.Omega.{arith}
 use lib.ListN.{length}
 use Rattle.bits.specs.Bits.{entries}
-use Rattle.bits.proofs.Entries.{entries_length}
-use Rattle.lines.proofs.Counting.{Counting, counting_start, counting_next, counting_end}
-use borrow.Author.Rules.{rules}
+use Rattle.lines.proofs.Counting.{Counting}
 use Rattle.lines.proofs.totals.run_totals.Given as goal
 
 abbrev pub invariant-loop-j : goal.invariant-loop-j

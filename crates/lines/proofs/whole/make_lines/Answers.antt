@@ -3,7 +3,6 @@ use Prim.Native.Nat.{ℕ}
 use native.Mathlib.Omega.{arith}
 use lib.ListN.{replicate}
 use Rattle.lines.proofs.Meshed.{told_count, lined_all}
-use borrow.Author.Rules.{rules}
 use Rattle.lines.proofs.whole.make_lines.Goals as goal
 
 pub all_vertices-n-requires : goal.all_vertices-n-requires

@@ -1,12 +1,7 @@
 use native.Mathlib.Omega.{arith}
-use Prim.Native.Nat.{◌-◌, ◌/◌}
-use lib.ListN.{length}
-use Rattle.tables.specs.Listed.{Beside}
 use Rattle.tables.proofs.Besides.{beside_all, beside_then}
 use Rattle.faceset.proofs.Adding.{first_beside}
-use Rattle.primitiveset.specs.Passing.{Planned, Passed}
 use Rattle.primitiveset.proofs.Turns.{planned_beside, pass_start, pass_end}
-use borrow.Author.Rules.{rules}
 use Rattle.primitiveset.proofs.listing.list_primitives.Goals as goal
 
 pub loop-p-init : goal.loop-p-init

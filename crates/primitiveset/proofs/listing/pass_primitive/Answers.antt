@@ -5,7 +5,6 @@ use Rattle.bits.specs.Bits.{entries}
 use Rattle.bits.proofs.Entries.{entries_length}
 use Rattle.primitives.proofs.Counting.{count_most}
 use Rattle.primitiveset.proofs.Writing.{after_kept, after_lost}
-use borrow.Author.Rules.{rules}
 use Rattle.primitiveset.proofs.listing.pass_primitive.Goals as goal
 
 pub is_present-requires : goal.is_present-requires

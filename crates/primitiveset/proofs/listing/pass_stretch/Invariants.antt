@@ -1,10 +1,6 @@
 use Prim.Native.Nat.{◌-◌, ◌≤◌}
-use mathlib.Core.Path.{refl}
-use native.Mathlib.Omega.{arith}
-use Rattle.bits.proofs.Entries.{entries_length}
 use Rattle.block.specs.Runs.{next_start}
-use Rattle.primitiveset.proofs.Turns.{Along, stretch_start, along_fits, along_more, stretch_end}
-use borrow.Author.Rules.{rules}
+use Rattle.primitiveset.proofs.Turns.{Along}
 use Rattle.primitiveset.proofs.listing.pass_stretch.Given as goal
 
 abbrev pub invariant-loop-k : goal.invariant-loop-k

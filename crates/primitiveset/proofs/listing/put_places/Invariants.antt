@@ -1,14 +1,7 @@
-use Prim.Native.Nat.{ℕ, ◌+◌, ◌-◌, ◌<◌}
-use mathlib.Core.Path.{ap, ◌∙◌}
-use native.Mathlib.Omega.{arith}
+use Prim.Native.Nat.{◌+◌, ◌-◌}
 use lib.ListN.{get_or}
-use Rattle.lists.proofs.Pieces.{Singles, singles_none, singles_more, singles_all}
-use Rattle.lists.specs.Parts.{spliced}
+use Rattle.lists.proofs.Pieces.{Singles}
 use Rattle.primitives.specs.Primitives.{places_of}
-use Rattle.primitives.specs.Kept.{width_of}
-use Rattle.primitives.proofs.Counting.{count_most}
-use Rattle.primitiveset.proofs.Writing.{place_low, places_are}
-use borrow.Author.Rules.{rules}
 use Rattle.primitiveset.proofs.listing.put_places.Given as goal
 
 abbrev pub invariant-loop-i : goal.invariant-loop-i

@@ -1,5 +1,4 @@
 use Rattle.texture.specs.Corner.{texture_in}
-use borrow.Author.Rules.{rules}
 use Rattle.texture.proofs.corner.corner_texture.Goals as goal
 
 pub returns-then-h : goal.returns-then-h

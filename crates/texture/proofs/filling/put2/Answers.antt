@@ -1,7 +1,6 @@
 use Rattle.lists.proofs.Splices.{put_two}
 use lib.ListN.{length-set}
 use native.Mathlib.Omega.{arith}
-use borrow.Author.Rules.{rules}
 use Rattle.texture.proofs.filling.put2.Goals as goal
 
 pub bounds-work-a-2 : goal.bounds-work-a-2

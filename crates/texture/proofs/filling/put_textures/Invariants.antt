@@ -1,10 +1,6 @@
-use Rattle.texture.proofs.Filled.{point_within, texture_read}
 use Rattle.texture.specs.Textured.{set_texture}
-use mathlib.Core.Path.{ap, refl}
 use Prim.Native.Nat.{◌-◌, ℕ}
-use native.Mathlib.Omega.{arith}
-use borrow.Author.Rules.{rules}
-use Rattle.lists.proofs.Pieces.{Pieces, pieces_none, pieces_more, pieces_all, pieces_kept}
+use Rattle.lists.proofs.Pieces.{Pieces}
 use Rattle.mesh.specs.Words.{words2}
 use Rattle.texture.proofs.filling.put_textures.Given as goal
 

@@ -2,7 +2,6 @@ use Prim.Native.Nat.{◌+◌, ◌*◌, ◌-◌}
 use mathlib.Core.Path.{◌≡◌, ◌∙◌}
 use Rattle.lists.specs.Parts.{seg}
 use native.Mathlib.Omega.{arith}
-use borrow.Author.Rules.{rules}
 use Rattle.texture.proofs.Filled.{listed_any}
 use Rattle.texture.proofs.filling.texture_at.Goals as goal
 
