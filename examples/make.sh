@@ -1,6 +1,6 @@
 #!/usr/bin/env bash
-# Makes the blocks, the meshes and the pictures again from the texts, with target/bin/sitemesh (rt check sitemesh)
-# or the program that SITEMESH names, and through the static library (a C compiler as cc, and rt staticlib host) with
+# Makes the blocks, the meshes and the pictures again from the texts, with target/bin/sitemesh (bash tools/build sitemesh)
+# or the program that SITEMESH names, and through the static library (a C compiler as cc, and bash tools/build host) with
 # hosts/part.c for parts and hosts/call.c for what a terminal gets: grey where a colour is missing.
 set -eu
 cd "$(dirname "$0")/.."

@@ -1,5 +1,5 @@
 #!/usr/bin/env bash
-# Tries the converter's archive (rt staticlib host) from C, C++ and Rust, on the stored examples, and the lines of README.
+# Tries the converter's archive (bash tools/build host) from C, C++ and Rust, on the stored examples, and the lines of README.
 # The last line is 'N passed, M failed'.
 set -u
 cd "$(dirname "$0")/.." || exit 1

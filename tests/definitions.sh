@@ -7,7 +7,7 @@ source tests/tally.sh
 
 # The files of specs/ that a file of specs/ names.
 named_by() {
-    sed -nE 's/^use Rattle·([a-z]+)(·specs)?\.specs\.([A-Z][A-Za-z]*).*/crates\/\1\/specs\/\3.antt/p' "$1"
+    sed -nE '/^use Rattle\.std\./d; s/^use Rattle\.([a-z]+)\.specs\.([A-Z][A-Za-z]*).*/crates\/\1\/specs\/\2.antt/p' "$1"
 }
 
 reached() {

@@ -1,29 +1,22 @@
 #!/usr/bin/env bash
 # Looks that the square root and every function that it calls have no value wider than 32 bits: a width is no fact that a proof can fail.
 # It looks at the words of the file and, for what no word says, as the type of a counter that is left to be found, at the types of the code
-# that is proved and compiled (`rt mir`). The last line is 'N passed, M failed'.
+# that is proved and compiled (tests/code.py). It builds the crates, but for --left, which takes what `rt ci` has just left of them. The last
+# line is 'N passed, M failed'.
 set -u
 cd "$(dirname "$0")/.." || exit 1
 source tests/tally.sh
 
+bash tools/build "$@" math lists || tally 'math and lists are proved' 1
+
 # The code of a function and of all that it calls, a function to a line.
 code_under() { # crate, function
-    local mir left=("$2") seen=' ' name line
-    mir=$(rt mir "$1" | sed 's/(fn-def "/\n&/g') || return 1
-    while [ ${#left[@]} -gt 0 ]; do
-        name=${left[0]}
-        left=("${left[@]:1}")
-        case $seen in *" $name "*) continue ;; esac
-        seen="$seen$name "
-        line=$(grep -F "(fn-def \"$name\"" <<< "$mir") || return 1
-        printf '%s\n' "$line"
-        mapfile -t -O ${#left[@]} left < <(grep -o 'fnRef "[^"]*"' <<< "$line" | grep -v rt_empty | cut -d'"' -f2)
-    done
+    python3 tests/code.py "$@"
 }
 
 # The types of locals, fields and constants in such lines, but for those that fit in 32 bits.
 wider() {
-    grep -oE '\b(ty[A-Z][A-Za-z]*( [0-9]+)?|(int|float) [0-9]+)' | sort -u | grep -vxE '(tyInt|int) (8|16|32)|(tyFloat|float) 32|tyBool|tyUnit|tyNamed'
+    cut -f2- | tr '\t' '\n' | sort -u | grep -vxE 'Int (8|16|32)|(Float|FloatFromBits) 32|Bool|Unit|Named'
 }
 
 file=crates/math/src/square_root.rt
@@ -35,7 +28,7 @@ for name in root roots; do
     tally "the code of $name" $?
     ! wider <<< "$code"
     tally "no value of $name is wider than 32 bits" $?
-    ! cut -d'"' -f2 <<< "$code" | grep -v '^math::square_root::'
+    ! cut -f1 <<< "$code" | grep -v '^math::square_root::'
     tally "$name calls nothing outside of $file" $?
 done
 

@@ -14,7 +14,6 @@ use Rattle.parts.specs.declared.ring.Ring.{Ring}
 use Rattle.parts.specs.declared.vert.Vert.{Vert}
 use Rattle.parts.specs.Ring.{share_of}
 use Rattle.parts.specs.Sizes.{dim_of, held_to}
-use Rattle.parts.specs.Part.{Part}
 use Rattle.parts.specs.Cap.{cap_at}
 use Rattle.parts.proofs.Taking.{Agree, ring_same, Reads, reads_asked, reads_where, reads_followed, cap_reads}
 use Rattle.cone.specs.Cone.{cone_normal, cone_foot, cone_apex, cone_verts, cone_tri, cone_side, cone_side_at, cone_part, cone_of}

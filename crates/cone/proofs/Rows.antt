@@ -18,7 +18,7 @@ use Rattle.parts.specs.declared.sizes.PartSizes.{PartSizes}
 use Rattle.parts.specs.Ring.{sine_at, cosine_at, ring_at, share_of}
 use Rattle.parts.specs.Sizes.{dim_of, held_to}
 use Rattle.parts.specs.Part.{Part, followed, positions_of, normals_of, uv_of, textures_of}
-use Rattle.parts.specs.Cap.{cap_normal, cap_texture, cap_centre, cap_vert, cap_verts, cap_tri, cap_indices, cap_part, cap_at}
+use Rattle.parts.specs.Cap.{cap_texture, cap_centre, cap_vert, cap_verts, cap_tri, cap_indices, cap_part, cap_at}
 use Rattle.cone.specs.Cone.{cone_normal, cone_foot, cone_apex, cone_verts, cone_tri, cone_side, cone_side_at, cone_part, cone_of}
 
 abbrev minus_f : Float

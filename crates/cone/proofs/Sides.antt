@@ -6,26 +6,25 @@ use Prim.Native.Nat.{ℕ, ◌+◌, ◌*◌, ◌≤◌, ◌<◌, ◌^◌}
 use native.Mathlib.Omega.{arith}
 use lib.ListN.{length}
 use lib.Ieee.{Float, binary32, neg, add, div}
-use Rattle.math.specs.Vector.{zero_f, one_f, two_f}
+use Rattle.math.specs.Vector.{one_f, two_f}
 use Rattle.lists.specs.Lists.{flat}
 use Rattle.lists.specs.Loops.{tab}
 use Rattle.lists.specs.Parts.{spliced}
 use Rattle.lists.proofs.Pieces.{length_pieces}
-use Rattle.lists.proofs.Splices.{splice_more}
 use Rattle.parts.specs.declared.cap.Cap.{Cap}
 use Rattle.parts.specs.declared.sizes.PartSizes.{PartSizes}
 use Rattle.parts.specs.declared.vert.GeomCtx.{GeomCtx}
 use Rattle.parts.specs.declared.vert.Vert.{Vert}
 use Rattle.parts.specs.Ring.{share_of}
 use Rattle.parts.specs.Sizes.{dim_of, held_to, sum_of, sizes_where}
-use Rattle.parts.specs.Part.{Part, no_part, followed}
+use Rattle.parts.specs.Part.{Part}
 use Rattle.parts.specs.Pushed.{Streams, RoomFor, pushed}
 use Rattle.parts.specs.Cap.{cap_at, cap_sizes, Numbered}
 use Rattle.parts.specs.Written.{Sized, Written, Roomy}
 use Rattle.parts.proofs.Pushing.{SameSizes, room_less, pushed_next, pushed_sizes}
 use Rattle.parts.proofs.Capping.{cap_sized}
 use Rattle.parts.proofs.Holding.{held_between}
-use Rattle.parts.proofs.Parting.{where_sized, where_room, where_written, where_absent, Small, where_small, cap_small, sum_small, sized_followed, roomy_first, roomy_next, written_followed}
+use Rattle.parts.proofs.Parting.{where_sized, where_room, where_written, where_absent, Small, where_small, cap_small, sized_followed, roomy_first, roomy_next, written_followed}
 use Rattle.cone.specs.declared.whole.ConeMarks.{ConeMarks}
 use Rattle.cone.specs.Cone.{cone_foot, cone_apex, cone_verts, cone_tri, cone_side, cone_side_at, cone_side_sizes, cone_marks_of, cone_part, cone_of}
 

@@ -1,7 +1,7 @@
 -- FORMAT 17.8: where its pairs come round, each edge of a cylinder with its side, its top and its bottom has its way back, as often, by the places of its ends.
 use mathlib.Core.Path.{◌≡◌, refl, sym, ap, ◌∙◌}
 use mathlib.Core.Bool.{true, false}
-use mathlib.Core.List.{List, [], ◌∷◌, ◌++◌, append_assoc, append-nil}
+use mathlib.Core.List.{List, [], ◌++◌, append_assoc, append-nil}
 use mathlib.Core.Logic.{⊎_elim}
 use Prim.Native.Nat.{ℕ, suc, ◌+◌, ◌*◌, ◌%◌, ◌≤◌, ◌<◌}
 use native.Mathlib.Nat.{add_assoc, add-zero, eq-or-lt_of_le}
@@ -23,7 +23,7 @@ use Rattle.parts.specs.declared.ring.Ring.{Ring}
 use Rattle.parts.specs.declared.vert.Vert.{Vert}
 use Rattle.parts.specs.Ring.{ring_at}
 use Rattle.parts.specs.Sizes.{dim_of, held_to}
-use Rattle.parts.specs.Part.{Part, followed}
+use Rattle.parts.specs.Part.{followed}
 use Rattle.parts.specs.Cap.{cap_centre, cap_vert, cap_verts, cap_tri, cap_indices, cap_part, cap_at}
 use Rattle.parts.specs.Edges.{edge_sum, place_in, Closed}
 use Rattle.parts.proofs.Capping.{cap_verts_length}

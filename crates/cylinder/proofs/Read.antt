@@ -9,11 +9,10 @@ use Rattle.math.specs.Vector.{v3, zero_f, one_f, two_f}
 use Rattle.lists.specs.Lists.{flat}
 use Rattle.lists.specs.Loops.{tab}
 use Rattle.lists.proofs.Tabs.{tab_same}
-use Rattle.parts.specs.declared.ring.Ring.{Ring}
 use Rattle.parts.specs.declared.vert.Vert.{Vert}
 use Rattle.parts.specs.Ring.{share_of}
 use Rattle.parts.specs.Sizes.{dim_of, held_to}
-use Rattle.parts.specs.Part.{Part, followed}
+use Rattle.parts.specs.Part.{followed}
 use Rattle.parts.specs.Cap.{cap_at}
 use Rattle.parts.proofs.Taking.{Agree, ring_same, Reads, reads_asked, reads_where, reads_followed, cap_reads}
 use Rattle.cylinder.specs.Cylinder.{side_vert, side_verts, side_tris, side_part, side_at, cylinder_part, cylinder_of}

@@ -17,11 +17,11 @@ use Rattle.parts.specs.declared.sizes.PartSizes.{PartSizes}
 use Rattle.parts.specs.declared.vert.GeomCtx.{GeomCtx}
 use Rattle.parts.specs.declared.vert.Vert.{Vert}
 use Rattle.parts.specs.Sizes.{dim_of, held_to, sum_of, sizes_where}
-use Rattle.parts.specs.Part.{Part, no_part, followed}
+use Rattle.parts.specs.Part.{Part, followed}
 use Rattle.parts.specs.Pushed.{Streams, RoomFor, pushed}
 use Rattle.parts.specs.Cap.{cap_at, cap_sizes, Numbered}
 use Rattle.parts.specs.Written.{Sized, Written, Roomy}
-use Rattle.parts.proofs.Pushing.{room_less, next_room, pushed_next}
+use Rattle.parts.proofs.Pushing.{room_less, pushed_next}
 use Rattle.parts.proofs.Capping.{cap_sized}
 use Rattle.parts.proofs.Holding.{held_between}
 use Rattle.parts.proofs.Parting.{where_sized, where_room, where_written, where_absent, Small, where_small, cap_small, sum_small, sized_followed, roomy_first, roomy_next, written_followed}

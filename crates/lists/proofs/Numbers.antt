@@ -7,7 +7,7 @@ use native.Mathlib.Numerals.{add-one}
 use native.Mathlib.Omega.{arith}
 use mathlib.Core.Logic.{◌⊎◌, inl, inr, ⊎_elim}
 use borrow.Author.Tests.{eqb-true, eqb-false, ltb-true, ltb-false}
-use lib.Dec.{eqb, T, leb, leb→le, nleb→lt, ltb, lit<}
+use lib.Dec.{eqb, T, leb, leb→le, nleb→lt, ltb}
 use Rattle.lists.proofs.Loops.{back_some}
 
 -- ---- column a of row b, in rows of x

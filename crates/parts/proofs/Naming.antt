@@ -1,5 +1,4 @@
 -- FORMAT 17.4: every index of a part names a vertex: of a cap, and of a part that follows another.
-use mathlib.Core.Path.{◌≡◌}
 use mathlib.Core.Bool.{Bool, true, false, cond}
 use mathlib.Core.List.{List, [], ◌∷◌, ◌++◌}
 use Prim.Native.Nat.{ℕ, ◌+◌, ◌%◌, ◌<◌}

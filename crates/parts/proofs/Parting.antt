@@ -1,6 +1,6 @@
 -- A part and one that follows it; and from what was written, or refused, to what the call of a part promises.
 use mathlib.Core.Path.{◌≡◌, refl, sym, ap, ◌∙◌, subst}
-use mathlib.Core.Bool.{Bool, true, false, ◌||◌, ◌&&◌, cond, true≢false}
+use mathlib.Core.Bool.{Bool, true, false, ◌||◌, cond, true≢false}
 use mathlib.Core.List.{List, [], ◌∷◌, ◌++◌}
 use Prim.Native.Nat.{ℕ, zero, suc, ◌+◌, ◌*◌, ◌/◌, ◌≤◌, ◌<◌, ◌^◌}
 use native.Mathlib.Nat.{zero-add, mul-zero}
@@ -16,15 +16,15 @@ use Rattle.lists.proofs.Tests.{or_none}
 use Rattle.lists.specs.Lists.{flat}
 use Rattle.lists.specs.Parts.{spliced}
 use Rattle.lists.proofs.Splices.{splice_start, splice_more, put_size}
-use Rattle.mesh.specs.Mesh.{Slices, slices_of, over, over_all}
+use Rattle.mesh.specs.Mesh.{Slices, slices_of, over}
 use Rattle.lent.specs.declared.answer.Report.{Report}
 use Rattle.lent.specs.declared.answer.Answer.TheVariants.{Refused, Made}
-use Rattle.lent.specs.Answer.{refused, saying, said, after_all}
+use Rattle.lent.specs.Answer.{refused, saying}
 use Rattle.parts.specs.declared.sizes.PartSizes.{PartSizes}
 use Rattle.parts.specs.declared.sizes.PartLengths.{PartLengths}
 use Rattle.parts.specs.declared.vert.GeomCtx.{GeomCtx}
 use Rattle.parts.specs.Sizes.{is_short_texture, is_short_part, report_of, sum_of, sizes_where}
-use Rattle.parts.specs.Part.{Part, no_part, followed, finite_ctx, positions_of, normals_of, textures_of, part_mesh}
+use Rattle.parts.specs.Part.{Part, no_part, followed, finite_ctx, textures_of, part_mesh}
 use Rattle.parts.specs.Pushed.{Streams, position_words, normal_words, texture_words, texture_width, pushed, RoomFor}
 use Rattle.parts.specs.Cap.{cap_sizes}
 use Rattle.parts.specs.Written.{Sized, Written, Roomy}

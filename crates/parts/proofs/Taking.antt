@@ -8,10 +8,8 @@ use lib.Ieee.{Float, binary32, nan, neg, mul}
 use lib.ListN.{take, length, get_or}
 use lib.Seq.{get_or-take}
 use Rattle.math.specs.Vector.{v3}
-use Rattle.lists.specs.Loops.{tab}
 use Rattle.lists.proofs.Tabs.{tab_same}
 use Rattle.parts.specs.declared.cap.Cap.{Cap}
-use Rattle.parts.specs.declared.ring.Ring.{Ring}
 use Rattle.parts.specs.declared.vert.Vert.{Vert}
 use Rattle.parts.specs.Ring.{sine_at, cosine_at, ring_at}
 use Rattle.parts.specs.Part.{Part, no_part, followed}

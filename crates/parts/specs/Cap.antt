@@ -1,9 +1,9 @@
 -- FORMAT 17.4, cap: the flat end of a cylinder or a cone.
-use Rattle.std.specs.Prelude.{◌≡◌, ℕ, ◌+◌, ◌*◌, ◌%◌, ◌≤◌, ◌<◌, ◌^◌, Bool, cond, List, [], ◌∷◌, Float}
+use Rattle.std.specs.Prelude.{ℕ, ◌+◌, ◌*◌, ◌%◌, ◌≤◌, ◌<◌, ◌^◌, Bool, cond, List, [], ◌∷◌, Float}
 use Rattle.std.specs.Float.{binary32}
 use Rattle.std.specs.Float.Ieee.{of_bits, add, sub, mul, div}
 use Rattle.math.specs.declared.vector.V3.{V3}
-use Rattle.math.specs.Vector.{v3, zero_f, one_f, two_f, y_axis}
+use Rattle.math.specs.Vector.{v3, zero_f, two_f, y_axis}
 use Rattle.block.specs.declared.texture.Pair.{Pair}
 use Rattle.lists.specs.Lists.{flat}
 use Rattle.lists.specs.Loops.{tab}

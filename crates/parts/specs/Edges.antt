@@ -2,7 +2,6 @@
 use Rattle.std.specs.Prelude.{◌≡◌, List, [], ◌∷◌, ℕ, ◌+◌, get_or}
 use Rattle.math.specs.declared.vector.V3.{V3}
 use Rattle.parts.specs.declared.vert.Vert.{Vert}
-use Rattle.parts.specs.Part.{Part}
 
 -- what f says of each edge, added up; three indices are a triangle
 unfoldable pub edge_sum : (ℕ → ℕ → ℕ) → List ℕ → ℕ

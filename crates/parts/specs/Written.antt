@@ -1,5 +1,5 @@
 -- FORMAT 17.4, 17.10: how large a part is, and that it stands in the slices. For the proofs of the parts.
-use Rattle.std.specs.Prelude.{◌≡◌, List, ℕ, ◌+◌, ◌≤◌, ◌<◌, ◌^◌, length}
+use Rattle.std.specs.Prelude.{◌≡◌, List, ℕ, ◌+◌, ◌≤◌, length}
 use Rattle.lists.specs.Parts.{spliced}
 use Rattle.parts.specs.declared.vert.GeomCtx.{GeomCtx}
 use Rattle.parts.specs.declared.sizes.PartSizes.{PartSizes}

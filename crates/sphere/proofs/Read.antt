@@ -10,11 +10,9 @@ use Rattle.math.specs.Vector.{v3, one_f, vscale}
 use Rattle.lists.specs.Lists.{flat}
 use Rattle.lists.specs.Loops.{tab}
 use Rattle.lists.proofs.Tabs.{tab_same}
-use Rattle.parts.specs.declared.ring.Ring.{Ring}
 use Rattle.parts.specs.declared.vert.Vert.{Vert}
 use Rattle.parts.specs.Ring.{share_of}
 use Rattle.parts.specs.Sizes.{dim_of, held_to}
-use Rattle.parts.specs.Part.{Part}
 use Rattle.parts.proofs.Taking.{Agree, sine_same, cosine_same, ring_same, Reads, reads_asked}
 use Rattle.sphere.specs.Sphere.{sphere_vert, sphere_row, sphere_band, sphere_part, sphere_of}
 

@@ -1,6 +1,5 @@
 use mathlib.Core.Path.{sym}
 use lib.Seq.{set_out}
-use borrow.Author.Rules.{rules}
 use Rattle.lists.proofs.put.Goals as goal
 
 pub returns-else-k-table : goal.returns-else-k-table

@@ -1,6 +1,5 @@
 use lib.ListN.{length-set}
 use native.Mathlib.Omega.{arith}
-use borrow.Author.Rules.{rules}
 use Rattle.lists.proofs.Splices.{put_four}
 use Rattle.lists.proofs.put_four.Goals as goal
 

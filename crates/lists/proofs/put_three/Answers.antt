@@ -1,6 +1,5 @@
 use lib.ListN.{length-set}
 use native.Mathlib.Omega.{arith}
-use borrow.Author.Rules.{rules}
 use Rattle.lists.proofs.Splices.{put_three}
 use Rattle.lists.proofs.put_three.Goals as goal
 

@@ -1,6 +1,5 @@
 use lib.ListN.{length-set}
 use native.Mathlib.Omega.{arith}
-use borrow.Author.Rules.{rules}
 use Rattle.lists.proofs.Splices.{put_two}
 use Rattle.lists.proofs.put_two.Goals as goal
 

@@ -2,7 +2,6 @@ use mathlib.Core.Path.{◌≡◌}
 use native.Mathlib.Omega.{arith}
 use lib.Ieee.{neg, of_bits}
 use Rattle.boxes.specs.Box.{face_at}
-use borrow.Author.Rules.{rules}
 use Rattle.boxes.proofs.faces.face_at.Goals as goal
 
 pub returns-then-k-eq0 : goal.returns-then-k-eq0

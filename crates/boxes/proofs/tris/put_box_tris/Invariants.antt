@@ -1,10 +1,6 @@
-use mathlib.Core.Path.{refl}
 use Prim.Native.Nat.{◌-◌}
-use native.Mathlib.Omega.{arith}
-use Rattle.lists.proofs.Pieces.{Pieces, pieces_none, pieces_more, pieces_all}
+use Rattle.lists.proofs.Pieces.{Pieces}
 use Rattle.boxes.specs.Box.{box_tris}
-use Rattle.boxes.proofs.Sized.{tris_wide}
-use borrow.Author.Rules.{rules}
 use Rattle.boxes.proofs.tris.put_box_tris.Given as goal
 
 abbrev pub invariant-loop-k : goal.invariant-loop-k

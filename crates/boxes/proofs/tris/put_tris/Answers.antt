@@ -1,5 +1,4 @@
 use Rattle.boxes.proofs.Sized.{tris_put}
-use borrow.Author.Rules.{rules}
 use Rattle.boxes.proofs.tris.put_tris.Goals as goal
 
 pub returns : goal.returns

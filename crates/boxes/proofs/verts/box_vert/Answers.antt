@@ -1,5 +1,4 @@
 use Rattle.boxes.specs.Box.{box_vert}
-use borrow.Author.Rules.{rules}
 use Rattle.boxes.proofs.verts.box_vert.Goals as goal
 
 pub returns : goal.returns

@@ -1,10 +1,7 @@
 use mathlib.Core.Path.{refl, ap, ◌∙◌}
-use mathlib.Core.List.{[], ◌∷◌}
-use Prim.Native.Nat.{ℕ, ◌*◌, ◌-◌}
-use Rattle.parts.proofs.Pushing.{Filling, ones_none, ones_more, ones_room, ones_all}
+use Rattle.parts.proofs.Pushing.{ones_none, ones_more, ones_room, ones_all}
 use Rattle.boxes.specs.declared.faces.BoxFace.{BoxFace}
-use Rattle.boxes.specs.Box.{face_at, box_vert, box_face}
-use borrow.Author.Rules.{rules}
+use Rattle.boxes.specs.Box.{box_vert, box_face}
 use Rattle.boxes.proofs.verts.put_face.Goals as goal
 
 pub loop-i-init : goal.loop-i-init

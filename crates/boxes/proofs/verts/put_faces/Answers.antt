@@ -1,10 +1,7 @@
 use mathlib.Core.Path.{sym}
-use Prim.Native.Nat.{◌-◌}
 use native.Mathlib.Nat.{zero-add}
-use Rattle.parts.proofs.Pushing.{Filling, filling_none, filling_more, filling_all}
-use Rattle.boxes.specs.Box.{box_face}
+use Rattle.parts.proofs.Pushing.{filling_none, filling_more, filling_all}
 use Rattle.boxes.proofs.Sized.{face_wide, face_room}
-use borrow.Author.Rules.{rules}
 use Rattle.boxes.proofs.verts.put_faces.Goals as goal
 
 pub loop-k-init : goal.loop-k-init

@@ -1,10 +1,6 @@
-use mathlib.Core.Path.{sym}
 use Prim.Native.Nat.{◌-◌}
-use native.Mathlib.Nat.{zero-add}
-use Rattle.parts.proofs.Pushing.{Filling, filling_none, filling_more, filling_all}
+use Rattle.parts.proofs.Pushing.{Filling}
 use Rattle.boxes.specs.Box.{box_face}
-use Rattle.boxes.proofs.Sized.{face_wide, face_room}
-use borrow.Author.Rules.{rules}
 use Rattle.boxes.proofs.verts.put_faces.Given as goal
 
 abbrev pub invariant-loop-k : goal.invariant-loop-k

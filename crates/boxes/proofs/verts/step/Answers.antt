@@ -1,5 +1,4 @@
 use Rattle.boxes.specs.Box.{stepped}
-use borrow.Author.Rules.{rules}
 use Rattle.boxes.proofs.verts.step.Goals as goal
 
 pub returns-then-forth : goal.returns-then-forth

@@ -2,7 +2,6 @@ use mathlib.Core.List.{[]}
 use Rattle.parts.proofs.Parting.{call_refused, call_roomy, call_made}
 use Rattle.boxes.specs.Box.{box_of}
 use Rattle.boxes.proofs.Sized.{box_sized, box_room, box_written}
-use borrow.Author.Rules.{rules}
 use Rattle.boxes.proofs.whole.box_prim.Goals as goal
 
 pub returns-else-is_taken : goal.returns-else-is_taken

@@ -1,5 +1,4 @@
 use Rattle.boxes.specs.Box.{finite_size}
-use borrow.Author.Rules.{rules}
 use Rattle.boxes.proofs.whole.finite_size.Goals as goal
 
 pub returns-then-is_finite-3 : goal.returns-then-is_finite-3

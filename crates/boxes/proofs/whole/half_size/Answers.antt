@@ -1,5 +1,4 @@
 use Rattle.boxes.specs.Box.{half_size}
-use borrow.Author.Rules.{rules}
 use Rattle.boxes.proofs.whole.half_size.Goals as goal
 
 pub returns : goal.returns

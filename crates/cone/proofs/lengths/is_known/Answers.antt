@@ -1,6 +1,5 @@
 use mathlib.Core.Path.{sym}
 use mathlib.Core.Bool.{true≢false}
-use borrow.Author.Rules.{rules}
 use Rattle.cone.proofs.lengths.is_known.Goals as goal
 
 pub returns-then-w-k : goal.returns-then-w-k

@@ -1,8 +1,6 @@
 use Prim.Native.Nat.{◌+◌}
 use native.Mathlib.Omega.{arith}
-use Rattle.cone.specs.Roots.{Roots}
 use Rattle.cone.proofs.Scaling.{known_at}
-use borrow.Author.Rules.{rules}
 use Rattle.cone.proofs.lengths.known_length.Goals as goal
 
 pub returns-then-i-eq0 : goal.returns-then-i-eq0

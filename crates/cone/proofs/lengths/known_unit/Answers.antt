@@ -1,5 +1,4 @@
 use Rattle.cone.proofs.Scaling.{unit_known}
-use borrow.Author.Rules.{rules}
 use Rattle.cone.proofs.lengths.known_unit.Goals as goal
 
 pub returns : goal.returns

@@ -1,8 +1,5 @@
 use mathlib.Core.Path.{ap, ◌∙◌}
 use Rattle.math.specs.SquareRoot.{root_of}
-use Rattle.math.specs.Nearest.{Rooted}
-use Rattle.cone.specs.Roots.{Roots}
-use borrow.Author.Rules.{rules}
 use Rattle.cone.proofs.lengths.lengths_near.Goals as goal
 
 pub returns : goal.returns

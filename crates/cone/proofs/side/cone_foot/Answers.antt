@@ -1,5 +1,4 @@
 use Rattle.cone.specs.Cone.{cone_foot}
-use borrow.Author.Rules.{rules}
 use Rattle.cone.proofs.side.cone_foot.Goals as goal
 
 pub returns : goal.returns

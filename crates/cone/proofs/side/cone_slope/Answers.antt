@@ -1,5 +1,4 @@
 use Rattle.cone.specs.Cone.{cone_normal}
-use borrow.Author.Rules.{rules}
 use Rattle.cone.proofs.side.cone_slope.Goals as goal
 
 pub returns : goal.returns

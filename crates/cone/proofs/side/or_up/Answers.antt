@@ -1,5 +1,4 @@
 use Rattle.mesh.specs.Normals.{or_else}
-use borrow.Author.Rules.{rules}
 use Rattle.cone.proofs.side.or_up.Goals as goal
 
 pub returns-in-Of : goal.returns-in-Of

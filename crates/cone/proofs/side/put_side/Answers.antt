@@ -1,5 +1,4 @@
 use Rattle.cone.proofs.Sides.{side_room, side_places, side_written}
-use borrow.Author.Rules.{rules}
 use Rattle.cone.proofs.side.put_side.Goals as goal
 
 pub put_slices-requires : goal.put_slices-requires

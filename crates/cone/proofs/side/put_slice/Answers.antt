@@ -3,7 +3,6 @@ use mathlib.Core.List.{[], ◌∷◌}
 use Prim.Native.Nat.{◌+◌, ◌*◌}
 use Rattle.parts.proofs.Pushing.{room_less, next_room}
 use Rattle.cone.proofs.Sides.{three_sizes, slice_pushed}
-use borrow.Author.Rules.{rules}
 use Rattle.cone.proofs.side.put_slice.Goals as goal
 
 pub share-s0-requires : goal.share-s0-requires

@@ -1,11 +1,9 @@
 use native.Mathlib.Omega.{arith}
 use mathlib.Core.Path.{refl, sym}
-use Prim.Native.Nat.{◌-◌}
 use native.Mathlib.Nat.{zero-add}
 use Rattle.cone.specs.Cone.{cone_tri}
-use Rattle.lists.proofs.Pieces.{Pieces, pieces_none, pieces_more, pieces_all}
+use Rattle.lists.proofs.Pieces.{pieces_none, pieces_more, pieces_all}
 use Rattle.cone.proofs.Sides.{tri_put}
-use borrow.Author.Rules.{rules}
 use Rattle.cone.proofs.side.put_slice_tris.Goals as goal
 
 pub loop-i-init : goal.loop-i-init

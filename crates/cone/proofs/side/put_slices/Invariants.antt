@@ -1,10 +1,6 @@
-use native.Mathlib.Omega.{arith}
-use mathlib.Core.Path.{refl, sym}
 use Prim.Native.Nat.{◌-◌}
-use native.Mathlib.Nat.{zero-add}
 use Rattle.cone.specs.Cone.{cone_verts}
-use Rattle.parts.proofs.Pushing.{Filling, filling_none, filling_more, filling_all, room_less}
-use borrow.Author.Rules.{rules}
+use Rattle.parts.proofs.Pushing.{Filling}
 use Rattle.cone.proofs.side.put_slices.Given as goal
 
 abbrev pub invariant-loop-i : goal.invariant-loop-i

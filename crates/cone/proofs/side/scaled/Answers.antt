@@ -3,7 +3,6 @@ use lib.Ieee.{binary32, to_bits}
 use Rattle.math.specs.declared.vector.Unit.{Unit}
 use Rattle.math.specs.Vector.{y_axis}
 use Rattle.mesh.specs.Normals.{or_else}
-use borrow.Author.Rules.{rules}
 use Rattle.cone.proofs.side.scaled.Goals as goal
 
 pub known_unit-requires : goal.known_unit-requires

@@ -2,7 +2,6 @@ use mathlib.Core.Path.{ap, ◌∙◌}
 use Rattle.math.specs.declared.vector.Unit.{Unit}
 use Rattle.math.specs.Vector.{y_axis}
 use Rattle.mesh.specs.Normals.{or_else}
-use borrow.Author.Rules.{rules}
 use Rattle.cone.proofs.side.three_normals.Goals as goal
 
 pub returns : goal.returns

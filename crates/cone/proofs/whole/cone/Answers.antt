@@ -1,6 +1,5 @@
 use Rattle.cone.proofs.Sides.{all_sized, all_low, low_call, read_call}
 use Rattle.parts.proofs.Parting.{sized_as, roomy_as, written_as, call_refused, call_roomy, call_made}
-use borrow.Author.Rules.{rules}
 use Rattle.cone.proofs.whole.cone.Goals as goal
 
 pub marks_of-m-requires : goal.marks_of-m-requires

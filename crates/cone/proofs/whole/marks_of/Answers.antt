@@ -2,7 +2,6 @@ use native.Mathlib.Omega.{arith}
 use Rattle.cone.proofs.Sides.{side_small}
 use Rattle.parts.proofs.Parting.{where_small, cap_small, sum_low}
 use Rattle.cone.specs.Cone.{cone_marks_of}
-use borrow.Author.Rules.{rules}
 use Rattle.cone.proofs.whole.marks_of.Goals as goal
 
 pub sum_sizes-all-requires : goal.sum_sizes-all-requires

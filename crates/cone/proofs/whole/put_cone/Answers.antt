@@ -1,5 +1,4 @@
 use Rattle.cone.proofs.Sides.{one_room, lower_numbered, lower_room, all_written}
-use borrow.Author.Rules.{rules}
 use Rattle.cone.proofs.whole.put_cone.Goals as goal
 
 pub put_side_where-requires : goal.put_side_where-requires

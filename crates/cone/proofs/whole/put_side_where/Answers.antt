@@ -1,5 +1,4 @@
 use Rattle.cone.proofs.Sides.{there_room, there_written, absent_written}
-use borrow.Author.Rules.{rules}
 use Rattle.cone.proofs.whole.put_side_where.Goals as goal
 
 pub put_side-requires : goal.put_side-requires

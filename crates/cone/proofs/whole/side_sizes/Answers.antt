@@ -1,6 +1,5 @@
 use mathlib.Core.Path.{refl}
 use Rattle.cone.specs.Cone.{cone_side_sizes}
-use borrow.Author.Rules.{rules}
 use Rattle.cone.proofs.whole.side_sizes.Goals as goal
 
 pub returns : goal.returns

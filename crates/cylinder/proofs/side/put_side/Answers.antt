@@ -1,5 +1,4 @@
 use Rattle.cylinder.proofs.Sides.{side_room, side_places, side_written}
-use borrow.Author.Rules.{rules}
 use Rattle.cylinder.proofs.side.put_side.Goals as goal
 
 pub put_side_verts-requires : goal.put_side_verts-requires

@@ -1,10 +1,8 @@
 use native.Mathlib.Omega.{arith}
 use mathlib.Core.Path.{refl, sym}
-use Prim.Native.Nat.{◌-◌}
 use native.Mathlib.Nat.{zero-add}
 use Rattle.cylinder.specs.Cylinder.{side_tris}
-use Rattle.lists.proofs.Pieces.{Pieces, pieces_none, pieces_more, pieces_all}
-use borrow.Author.Rules.{rules}
+use Rattle.lists.proofs.Pieces.{pieces_none, pieces_more, pieces_all}
 use Rattle.cylinder.proofs.side.put_side_tris.Goals as goal
 
 pub loop-i-init : goal.loop-i-init

@@ -1,10 +1,6 @@
-use native.Mathlib.Omega.{arith}
-use mathlib.Core.Path.{refl, sym}
 use Prim.Native.Nat.{◌-◌}
-use native.Mathlib.Nat.{zero-add}
 use Rattle.cylinder.specs.Cylinder.{side_tris}
-use Rattle.lists.proofs.Pieces.{Pieces, pieces_none, pieces_more, pieces_all}
-use borrow.Author.Rules.{rules}
+use Rattle.lists.proofs.Pieces.{Pieces}
 use Rattle.cylinder.proofs.side.put_side_tris.Given as goal
 
 abbrev pub invariant-loop-i : goal.invariant-loop-i

@@ -1,10 +1,8 @@
 use native.Mathlib.Omega.{arith}
 use mathlib.Core.Path.{refl, sym}
-use Prim.Native.Nat.{◌+◌, ◌-◌}
 use native.Mathlib.Nat.{zero-add}
 use Rattle.cylinder.specs.Cylinder.{side_verts}
-use Rattle.parts.proofs.Pushing.{Filling, filling_none, filling_more, filling_all, room_less}
-use borrow.Author.Rules.{rules}
+use Rattle.parts.proofs.Pushing.{filling_none, filling_more, filling_all, room_less}
 use Rattle.cylinder.proofs.side.put_side_verts.Goals as goal
 
 pub loop-i-init : goal.loop-i-init

@@ -1,10 +1,6 @@
-use native.Mathlib.Omega.{arith}
-use mathlib.Core.Path.{refl, sym}
 use Prim.Native.Nat.{◌+◌, ◌-◌}
-use native.Mathlib.Nat.{zero-add}
 use Rattle.cylinder.specs.Cylinder.{side_verts}
-use Rattle.parts.proofs.Pushing.{Filling, filling_none, filling_more, filling_all, room_less}
-use borrow.Author.Rules.{rules}
+use Rattle.parts.proofs.Pushing.{Filling}
 use Rattle.cylinder.proofs.side.put_side_verts.Given as goal
 
 abbrev pub invariant-loop-i : goal.invariant-loop-i

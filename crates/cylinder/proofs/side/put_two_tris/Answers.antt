@@ -1,6 +1,5 @@
 use native.Mathlib.Omega.{arith}
 use Rattle.cylinder.proofs.Sides.{tris_put}
-use borrow.Author.Rules.{rules}
 use Rattle.cylinder.proofs.side.put_two_tris.Goals as goal
 
 pub put_three-requires : goal.put_three-requires

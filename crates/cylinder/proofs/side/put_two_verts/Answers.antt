@@ -3,7 +3,6 @@ use mathlib.Core.List.{[], ◌∷◌}
 use Prim.Native.Nat.{◌*◌}
 use Rattle.parts.proofs.Pushing.{room_less, next_room}
 use Rattle.cylinder.proofs.Sides.{two_pushed}
-use borrow.Author.Rules.{rules}
 use Rattle.cylinder.proofs.side.put_two_verts.Goals as goal
 
 pub side_vert-below-requires : goal.side_vert-below-requires

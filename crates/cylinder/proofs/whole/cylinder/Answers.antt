@@ -1,6 +1,5 @@
 use Rattle.cylinder.proofs.Sides.{all_sized, all_low, low_call, read_call}
 use Rattle.parts.proofs.Parting.{sized_as, roomy_as, written_as, call_refused, call_roomy, call_made}
-use borrow.Author.Rules.{rules}
 use Rattle.cylinder.proofs.whole.cylinder.Goals as goal
 
 pub marks_of-m-requires : goal.marks_of-m-requires

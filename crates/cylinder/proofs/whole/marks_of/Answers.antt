@@ -2,7 +2,6 @@ use native.Mathlib.Omega.{arith}
 use Rattle.cylinder.proofs.Sides.{side_small}
 use Rattle.parts.proofs.Parting.{where_small, cap_small, sum_small, sum_low}
 use Rattle.cylinder.specs.Cylinder.{marks_of}
-use borrow.Author.Rules.{rules}
 use Rattle.cylinder.proofs.whole.marks_of.Goals as goal
 
 pub sum_sizes-b-requires : goal.sum_sizes-b-requires

@@ -1,5 +1,4 @@
 use Rattle.cylinder.proofs.Sides.{top_is, two_room, lower_numbered, lower_room, all_written}
-use borrow.Author.Rules.{rules}
 use Rattle.cylinder.proofs.whole.put_cylinder.Goals as goal
 
 pub put_side_and_top-requires : goal.put_side_and_top-requires

@@ -1,5 +1,4 @@
 use Rattle.cylinder.proofs.Sides.{one_room, upper_numbered, upper_room, two_written}
-use borrow.Author.Rules.{rules}
 use Rattle.cylinder.proofs.whole.put_side_and_top.Goals as goal
 
 pub put_side_where-requires : goal.put_side_where-requires

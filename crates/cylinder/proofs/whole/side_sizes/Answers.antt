@@ -1,6 +1,5 @@
 use mathlib.Core.Path.{refl}
 use Rattle.cylinder.specs.Cylinder.{side_sizes}
-use borrow.Author.Rules.{rules}
 use Rattle.cylinder.proofs.whole.side_sizes.Goals as goal
 
 pub returns : goal.returns

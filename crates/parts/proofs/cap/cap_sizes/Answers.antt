@@ -1,6 +1,5 @@
 use mathlib.Core.Path.{refl}
 use Rattle.parts.specs.Cap.{cap_sizes}
-use borrow.Author.Rules.{rules}
 use Rattle.parts.proofs.cap.cap_sizes.Goals as goal
 
 pub returns : goal.returns

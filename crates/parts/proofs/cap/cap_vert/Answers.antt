@@ -1,5 +1,4 @@
 use Rattle.parts.specs.Cap.{cap_vert}
-use borrow.Author.Rules.{rules}
 use Rattle.parts.proofs.cap.cap_vert.Goals as goal
 
 pub returns : goal.returns

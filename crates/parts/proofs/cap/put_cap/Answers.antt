@@ -1,5 +1,4 @@
 use Rattle.parts.proofs.Capping.{centre_room, ring_room, cap_pushed}
-use borrow.Author.Rules.{rules}
 use Rattle.parts.proofs.cap.put_cap.Goals as goal
 
 pub put_vert-requires : goal.put_vert-requires

@@ -1,5 +1,4 @@
 use Rattle.parts.proofs.Capping.{cap_asked, cap_written, cap_absent}
-use borrow.Author.Rules.{rules}
 use Rattle.parts.proofs.cap.put_cap_at.Goals as goal
 
 pub put_cap-requires : goal.put_cap-requires

@@ -1,13 +1,6 @@
 use native.Mathlib.Omega.{arith}
-use mathlib.Core.Path.{◌≡◌, refl, ap, ◌∙◌}
-use mathlib.Core.List.{List, [], ◌∷◌}
-use Prim.Native.Nat.{ℕ, ◌+◌, ◌*◌, ◌-◌}
-use Rattle.lists.proofs.Pieces.{flat_ones}
-use Rattle.parts.specs.declared.vert.Vert.{Vert}
-use Rattle.parts.specs.Cap.{cap_vert}
-use Rattle.parts.specs.Pushed.{pushed}
-use Rattle.parts.proofs.Pushing.{Filling, ones_none, ones_more, ones_room, ones_all, room_less}
-use borrow.Author.Rules.{rules}
+use mathlib.Core.Path.{refl}
+use Rattle.parts.proofs.Pushing.{ones_none, ones_more, ones_room, ones_all}
 use Rattle.parts.proofs.cap.put_cap_ring.Goals as goal
 
 pub loop-i-init : goal.loop-i-init

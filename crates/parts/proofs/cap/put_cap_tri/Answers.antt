@@ -2,7 +2,6 @@ use native.Mathlib.Omega.{arith}
 use Prim.Native.Nat.{◌+◌}
 use native.Mathlib.Nat.{mod-lt}
 use Rattle.parts.proofs.Capping.{tri_top, tri_bottom}
-use borrow.Author.Rules.{rules}
 use Rattle.parts.proofs.cap.put_cap_tri.Goals as goal
 
 pub overflow_add-k-4 : goal.overflow_add-k-4

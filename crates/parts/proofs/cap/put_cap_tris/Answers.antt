@@ -1,11 +1,8 @@
 use native.Mathlib.Omega.{arith}
 use mathlib.Core.Path.{refl}
-use mathlib.Core.Bool.{true, false}
-use Prim.Native.Nat.{◌-◌}
-use Rattle.lists.proofs.Pieces.{Pieces, pieces_none, pieces_more, pieces_all}
-use Rattle.parts.specs.Cap.{cap_tri, cap_indices}
+use Rattle.lists.proofs.Pieces.{pieces_none, pieces_more, pieces_all}
+use Rattle.parts.specs.Cap.{cap_indices}
 use Rattle.parts.proofs.Capping.{tri_wide}
-use borrow.Author.Rules.{rules}
 use Rattle.parts.proofs.cap.put_cap_tris.Goals as goal
 
 pub loop-i-init : goal.loop-i-init

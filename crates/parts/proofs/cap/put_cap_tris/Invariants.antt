@@ -1,11 +1,6 @@
-use native.Mathlib.Omega.{arith}
-use mathlib.Core.Path.{refl}
-use mathlib.Core.Bool.{true, false}
 use Prim.Native.Nat.{◌-◌}
-use Rattle.lists.proofs.Pieces.{Pieces, pieces_none, pieces_more, pieces_all}
-use Rattle.parts.specs.Cap.{cap_tri, cap_indices}
-use Rattle.parts.proofs.Capping.{tri_wide}
-use borrow.Author.Rules.{rules}
+use Rattle.lists.proofs.Pieces.{Pieces}
+use Rattle.parts.specs.Cap.{cap_tri}
 use Rattle.parts.proofs.cap.put_cap_tris.Given as goal
 
 abbrev pub invariant-loop-i : goal.invariant-loop-i

@@ -1,7 +1,6 @@
 use mathlib.Core.Path.{sym}
 use lib.Ieee.{nan, div, of_bits}
 use lib.ListN.{get_or-eq_default}
-use borrow.Author.Rules.{rules}
 use Rattle.parts.proofs.ring.float_at.Goals as goal
 
 pub returns : goal.returns

@@ -1,5 +1,4 @@
 use Rattle.parts.specs.Ring.{ring_at}
-use borrow.Author.Rules.{rules}
 use Rattle.parts.proofs.ring.ring_at.Goals as goal
 
 pub returns : goal.returns

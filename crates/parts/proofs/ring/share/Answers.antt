@@ -1,5 +1,4 @@
 use Rattle.parts.specs.Ring.{share_of}
-use borrow.Author.Rules.{rules}
 use Rattle.parts.proofs.ring.share.Goals as goal
 
 pub returns : goal.returns

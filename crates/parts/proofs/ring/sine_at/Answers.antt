@@ -1,5 +1,4 @@
 use Rattle.parts.specs.Ring.{sine_at}
-use borrow.Author.Rules.{rules}
 use Rattle.parts.proofs.ring.sine_at.Goals as goal
 
 pub returns : goal.returns

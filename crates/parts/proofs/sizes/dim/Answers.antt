@@ -1,5 +1,4 @@
 use Rattle.parts.specs.Sizes.{dim_of}
-use borrow.Author.Rules.{rules}
 use Rattle.parts.proofs.sizes.dim.Goals as goal
 
 pub returns-then-v : goal.returns-then-v

@@ -1,6 +1,5 @@
 use borrow.Author.Tests.{lt-ltb, le-ltb}
 use Rattle.parts.specs.Sizes.{is_short_part}
-use borrow.Author.Rules.{rules}
 use Rattle.parts.proofs.sizes.is_short_part.Goals as goal
 
 pub returns-then-l-z : goal.returns-then-l-z

@@ -1,6 +1,4 @@
-use borrow.Author.Rules.{rules}
 use Rattle.parts.specs.Sizes.{is_short_texture}
-use borrow.Author.Rules.{rules}
 use Rattle.parts.proofs.sizes.is_short_texture.Goals as goal
 
 pub returns-then-c : goal.returns-then-c

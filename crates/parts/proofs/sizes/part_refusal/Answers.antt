@@ -1,6 +1,5 @@
 use borrow.Author.Tests.{lt-ltb, le-ltb}
 use Rattle.block.specs.Refusal.{first_of}
-use borrow.Author.Rules.{rules}
 use Rattle.parts.proofs.sizes.part_refusal.Goals as goal
 
 pub returns-then-l-z : goal.returns-then-l-z

@@ -1,5 +1,4 @@
 use Rattle.parts.specs.Part.{finite_ctx}
-use borrow.Author.Rules.{rules}
 use Rattle.parts.proofs.vert.finite_ctx.Goals as goal
 
 pub returns : goal.returns

@@ -1,6 +1,4 @@
-use native.Mathlib.Omega.{arith}
 use Rattle.parts.proofs.Pushing.{push_room, push_one, push_plain}
-use borrow.Author.Rules.{rules}
 use Rattle.parts.proofs.vert.put_vert.Goals as goal
 
 pub put_two-requires : goal.put_two-requires

@@ -1,5 +1,4 @@
 use Rattle.parts.specs.Part.{uv_of}
-use borrow.Author.Rules.{rules}
 use Rattle.parts.proofs.vert.uv_of.Goals as goal
 
 pub returns : goal.returns

@@ -6,7 +6,6 @@ use Rattle.paths.specs.declared.intersect.Ray.{Ray}
 use Rattle.paths.specs.declared.intersect.Triangle.{Triangle}
 use Rattle.paths.specs.declared.intersect.Crossing.{Crossing}
 use Rattle.paths.specs.Intersect.{crossing_of}
-use borrow.Author.Rules.{rules}
 use Rattle.paths.proofs.intersect.cross_triangle.Goals as goal
 
 -- the values, one after the other

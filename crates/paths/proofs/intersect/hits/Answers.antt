@@ -1,6 +1,5 @@
 use mathlib.Core.Path.{◌∙◌, ap}
 use Rattle.paths.specs.Intersect.{is_hit, hits}
-use borrow.Author.Rules.{rules}
 use Rattle.paths.proofs.intersect.hits.Goals as goal
 
 pub returns : goal.returns

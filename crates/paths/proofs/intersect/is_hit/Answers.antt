@@ -1,5 +1,4 @@
 use Rattle.paths.specs.Intersect.{is_hit}
-use borrow.Author.Rules.{rules}
 use Rattle.paths.proofs.intersect.is_hit.Goals as goal
 
 pub returns-then-c : goal.returns-then-c

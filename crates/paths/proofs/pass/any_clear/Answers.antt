@@ -1,7 +1,5 @@
-use Prim.Native.Nat.{◌-◌}
 use borrow.Author.Tests.{eq-eqb, ne_eqb}
-use Rattle.paths.proofs.Hitting.{Looking, looking_none, looking_more, looking_found, looking_all}
-use borrow.Author.Rules.{rules}
+use Rattle.paths.proofs.Hitting.{looking_none, looking_more, looking_found, looking_all}
 use Rattle.paths.proofs.pass.any_clear.Goals as goal
 
 pub loop-j-init : goal.loop-j-init

@@ -1,7 +1,5 @@
-use mathlib.Core.Path.{refl}
 use Prim.Native.Nat.{ℕ, ◌-◌}
-use Rattle.paths.proofs.Updates.{Changing, changing_none, changing_more, changing_all}
-use borrow.Author.Rules.{rules}
+use Rattle.paths.proofs.Updates.{Changing}
 use Rattle.paths.proofs.pass.clear.Given as goal
 
 abbrev pub invariant-loop-j : goal.invariant-loop-j

@@ -1,11 +1,9 @@
 use mathlib.Core.Path.{◌∙◌, ap}
-use Prim.Native.Nat.{◌-◌}
 use native.Mathlib.Omega.{arith}
 use Rattle.paths.specs.declared.intersect.Ray.{Ray}
 use Rattle.paths.specs.Intersect.{hits}
 use Rattle.paths.specs.Pass.{one_where}
-use Rattle.paths.proofs.Hitting.{Counting, counting_none, counting_more, counting_all, one_small}
-use borrow.Author.Rules.{rules}
+use Rattle.paths.proofs.Hitting.{counting_none, counting_more, counting_all, one_small}
 use Rattle.paths.proofs.pass.count_hits.Goals as goal
 
 pub loop-j-init : goal.loop-j-init

@@ -1,7 +1,4 @@
-use Prim.Native.Nat.{◌-◌}
-use Rattle.paths.specs.Pass.{step_at}
-use Rattle.paths.proofs.Updates.{Changing, changing_none, changing_more, changing_all}
-use borrow.Author.Rules.{rules}
+use Rattle.paths.proofs.Updates.{changing_none, changing_more, changing_all}
 use Rattle.paths.proofs.pass.mark.Goals as goal
 
 pub loop-j-init : goal.loop-j-init

@@ -1,7 +1,6 @@
 use Prim.Native.Nat.{◌-◌}
 use Rattle.paths.specs.Pass.{step_at}
-use Rattle.paths.proofs.Updates.{Changing, changing_none, changing_more, changing_all}
-use borrow.Author.Rules.{rules}
+use Rattle.paths.proofs.Updates.{Changing}
 use Rattle.paths.proofs.pass.mark.Given as goal
 
 abbrev pub invariant-loop-j : goal.invariant-loop-j

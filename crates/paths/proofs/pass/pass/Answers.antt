@@ -1,11 +1,9 @@
 use mathlib.Core.Path.{◌∙◌}
-use Prim.Native.Nat.{◌-◌}
 use lib.Dec.{eqb}
-use Rattle.paths.specs.Pass.{turn_of, hit_count}
-use Rattle.paths.proofs.Updates.{Running, running_none, running_more, running_all}
+use Rattle.paths.specs.Pass.{hit_count}
+use Rattle.paths.proofs.Updates.{running_none, running_more, running_all}
 use Rattle.paths.proofs.Passing.{turned}
 use Rattle.paths.proofs.Hitting.{turns_end}
-use borrow.Author.Rules.{rules}
 use Rattle.paths.proofs.pass.pass.Goals as goal
 
 pub loop-t-init : goal.loop-t-init

@@ -1,11 +1,6 @@
-use mathlib.Core.Path.{◌∙◌}
 use Prim.Native.Nat.{◌-◌}
-use lib.Dec.{eqb}
-use Rattle.paths.specs.Pass.{turn_of, hit_count}
-use Rattle.paths.proofs.Updates.{Running, running_none, running_more, running_all}
-use Rattle.paths.proofs.Passing.{turned}
-use Rattle.paths.proofs.Hitting.{turns_end}
-use borrow.Author.Rules.{rules}
+use Rattle.paths.specs.Pass.{turn_of}
+use Rattle.paths.proofs.Updates.{Running}
 use Rattle.paths.proofs.pass.pass.Given as goal
 
 abbrev pub invariant-loop-t : goal.invariant-loop-t

@@ -1,5 +1,4 @@
 use Rattle.paths.proofs.Hitting.{turn_missed, turn_hit}
-use borrow.Author.Rules.{rules}
 use Rattle.paths.proofs.pass.turn.Goals as goal
 
 pub returns-then-count_hits-eq0 : goal.returns-then-count_hits-eq0

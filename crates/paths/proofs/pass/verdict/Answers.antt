@@ -3,7 +3,6 @@ use mathlib.Core.Bool.{Bool}
 use Rattle.paths.specs.declared.intersect.Ray.{Ray}
 use Rattle.paths.specs.Intersect.{hits}
 use Rattle.paths.specs.Pass.{next_answer, step_at}
-use borrow.Author.Rules.{rules}
 use Rattle.paths.proofs.pass.verdict.Goals as goal
 
 pub returns : goal.returns

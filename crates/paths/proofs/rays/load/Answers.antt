@@ -1,6 +1,4 @@
-use Prim.Native.Nat.{◌-◌}
-use Rattle.paths.proofs.Loading.{Loading, loading_none, loading_more, loading_all}
-use borrow.Author.Rules.{rules}
+use Rattle.paths.proofs.Loading.{loading_none, loading_more, loading_all}
 use Rattle.paths.proofs.rays.load.Goals as goal
 
 pub loop-j-init : goal.loop-j-init

@@ -1,6 +1,5 @@
 use Prim.Native.Nat.{◌-◌}
-use Rattle.paths.proofs.Loading.{Loading, loading_none, loading_more, loading_all}
-use borrow.Author.Rules.{rules}
+use Rattle.paths.proofs.Loading.{Loading}
 use Rattle.paths.proofs.rays.load.Given as goal
 
 abbrev pub invariant-loop-j : goal.invariant-loop-j

@@ -1,7 +1,6 @@
 use Prim.Native.Nat.{◌+◌}
 use native.Mathlib.Omega.{arith}
 use lib.ListN.{set, length-set}
-use borrow.Author.Rules.{rules}
 use Rattle.paths.proofs.rays.put_spot.Goals as goal
 
 pub bounds-rays-k-2 : goal.bounds-rays-k-2

@@ -1,5 +1,4 @@
 use Rattle.paths.specs.Pass.{ray_at}
-use borrow.Author.Rules.{rules}
 use Rattle.paths.proofs.rays.ray_at.Goals as goal
 
 pub returns : goal.returns

@@ -1,6 +1,5 @@
 use mathlib.Core.Path.{refl}
 use Rattle.paths.specs.Pass.{spot_at}
-use borrow.Author.Rules.{rules}
 use Rattle.paths.proofs.rays.spot.Goals as goal
 
 pub returns : goal.returns

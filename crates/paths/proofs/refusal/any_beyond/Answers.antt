@@ -1,10 +1,6 @@
-use Prim.Native.Nat.{◌-◌}
 use native.Mathlib.Omega.{arith}
-use lib.Dec.{leb}
-use lib.ListN.{length}
 use borrow.Author.Tests.{le-leb, lt-leb}
-use Rattle.paths.proofs.Refusing.{Searching, searching_none, searching_more, searching_found, searching_all}
-use borrow.Author.Rules.{rules}
+use Rattle.paths.proofs.Refusing.{searching_none, searching_more, searching_found, searching_all}
 use Rattle.paths.proofs.refusal.any_beyond.Goals as goal
 
 pub loop-k-init : goal.loop-k-init

@@ -1,10 +1,7 @@
 use Prim.Native.Nat.{◌-◌}
-use native.Mathlib.Omega.{arith}
 use lib.Dec.{leb}
 use lib.ListN.{length}
-use borrow.Author.Tests.{le-leb, lt-leb}
-use Rattle.paths.proofs.Refusing.{Searching, searching_none, searching_more, searching_found, searching_all}
-use borrow.Author.Rules.{rules}
+use Rattle.paths.proofs.Refusing.{Searching}
 use Rattle.paths.proofs.refusal.any_beyond.Given as goal
 
 abbrev pub invariant-loop-k : goal.invariant-loop-k

@@ -1,6 +1,5 @@
 use borrow.Author.Tests.{eq-eqb, ne_eqb, lt-ltb, le-ltb}
 use Rattle.paths.specs.Paths.{is_refused}
-use borrow.Author.Rules.{rules}
 use Rattle.paths.proofs.refusal.is_refused.Goals as goal
 
 pub returns-then-paths-ne0 : goal.returns-then-paths-ne0

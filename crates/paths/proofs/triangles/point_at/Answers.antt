@@ -1,6 +1,5 @@
 use Rattle.mesh.specs.Words.{point_words}
 use Rattle.paths.specs.Paths.{point_in}
-use borrow.Author.Rules.{rules}
 use Rattle.paths.proofs.triangles.point_at.Goals as goal
 
 pub returns : goal.returns

@@ -3,7 +3,6 @@ use native.Mathlib.Omega.{arith}
 use lib.ListN.{length}
 use Rattle.paths.specs.Paths.{triangle_in}
 use Rattle.paths.proofs.Refusing.{inside_at}
-use borrow.Author.Rules.{rules}
 use Rattle.paths.proofs.triangles.triangle_at.Goals as goal
 
 pub position_of-vert0-requires : goal.position_of-vert0-requires

@@ -3,7 +3,6 @@ use native.Mathlib.Omega.{arith}
 use lib.ListN.{length}
 use Rattle.paths.proofs.Refusing.{accepted}
 use Rattle.paths.proofs.Passing.{tested_call, refused_call}
-use borrow.Author.Rules.{rules}
 use Rattle.paths.proofs.whole.test_paths.Goals as goal
 
 pub returns-then-is_refused : goal.returns-then-is_refused

@@ -1,12 +1,9 @@
 use mathlib.Core.Path.{refl, ap, ◌∙◌}
-use Prim.Native.Nat.{ℕ, ◌-◌}
 use native.Mathlib.Nat.{zero-add}
 use native.Mathlib.Omega.{arith}
-use lib.ListN.{get_or}
 use Rattle.lists.specs.Parts.{spliced}
-use Rattle.lists.proofs.Pieces.{Singles, singles_none, singles_more, singles_all}
+use Rattle.lists.proofs.Pieces.{singles_none, singles_more, singles_all}
 use Rattle.lists.proofs.Tabs.{tab_take}
-use borrow.Author.Rules.{rules}
 use Rattle.pointset.proofs.copies.copy_words.Goals as goal
 
 pub loop-i-init : goal.loop-i-init

@@ -11,7 +11,6 @@ use Rattle.lists.proofs.Tabs.{map_tab}
 use Rattle.mesh.specs.Words.{words4}
 use Rattle.pointset.specs.PointSet.{colour_at}
 use Rattle.pointset.proofs.Copied.{colours_copied}
-use borrow.Author.Rules.{rules}
 use Rattle.pointset.proofs.copies.put_colours.Goals as goal
 
 pub returns-else-made : goal.returns-else-made

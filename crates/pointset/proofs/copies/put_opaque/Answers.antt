@@ -1,6 +1,5 @@
 use native.Mathlib.Omega.{arith}
 use Rattle.mesh.specs.Words.{point_words}
-use borrow.Author.Rules.{rules}
 use Rattle.pointset.proofs.copies.put_opaque.Goals as goal
 
 pub bounds-listed-i : goal.bounds-listed-i

@@ -1,12 +1,7 @@
-use mathlib.Core.Path.{refl}
 use Prim.Native.Nat.{ℕ, ◌-◌}
-use native.Mathlib.Omega.{arith}
-use lib.ListN.{length}
-use Rattle.lists.proofs.Numbers.{piece_room}
-use Rattle.lists.proofs.Pieces.{Pieces, pieces_none, pieces_more, pieces_all}
+use Rattle.lists.proofs.Pieces.{Pieces}
 use Rattle.block.specs.Value.{opaque_of}
 use Rattle.mesh.specs.Words.{words4, point_words}
-use borrow.Author.Rules.{rules}
 use Rattle.pointset.proofs.copies.put_opaques.Given as goal
 
 abbrev pub invariant-loop-k : goal.invariant-loop-k

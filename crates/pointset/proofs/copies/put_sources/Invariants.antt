@@ -1,9 +1,5 @@
-use mathlib.Core.Path.{refl}
 use Prim.Native.Nat.{ℕ, ◌-◌}
-use native.Mathlib.Nat.{zero-add}
-use native.Mathlib.Omega.{arith}
-use Rattle.lists.proofs.Pieces.{Singles, singles_none, singles_more, singles_all}
-use borrow.Author.Rules.{rules}
+use Rattle.lists.proofs.Pieces.{Singles}
 use Rattle.pointset.proofs.copies.put_sources.Given as goal
 
 abbrev pub invariant-loop-k : goal.invariant-loop-k

@@ -1,5 +1,4 @@
 use Rattle.pointset.specs.PointSet.{makes_colours}
-use borrow.Author.Rules.{rules}
 use Rattle.pointset.proofs.refusals.makes_colours.Goals as goal
 
 pub returns-then-has_colors : goal.returns-then-has_colors

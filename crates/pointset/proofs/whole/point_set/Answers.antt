@@ -1,5 +1,4 @@
 use Rattle.pointset.proofs.Calls.{refused_call, roomy, made_call}
-use borrow.Author.Rules.{rules}
 use Rattle.pointset.proofs.whole.point_set.Goals as goal
 
 pub returns-else-is_taken : goal.returns-else-is_taken

@@ -1,9 +1,6 @@
 use native.Mathlib.Omega.{arith}
-use mathlib.Core.Path.{refl}
-use Prim.Native.Nat.{◌-◌}
-use Rattle.lists.proofs.Pieces.{Uneven, uneven_none, uneven_more, uneven_room, uneven_added}
+use Rattle.lists.proofs.Pieces.{uneven_none, uneven_more, uneven_room, uneven_added}
 use Rattle.sphere.specs.Sphere.{sphere_quad, sphere_band}
-use borrow.Author.Rules.{rules}
 use Rattle.sphere.proofs.bands.put_band.Goals as goal
 
 pub loop-i-init : goal.loop-i-init

@@ -1,9 +1,6 @@
-use native.Mathlib.Omega.{arith}
-use mathlib.Core.Path.{refl}
 use Prim.Native.Nat.{◌-◌}
-use Rattle.lists.proofs.Pieces.{Uneven, uneven_none, uneven_more, uneven_room, uneven_added}
-use Rattle.sphere.specs.Sphere.{sphere_quad, sphere_band}
-use borrow.Author.Rules.{rules}
+use Rattle.lists.proofs.Pieces.{Uneven}
+use Rattle.sphere.specs.Sphere.{sphere_quad}
 use Rattle.sphere.proofs.bands.put_band.Given as goal
 
 abbrev pub invariant-loop-i : goal.invariant-loop-i

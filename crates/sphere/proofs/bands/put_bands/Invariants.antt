@@ -1,8 +1,6 @@
-use native.Mathlib.Omega.{arith}
 use Prim.Native.Nat.{◌-◌}
-use Rattle.lists.proofs.Pieces.{Uneven, uneven_none, uneven_more, uneven_room, uneven_all}
+use Rattle.lists.proofs.Pieces.{Uneven}
 use Rattle.sphere.specs.Sphere.{sphere_band}
-use borrow.Author.Rules.{rules}
 use Rattle.sphere.proofs.bands.put_bands.Given as goal
 
 abbrev pub invariant-loop-j : goal.invariant-loop-j

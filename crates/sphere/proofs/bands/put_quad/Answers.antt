@@ -1,7 +1,4 @@
 use native.Mathlib.Omega.{arith}
-use Prim.Native.Nat.{◌+◌}
-use lib.ListN.{length-append}
-use Rattle.sphere.specs.Sphere.{sphere_quad}
 use Rattle.sphere.proofs.Adding.{row_low, quad_first, quad_second, quad_added}
 use borrow.Author.Rules.{rules}
 use Rattle.sphere.proofs.bands.put_quad.Goals as goal

@@ -1,5 +1,4 @@
 use Rattle.sphere.proofs.Adding.{wanted_room, wanted_added, unwanted_added}
-use borrow.Author.Rules.{rules}
 use Rattle.sphere.proofs.bands.put_where.Goals as goal
 
 pub put_three-requires : goal.put_three-requires

@@ -1,11 +1,8 @@
 use native.Mathlib.Omega.{arith}
 use mathlib.Core.Path.{refl}
-use mathlib.Core.List.{[], ◌∷◌}
-use Prim.Native.Nat.{ℕ, ◌+◌, ◌*◌, ◌-◌}
-use Rattle.sphere.specs.Sphere.{sphere_vert, sphere_row}
+use Rattle.sphere.specs.Sphere.{sphere_row}
 use Rattle.sphere.proofs.Adding.{row_low}
-use Rattle.parts.proofs.Pushing.{Filling, ones_none, ones_more, ones_room, ones_all}
-use borrow.Author.Rules.{rules}
+use Rattle.parts.proofs.Pushing.{ones_none, ones_more, ones_room, ones_all}
 use Rattle.sphere.proofs.rows.put_row.Goals as goal
 
 pub loop-i-init : goal.loop-i-init

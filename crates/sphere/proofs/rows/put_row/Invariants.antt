@@ -1,11 +1,7 @@
-use native.Mathlib.Omega.{arith}
-use mathlib.Core.Path.{refl}
 use mathlib.Core.List.{[], ◌∷◌}
 use Prim.Native.Nat.{ℕ, ◌+◌, ◌*◌, ◌-◌}
-use Rattle.sphere.specs.Sphere.{sphere_vert, sphere_row}
-use Rattle.sphere.proofs.Adding.{row_low}
-use Rattle.parts.proofs.Pushing.{Filling, ones_none, ones_more, ones_room, ones_all}
-use borrow.Author.Rules.{rules}
+use Rattle.sphere.specs.Sphere.{sphere_vert}
+use Rattle.parts.proofs.Pushing.{Filling}
 use Rattle.sphere.proofs.rows.put_row.Given as goal
 
 abbrev pub invariant-loop-i : goal.invariant-loop-i

@@ -1,12 +1,8 @@
 use native.Mathlib.Omega.{arith}
-use mathlib.Core.Path.{refl}
-use Prim.Native.Nat.{ℕ, ◌+◌, ◌*◌, ◌-◌}
-use lib.ListN.{length}
-use Rattle.sphere.specs.Sphere.{sphere_row}
+use Prim.Native.Nat.{◌+◌, ◌*◌}
 use Rattle.sphere.proofs.Sized.{row_length}
 use Rattle.sphere.proofs.Adding.{row_room, zero_plus}
-use Rattle.parts.proofs.Pushing.{Filling, filling_none, filling_more, filling_all, room_less}
-use borrow.Author.Rules.{rules}
+use Rattle.parts.proofs.Pushing.{filling_none, filling_more, filling_all}
 use Rattle.sphere.proofs.rows.put_rows.Goals as goal
 
 pub loop-j-init : goal.loop-j-init

@@ -1,12 +1,6 @@
-use native.Mathlib.Omega.{arith}
-use mathlib.Core.Path.{refl}
-use Prim.Native.Nat.{ℕ, ◌+◌, ◌*◌, ◌-◌}
-use lib.ListN.{length}
+use Prim.Native.Nat.{◌+◌, ◌-◌}
 use Rattle.sphere.specs.Sphere.{sphere_row}
-use Rattle.sphere.proofs.Sized.{row_length}
-use Rattle.sphere.proofs.Adding.{row_room, zero_plus}
-use Rattle.parts.proofs.Pushing.{Filling, filling_none, filling_more, filling_all, room_less}
-use borrow.Author.Rules.{rules}
+use Rattle.parts.proofs.Pushing.{Filling}
 use Rattle.sphere.proofs.rows.put_rows.Given as goal
 
 abbrev pub invariant-loop-j : goal.invariant-loop-j

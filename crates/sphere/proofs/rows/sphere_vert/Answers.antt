@@ -1,7 +1,6 @@
 use native.Mathlib.Omega.{arith}
 use Rattle.sphere.specs.Sphere.{sphere_vert}
 use Rattle.sphere.proofs.Adding.{row_low}
-use borrow.Author.Rules.{rules}
 use Rattle.sphere.proofs.rows.sphere_vert.Goals as goal
 
 pub overflow_mul-phi : goal.overflow_mul-phi

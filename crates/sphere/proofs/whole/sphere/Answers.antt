@@ -1,6 +1,5 @@
 use Rattle.sphere.proofs.Calling.{low, sized_call, room_call, written_call}
 use Rattle.parts.proofs.Parting.{call_refused, call_roomy, call_made}
-use borrow.Author.Rules.{rules}
 use Rattle.sphere.proofs.whole.sphere.Goals as goal
 
 pub sphere_sizes-z-requires : goal.sphere_sizes-z-requires

@@ -3,7 +3,6 @@ use native.Mathlib.Omega.{arith}
 use native.Mathlib.Nat.{mul-le-mul}
 use Rattle.sphere.proofs.Sized.{sphere_sized}
 use Rattle.sphere.proofs.Adding.{rows_low}
-use borrow.Author.Rules.{rules}
 use Rattle.sphere.proofs.whole.sphere_sizes.Goals as goal
 
 pub overflow_mul-result : goal.overflow_mul-result

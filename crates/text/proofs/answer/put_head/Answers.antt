@@ -1,6 +1,5 @@
 use Rattle.text.specs.Answer.{head_line}
 use Rattle.text.proofs.Pieces.{then}
-use borrow.Author.Rules.{rules}
 use Rattle.text.proofs.answer.put_head.Goals as goal
 
 pub returns : goal.returns

@@ -1,6 +1,5 @@
 use Rattle.text.specs.Answer.{long_text}
 use Rattle.text.proofs.Pieces.{then, printed}
-use borrow.Author.Rules.{rules}
 use Rattle.text.proofs.answer.put_long.Goals as goal
 
 pub returns : goal.returns

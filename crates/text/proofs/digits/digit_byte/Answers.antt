@@ -1,6 +1,5 @@
 use borrow.Author.Tests.{lt-ltb, le-ltb}
 use Rattle.text.specs.Digits.{digit_byte}
-use borrow.Author.Rules.{rules}
 use Rattle.text.proofs.digits.digit_byte.Goals as goal
 
 pub returns-then-d-lt10 : goal.returns-then-d-lt10

@@ -1,7 +1,6 @@
 use native.Mathlib.Omega.{arith}
 use Rattle.text.specs.Fields.{attribute}
 use Rattle.text.proofs.Pieces.{then, looser, nothing}
-use borrow.Author.Rules.{rules}
 use Rattle.text.proofs.fields.put_attribute.Goals as goal
 
 pub returns-then-made : goal.returns-then-made

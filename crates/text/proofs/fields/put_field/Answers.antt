@@ -2,7 +2,6 @@ use native.Mathlib.Omega.{arith}
 use Rattle.text.specs.Digits.{hexadecimal, decimal}
 use Rattle.text.specs.Fields.{word_field, number_field}
 use Rattle.text.proofs.Pieces.{then, looser}
-use borrow.Author.Rules.{rules}
 use Rattle.text.proofs.fields.put_field.Goals as goal
 
 pub returns-then-word : goal.returns-then-word

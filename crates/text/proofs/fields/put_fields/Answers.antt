@@ -1,8 +1,5 @@
-use Prim.Native.Nat.{◌+◌, ◌-◌}
-use lib.ListN.{get_or}
-use Rattle.text.specs.Fields.{field_of, fields}
-use Rattle.text.proofs.Pieces.{Going, going_start, going_step, going_end}
-use borrow.Author.Rules.{rules}
+use Rattle.text.specs.Fields.{fields}
+use Rattle.text.proofs.Pieces.{going_start, going_step, going_end}
 use Rattle.text.proofs.fields.put_fields.Goals as goal
 
 pub loop-i-init : goal.loop-i-init

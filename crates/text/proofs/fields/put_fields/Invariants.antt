@@ -1,8 +1,7 @@
 use Prim.Native.Nat.{◌+◌, ◌-◌}
 use lib.ListN.{get_or}
-use Rattle.text.specs.Fields.{field_of, fields}
-use Rattle.text.proofs.Pieces.{Going, going_start, going_step, going_end}
-use borrow.Author.Rules.{rules}
+use Rattle.text.specs.Fields.{field_of}
+use Rattle.text.proofs.Pieces.{Going}
 use Rattle.text.proofs.fields.put_fields.Given as goal
 
 abbrev pub invariant-loop-i : goal.invariant-loop-i

@@ -2,7 +2,6 @@ use native.Mathlib.Omega.{arith}
 use native.Mathlib.Nat.{mul-le-mul_right}
 use Rattle.text.specs.Lines.{element_line}
 use Rattle.text.proofs.Pieces.{then, looser}
-use borrow.Author.Rules.{rules}
 use Rattle.text.proofs.lines.put_element.Goals as goal
 
 pub overflow_mul-m : goal.overflow_mul-m

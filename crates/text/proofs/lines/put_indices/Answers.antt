@@ -1,7 +1,6 @@
 use native.Mathlib.Omega.{arith}
 use Rattle.text.specs.Lines.{element_lines}
 use Rattle.text.proofs.Pieces.{looser}
-use borrow.Author.Rules.{rules}
 use Rattle.text.proofs.lines.put_indices.Goals as goal
 
 pub returns-then-lines : goal.returns-then-lines

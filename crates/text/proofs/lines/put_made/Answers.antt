@@ -1,6 +1,5 @@
 use Rattle.text.specs.Lines.{made_text}
 use Rattle.text.proofs.Pieces.{then}
-use borrow.Author.Rules.{rules}
 use Rattle.text.proofs.lines.put_made.Goals as goal
 
 pub returns : goal.returns

@@ -1,7 +1,4 @@
-use Prim.Native.Nat.{◌-◌}
-use Rattle.text.specs.Lines.{vertex_line}
-use Rattle.text.proofs.Pieces.{Going, going_start, going_step, going_end}
-use borrow.Author.Rules.{rules}
+use Rattle.text.proofs.Pieces.{going_start, going_step, going_end}
 use Rattle.text.proofs.lines.put_vertices.Goals as goal
 
 pub loop-i-init : goal.loop-i-init

@@ -1,7 +1,6 @@
 use Prim.Native.Nat.{◌-◌}
 use Rattle.text.specs.Lines.{vertex_line}
-use Rattle.text.proofs.Pieces.{Going, going_start, going_step, going_end}
-use borrow.Author.Rules.{rules}
+use Rattle.text.proofs.Pieces.{Going}
 use Rattle.text.proofs.lines.put_vertices.Given as goal
 
 abbrev pub invariant-loop-i : goal.invariant-loop-i
