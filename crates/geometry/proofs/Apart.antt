@@ -1,7 +1,7 @@
 -- FORMAT 13: of two calls on blocks that are equal but inside one run, whatever their slices held before, the elements that each made show the same triangles in
 -- every other run.
-use mathlib.Core.Path.{◌≡◌, refl, sym, ap, ◌∙◌, subst}
-use mathlib.Core.Bool.{Bool, true, false, not, cond}
+use mathlib.Core.Path.{◌≡◌, sym, ap, ◌∙◌, subst}
+use mathlib.Core.Bool.{not, cond}
 use mathlib.Core.List.{List, [], map, map-map}
 use Prim.Native.Nat.{ℕ, ◌*◌}
 use lib.ListN.{get_or, take, drop}

@@ -1,10 +1,9 @@
 -- Ten worked cases, one from each part of a conversion, by computation under one theorem. Each row speaks of its crate's definition.
 use mathlib.Core.Path.{◌≡◌}
-use mathlib.Core.Bool.{true, false}
-use mathlib.Core.List.{List, [], ◌∷◌, map}
+use mathlib.Core.Bool.{false}
+use mathlib.Core.List.{[], ◌∷◌, map}
 use lib.IntN.{pos, neg_ℤ}
 use lib.Ieee.{Float, nan, fin}
-use Rattle.bits.specs.declared.Words2.{Words2}
 use Rattle.math.specs.Vector.{v3}
 use Rattle.math.proofs.Rows.{root_word, roots}
 use Rattle.block.specs.Runs.{run_of}

@@ -3,7 +3,6 @@ use mathlib.Core.Path.{refl, sym, ◌∙◌}
 use mathlib.Core.Bool.{true≢false}
 use Rattle.extrusion.proofs.Textures.{arcs_held}
 use Rattle.lists.proofs.Splices.{put_behind}
-use borrow.Author.Rules.{rules}
 use Rattle.extrusionshape.proofs.filling.arcs_where.Goals as goal
 
 pub returns-then-h : goal.returns-then-h

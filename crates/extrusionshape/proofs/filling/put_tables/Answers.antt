@@ -3,7 +3,6 @@ use native.Mathlib.Omega.{arith}
 use Rattle.tables.proofs.Listings.{listed_sound}
 use Rattle.shaping.proofs.Tabling.{prepared_front, tabled}
 use Rattle.extrusionshape.proofs.Tabling.{points_there}
-use borrow.Author.Rules.{rules}
 use Rattle.extrusionshape.proofs.filling.put_tables.Goals as goal
 
 pub put_points-requires : goal.put_points-requires

@@ -4,7 +4,6 @@ use Rattle.tables.specs.Soups.{point_in, owner_in}
 use Rattle.shaping.proofs.Tabling.{textures_none, textures_put}
 use Rattle.extrusion.specs.Corners.{extrusion_texture}
 use Rattle.extrusionshape.proofs.Tabling.{texture_none, measured}
-use borrow.Author.Rules.{rules}
 use Rattle.extrusionshape.proofs.filling.texture_where.Goals as goal
 
 pub cap_fit-fit-requires : goal.cap_fit-fit-requires

@@ -1,7 +1,6 @@
 use mathlib.Core.Path.{refl, ◌∙◌}
 use native.Mathlib.Omega.{arith}
 use Rattle.extrusionshape.proofs.Bounds.{counts_low, plan_by}
-use borrow.Author.Rules.{rules}
 use Rattle.extrusionshape.proofs.planning.plan_extrusion.Goals as goal
 
 pub overflow_mul-sides : goal.overflow_mul-sides

@@ -7,7 +7,6 @@ use Rattle.shaping.proofs.Theorem.{ready, shaped}
 use Rattle.extrusionshape.proofs.Bounds.{sizes_are, given, sized, counted, roomy, planned_at, arcs_room, rows_room}
 use Rattle.extrusionshape.proofs.Tabling.{textures_asked}
 use Rattle.extrusionshape.proofs.Shapes.{shape, mesh_is}
-use borrow.Author.Rules.{rules}
 use Rattle.extrusionshape.proofs.whole.make_extrusion.Goals as goal
 
 pub cap_length-cap-requires : goal.cap_length-cap-requires

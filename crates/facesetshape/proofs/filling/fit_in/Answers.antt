@@ -3,7 +3,6 @@ use Prim.Native.Nat.{◌+◌, ◌*◌, ◌-◌}
 use native.Mathlib.Omega.{arith}
 use Rattle.lists.specs.Parts.{seg}
 use Rattle.tables.specs.Soups.{points_in}
-use borrow.Author.Rules.{rules}
 use Rattle.facesetshape.proofs.filling.fit_in.Goals as goal
 
 pub returns : goal.returns

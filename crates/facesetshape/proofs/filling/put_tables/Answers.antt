@@ -1,7 +1,6 @@
 use Rattle.tables.proofs.Listings.{listed_sound}
 use Rattle.shaping.proofs.Tabling.{tabled}
 use Rattle.facesetshape.proofs.Tabling.{points_asked, points_copied}
-use borrow.Author.Rules.{rules}
 use Rattle.facesetshape.proofs.filling.put_tables.Goals as goal
 
 pub put_points-requires : goal.put_points-requires

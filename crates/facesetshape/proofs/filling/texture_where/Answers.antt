@@ -1,7 +1,6 @@
 use native.Mathlib.Omega.{arith}
 use Rattle.shaping.proofs.Tabling.{textures_none, textures_put}
 use Rattle.facesetshape.proofs.Tabling.{fitted_by, texture_put}
-use borrow.Author.Rules.{rules}
 use Rattle.facesetshape.proofs.filling.texture_where.Goals as goal
 
 pub returns-then-widths-eq0 : goal.returns-then-widths-eq0

@@ -7,7 +7,6 @@ use Rattle.shaping.proofs.Theorem.{ready, shaped}
 use Rattle.facesetshape.proofs.Bounds.{sized, plan_asked, plan_by, counted, roomy, planned}
 use Rattle.facesetshape.proofs.Tabling.{textures_asked}
 use Rattle.facesetshape.proofs.Shapes.{shape, mesh_is}
-use borrow.Author.Rules.{rules}
 use Rattle.facesetshape.proofs.whole.make_face_set.Goals as goal
 
 pub plan_of-t-requires : goal.plan_of-t-requires

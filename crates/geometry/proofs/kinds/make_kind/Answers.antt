@@ -1,5 +1,4 @@
 use Rattle.geometry.proofs.ByKind.{asked_at, asked_lines, shaped_at}
-use borrow.Author.Rules.{rules}
 use Rattle.geometry.proofs.kinds.make_kind.Goals as goal
 
 pub make_face_set-requires : goal.make_face_set-requires

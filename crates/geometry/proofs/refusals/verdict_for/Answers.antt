@@ -1,9 +1,8 @@
-use mathlib.Core.Path.{refl, sym, ◌∙◌}
+use mathlib.Core.Path.{refl, sym}
 use mathlib.Core.Bool.{true, false}
 use native.Mathlib.Omega.{arith}
 use Rattle.sizes.proofs.Decided.{refuse, pass, refused_is, passed_is}
 use Rattle.geometry.proofs.Refusing.{rows_at, first_seven, few, row_eight}
-use borrow.Author.Rules.{rules}
 use Rattle.geometry.proofs.refusals.verdict_for.Goals as goal
 
 pub returns-in-Refused : goal.returns-in-Refused

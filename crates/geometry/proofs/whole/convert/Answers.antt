@@ -1,8 +1,6 @@
-use mathlib.Core.Path.{sym, ◌∙◌}
 use Rattle.sizes.proofs.Decided.{refused_is, passed_is}
 use Rattle.geometry.specs.Converted.{lengths_of}
 use Rattle.geometry.proofs.Calls.{refused_call}
-use borrow.Author.Rules.{rules}
 use Rattle.geometry.proofs.whole.convert.Goals as goal
 
 pub verdict_for-verdict-requires : goal.verdict_for-verdict-requires

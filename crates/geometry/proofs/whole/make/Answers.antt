@@ -1,7 +1,6 @@
 use mathlib.Core.Path.{refl}
 use Rattle.geometry.proofs.Refusing.{asked_by}
 use Rattle.geometry.proofs.Calls.{made_call}
-use borrow.Author.Rules.{rules}
 use Rattle.geometry.proofs.whole.make.Goals as goal
 
 pub make_kind-n-requires : goal.make_kind-n-requires

@@ -1,7 +1,6 @@
 use mathlib.Core.Path.{◌∙◌}
 use native.Mathlib.Omega.{arith}
 use Rattle.gridshape.proofs.Bounds.{plan_low_by, plan_by}
-use borrow.Author.Rules.{rules}
 use Rattle.gridshape.proofs.filling.plan_grid.Goals as goal
 
 pub overflow_mul-quads : goal.overflow_mul-quads

@@ -2,7 +2,6 @@ use native.Mathlib.Omega.{arith}
 use Rattle.tables.proofs.Listings.{listed_sound}
 use Rattle.shaping.proofs.Tabling.{tabled}
 use Rattle.gridshape.proofs.Bounds.{points_there}
-use borrow.Author.Rules.{rules}
 use Rattle.gridshape.proofs.filling.put_tables.Goals as goal
 
 pub put_points-requires : goal.put_points-requires

@@ -2,7 +2,6 @@ use mathlib.Core.Path.{refl}
 use native.Mathlib.Omega.{arith}
 use Rattle.tables.specs.Soups.{point_in}
 use Rattle.shaping.proofs.Tabling.{textures_none, textures_put}
-use borrow.Author.Rules.{rules}
 use Rattle.gridshape.proofs.filling.texture_where.Goals as goal
 
 pub returns-then-widths-eq0 : goal.returns-then-widths-eq0

@@ -5,7 +5,6 @@ use Rattle.shaping.proofs.Theorem.{ready, shaped}
 use Rattle.grid.proofs.Sized.{placed}
 use Rattle.gridshape.proofs.Bounds.{sizes_are, sides, corners_low, heights, counted, roomy, planned}
 use Rattle.gridshape.proofs.Shapes.{shape, mesh_is}
-use borrow.Author.Rules.{rules}
 use Rattle.gridshape.proofs.whole.make_grid.Goals as goal
 
 pub plan_grid-t-requires : goal.plan_grid-t-requires

@@ -1,7 +1,6 @@
 use mathlib.Core.Path.{◌∙◌}
 use native.Mathlib.Omega.{arith}
 use Rattle.lineshape.proofs.Tabling.{tables_by}
-use borrow.Author.Rules.{rules}
 use Rattle.lineshape.proofs.filling.line_tables.Goals as goal
 
 pub overflow_add-named : goal.overflow_add-named

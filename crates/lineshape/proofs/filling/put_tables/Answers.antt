@@ -1,7 +1,6 @@
 use mathlib.Core.Path.{sym}
 use native.Mathlib.Omega.{arith}
 use Rattle.lineshape.proofs.Tabling.{stand, points_before, tabled}
-use borrow.Author.Rules.{rules}
 use Rattle.bits.proofs.Entries.{entries_length}
 use Rattle.lineshape.proofs.filling.put_tables.Goals as goal
 

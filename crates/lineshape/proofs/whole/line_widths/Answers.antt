@@ -1,6 +1,5 @@
 use Rattle.soups.specs.Attributes.{face_widths}
 use Rattle.lineshape.specs.Shape.{line_widths}
-use borrow.Author.Rules.{rules}
 use Rattle.lineshape.proofs.whole.line_widths.Goals as goal
 
 pub returns : goal.returns

@@ -1,6 +1,5 @@
 use Rattle.lineshape.proofs.Bounds.{points_low, points_there, count_low, tables_are, laid_at, entries_short}
 use Rattle.lineshape.proofs.Readying.{ready, shaped}
-use borrow.Author.Rules.{rules}
 use Rattle.lineshape.proofs.whole.make_line_set.Goals as goal
 
 pub line_tables-t-requires : goal.line_tables-t-requires

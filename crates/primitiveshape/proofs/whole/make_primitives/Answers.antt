@@ -8,7 +8,6 @@ use Rattle.facesetshape.proofs.Bounds.{plan_asked, plan_by, counted, roomy}
 use Rattle.facesetshape.proofs.Tabling.{textures_asked}
 use Rattle.primitiveshape.proofs.Bounds.{sized, points_low, planned}
 use Rattle.primitiveshape.proofs.Shapes.{shape, mesh_is}
-use borrow.Author.Rules.{rules}
 use Rattle.primitiveshape.proofs.whole.make_primitives.Goals as goal
 
 pub plan_of-t-requires : goal.plan_of-t-requires

@@ -1,5 +1,4 @@
 use Rattle.shaping.specs.Shared.{listed_shared}
-use borrow.Author.Rules.{rules}
 use Rattle.shaping.proofs.shared.listed_shared.Goals as goal
 
 pub returns : goal.returns

@@ -1,7 +1,6 @@
 use mathlib.Core.Bool.{false}
 use Rattle.mesh.specs.Words.{no4}
 use Rattle.shaping.specs.Shared.{plain_attributes}
-use borrow.Author.Rules.{rules}
 use Rattle.shaping.proofs.shared.plain_attributes.Goals as goal
 
 pub returns : goal.returns

@@ -1,5 +1,4 @@
 use Rattle.shaping.specs.Shared.{plain_widths, plain_shared}
-use borrow.Author.Rules.{rules}
 use Rattle.shaping.proofs.shared.plain_shared.Goals as goal
 
 pub returns : goal.returns

@@ -1,5 +1,4 @@
 use Rattle.sizes.proofs.Bits.{flagged_by}
-use borrow.Author.Rules.{rules}
 use Rattle.sizes.proofs.flags.flags_of.Goals as goal
 
 pub returns : goal.returns

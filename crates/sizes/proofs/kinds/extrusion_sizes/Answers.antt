@@ -2,7 +2,6 @@ use native.Mathlib.Omega.{arith}
 use native.Mathlib.Nat.{lt_of_le_of_lt, mul-le-mul}
 use lib.Dec.{lit<}
 use Rattle.sizes.proofs.ByKind.{cap_few, extrusion_are}
-use borrow.Author.Rules.{rules}
 use Rattle.sizes.proofs.kinds.extrusion_sizes.Goals as goal
 
 pub cap_length-k-requires : goal.cap_length-k-requires

@@ -6,7 +6,6 @@ use Rattle.bits.proofs.Entries.{entries_length}
 use Rattle.sizes.proofs.Within.{triangles_within}
 use Rattle.sizes.proofs.ByKind.{face_set_are}
 use Rattle.block.specs.declared.runs.Totals.{Totals}
-use borrow.Author.Rules.{rules}
 use Rattle.sizes.proofs.kinds.face_set_sizes.Goals as goal
 
 pub overflow_mul-result : goal.overflow_mul-result

@@ -1,7 +1,6 @@
 use native.Mathlib.Omega.{arith}
 use mathlib.Core.List.{[]}
 use Rattle.sizes.proofs.ByKind.{grid_are}
-use borrow.Author.Rules.{rules}
 use Rattle.sizes.proofs.kinds.grid_sizes.Goals as goal
 
 pub overflow_mul-result : goal.overflow_mul-result

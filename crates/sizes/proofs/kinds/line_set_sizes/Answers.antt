@@ -4,7 +4,6 @@ use Rattle.bits.specs.Bits.{entries}
 use Rattle.bits.proofs.Entries.{entries_length}
 use Rattle.sizes.proofs.Within.{lines_within}
 use Rattle.sizes.proofs.ByKind.{line_set_are}
-use borrow.Author.Rules.{rules}
 use Rattle.sizes.proofs.kinds.line_set_sizes.Goals as goal
 
 pub overflow_mul-result : goal.overflow_mul-result

@@ -1,6 +1,5 @@
 use native.Mathlib.Omega.{arith}
 use Rattle.sizes.proofs.Within.{quads_few}
-use borrow.Author.Rules.{rules}
 use Rattle.sizes.proofs.kinds.net_of.Goals as goal
 
 pub overflow_sub-n : goal.overflow_sub-n

@@ -6,7 +6,6 @@ use Rattle.bits.proofs.Entries.{entries_length}
 use Rattle.sizes.proofs.Within.{primitives_within}
 use Rattle.sizes.proofs.ByKind.{primitives_are}
 use Rattle.block.specs.declared.runs.Totals.{Totals}
-use borrow.Author.Rules.{rules}
 use Rattle.sizes.proofs.kinds.primitive_sizes.Goals as goal
 
 pub primitive_totals-t-requires : goal.primitive_totals-t-requires

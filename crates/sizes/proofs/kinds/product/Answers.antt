@@ -1,6 +1,5 @@
 use Prim.Native.Nat.{◌*◌}
 use Rattle.lists.proofs.Numbers.{product_fits}
-use borrow.Author.Rules.{rules}
 use Rattle.sizes.proofs.kinds.product.Goals as goal
 
 pub overflow_mul-result : goal.overflow_mul-result

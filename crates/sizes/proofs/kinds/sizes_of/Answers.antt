@@ -1,5 +1,4 @@
 use Rattle.sizes.proofs.ByKind.{of_kind, count_few, grid_sides, extrusion_given}
-use borrow.Author.Rules.{rules}
 use Rattle.sizes.proofs.kinds.sizes_of.Goals as goal
 
 pub returns-in-FaceSet : goal.returns-in-FaceSet

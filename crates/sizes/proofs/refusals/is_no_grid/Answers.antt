@@ -1,5 +1,4 @@
 use borrow.Author.Tests.{lt-ltb, le-ltb}
-use borrow.Author.Rules.{rules}
 use Rattle.sizes.proofs.refusals.is_no_grid.Goals as goal
 
 pub returns-then-n-lt2 : goal.returns-then-n-lt2

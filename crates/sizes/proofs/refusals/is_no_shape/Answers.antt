@@ -1,5 +1,4 @@
 use Rattle.mesh.specs.Sizes.{is_no_shape}
-use borrow.Author.Rules.{rules}
 use Rattle.sizes.proofs.refusals.is_no_shape.Goals as goal
 
 pub returns-in-FaceSet : goal.returns-in-FaceSet

@@ -1,7 +1,6 @@
 use mathlib.Core.Path.{sym, ◌∙◌}
 use native.Mathlib.Omega.{arith}
 use Rattle.sizes.proofs.Decided.{row_shape, row_points, row_corners, row_none, refuse, pass}
-use borrow.Author.Rules.{rules}
 use Rattle.sizes.proofs.refusals.shape_verdict.Goals as goal
 
 pub returns-then-is_no_shape : goal.returns-then-is_no_shape

@@ -1,7 +1,6 @@
 use mathlib.Core.Path.{refl, sym, ◌∙◌}
 use borrow.Author.Tests.{eqb-true, eqb-false}
 use Rattle.sizes.proofs.Decided.{block_rows_lem, taken_by, shape_rows_lem, refuse, judged_at}
-use borrow.Author.Rules.{rules}
 use Rattle.sizes.proofs.refusals.verdict_to_7.Goals as goal
 
 pub shape_verdict-requires : goal.shape_verdict-requires
