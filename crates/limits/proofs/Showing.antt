@@ -1,6 +1,6 @@
 -- What a call with full slices shows, by its answer.
 use Prim.Native.Nat.{ℕ}
-use mathlib.Core.Path.{◌≡◌, refl, sym, ap, ◌∙◌}
+use mathlib.Core.Path.{◌≡◌, sym, ap, ◌∙◌}
 use mathlib.Core.List.{List}
 use lib.ListN.{get_or}
 use Rattle.block.specs.declared.refusal.Refusal.{Refusal}
@@ -11,7 +11,6 @@ use Rattle.lent.specs.declared.answer.Answer.TheVariants.{Refused, Made}
 use Rattle.lent.specs.declared.answer.Report.{Report}
 use Rattle.lent.specs.Answer.{saying}
 use Rattle.geometry.specs.Converted.{Lending, Converted}
-use Rattle.limits.specs.declared.full.Seen.{Seen}
 use Rattle.limits.specs.Shown.{passed, full, number_in, indices_in, left, Shows}
 
 module _ {bs : List ℕ} {m : Lending} {r : Answer} (C : Converted passed bs full m r) where
