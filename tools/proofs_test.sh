@@ -1,32 +1,36 @@
 #!/usr/bin/env bash
-# Tests of proofs.py, on a made-up file and on a copy of the crate bits whose proofs are by hand, those of tools/cases/bits. The last line
-# is the tally, 'N passed, M failed'; the exit status is 0 only where nothing failed.
+# Tests of proofs.py, on a made-up file and on copies of the crates math and bits, in which the proofs of tools/cases/math and of
+# tools/cases/bits, by hand, are those of their functions. The last line is the tally, 'N passed, M failed'; the exit status is 0 only
+# where nothing failed.
 set -u
 cd "$(dirname "$0")/.." || exit 1
 tool=$PWD/tools/proofs.py
+tried=(math bits)
 work=$(mktemp -d)
 trap 'rm -rf "$work"' EXIT
 export PYTHONDONTWRITEBYTECODE=1
 source tests/tally.sh
 
-# The copy, with what the crate stands on, and a repository of one made-up file, which the copy has too.
+# The copy, with what the crates stand on, and a repository of one made-up file, which the copy has too.
 mkdir -p "$work/copy/crates" "$work/made/crates/made/"{src,proofs/paths}
-for crate in lists bits; do
+for crate in lists "${tried[@]}"; do
     mkdir "$work/copy/crates/$crate"
     cp -r crates/$crate/{src,specs,proofs} "$work/copy/crates/$crate"
 done
-for proof in tools/cases/bits/*.proof; do
-    at=$work/copy/crates/bits/proofs/$(basename "$proof" .proof)
-    rm -r "$at"
-    mkdir "$at"
-    cp "$proof" "$at/Proof.antt"
+for crate in "${tried[@]}"; do
+    for proof in tools/cases/"$crate"/*.proof; do
+        at=$(find "$work/copy/crates/$crate/proofs" -type d -name "$(basename "$proof" .proof)")
+        rm -r "$at"
+        mkdir "$at"
+        cp "$proof" "$at/Proof.antt"
+    done
 done
 printf 'made:\n' > "$work/made/crates.txt"
 printf '#![tactic(auto)]\n' > "$work/made/crates/made/src/lib.rt"
 made=$work/made/crates/made/proofs/paths/Proof.antt
 cp tools/cases/paths.proof "$made"
 cp -r "$work/made/crates/made" "$work/copy/crates"
-printf 'lists:\nbits: lists\nmade:\n' > "$work/copy/crates.txt"
+printf 'lists:\nmath: lists\nbits: lists\nmade:\n' > "$work/copy/crates.txt"
 
 proofs() { # repository, then the words
     (cd "$work/$1" && shift && python3 "$tool" "$@" > "$work/said" 2>&1)
@@ -51,18 +55,18 @@ refused() { # repository, text, then the words
 }
 
 # A crate folded has marks and no path; expanded it is what it was, and folded again what it was folded.
-round() { # more words for the first expansion
-    proofs copy expand bits "$@" "${goals[@]}"
+round() { # crate, and more words for the first expansion
+    proofs copy expand "$@" "${goals[@]}"
     hold copy "$work/expanded"
-    proofs copy fold bits "${goals[@]}"
-    find "$work/copy/crates/bits/proofs" -name Proof.antt -exec cat {} + > "$work/text"
+    proofs copy fold "$1" "${goals[@]}"
+    find "$work/copy/crates/$1/proofs" -name Proof.antt -exec cat {} + > "$work/text"
     [ "$(grep -c '@' "$work/text")" -gt 5 ] && ! grep -E '\.before|let c[0-9]' "$work/text"
-    tally "bits $* folded" $?
+    tally "$* folded" $?
     hold copy "$work/folded"
-    proofs copy expand bits "${goals[@]}" && diff -r --exclude=out "$work/expanded" "$work/copy/crates"
-    tally "bits $* expanded is what it was" $?
-    proofs copy fold bits "${goals[@]}" && diff -r --exclude=out "$work/folded" "$work/copy/crates"
-    tally "bits $* folded again" $?
+    proofs copy expand "$1" "${goals[@]}" && diff -r --exclude=out "$work/expanded" "$work/copy/crates"
+    tally "$* expanded is what it was" $?
+    proofs copy fold "$1" "${goals[@]}" && diff -r --exclude=out "$work/folded" "$work/copy/crates"
+    tally "$* folded again" $?
     rm -r "$work/expanded" "$work/folded"
 }
 
@@ -75,13 +79,15 @@ diff tools/cases/paths.named.proof "$made" > "$work/bolder"
 [ "$(grep -c '^> ' "$work/bolder")" -eq 3 ] && grep -q '^> scope c =$' "$work/bolder"
 tally 'where omega reads the names, if it is asked for' $?
 
-goals=(--generated "$work/goals")
-(cd "$work/copy/crates/bits" && rt check "${goals[@]}" > "$work/said" 2>&1)
-proofs copy expand bits && [ ! -s "$work/said" ]
-tally 'the proofs of bits are expanded' $?
-round
-round --bold
-proofs copy expand bits "${goals[@]}"
+proofs copy expand math && [ ! -s "$work/said" ] && proofs copy expand bits && [ ! -s "$work/said" ]
+tally 'the proofs of math and bits are expanded' $?
+for crate in "${tried[@]}"; do
+    goals=(--generated "$work/goals-$crate")
+    (cd "$work/copy/crates/$crate" && rt check "${goals[@]}" > "$work/said" 2>&1)
+    round "$crate"
+    round "$crate" --bold
+    proofs copy expand "$crate" "${goals[@]}"
+done
 
 part=$work/copy/crates/bits/proofs/part/Proof.antt
 proofs copy settle bits && grep -q '^    (λ overflow_sub-size\. search rules)$' "$part" && ! grep -q '^overflow_sub-size c' "$part" && grep -q '^returns c' "$part"
