@@ -5,14 +5,14 @@ use lib.Ieee.{Float, binary32, add, mul, of_bits, to_bits}
 use lib.Ieee.Bits.{of_bits-to_bits}
 use lib.Ieee.Fits.{add-fits}
 use Rattle.math.specs.declared.vector.V3.{V3}
-use Rattle.math.specs.declared.vector.Unit.{Unit}
+use Rattle.std.specs.Prelude.{Option}
 use Rattle.math.specs.SquareRoot.{root_of}
 use Rattle.math.specs.Vector.{vdot, vlen, unit_by, unit_of}
 
 pub known_at : (w n : ℕ) {l : Float} → l ≡ root_of (of_bits binary32 n) → w ≡ n → l ≡ root_of (of_bits binary32 w)
 known_at w n e q = e ∙ ap (λ (k : ℕ). root_of (of_bits binary32 k)) (sym q)
 
-pub unit_known : (v : V3) (w : ℕ) (l : Float) (u : Unit) → w ≡ to_bits binary32 (vdot v v) → l ≡ root_of (of_bits binary32 w) → u ≡ unit_by l v → u ≡ unit_of v
+pub unit_known : (v : V3) (w : ℕ) (l : Float) (u : (Option V3)) → w ≡ to_bits binary32 (vdot v v) → l ≡ root_of (of_bits binary32 w) → u ≡ unit_by l v → u ≡ unit_of v
 unfolding unit_of vlen
 unit_known v w l u e r h =
     let fit = add-fits binary32 (add binary32 (mul binary32 v.x v.x) (mul binary32 v.y v.y)) (mul binary32 v.z v.z) in

@@ -8,7 +8,7 @@ ghost use Rattle.math.specs.Vector.{vdot, unit_of};
 ghost use Rattle.cone.specs.Roots.{Roots};
 
 use math::square_root::roots;
-use math::{Unit, V3};
+use math::V3;
 
 // The bits of the first of the four, and their roots.
 #[derive(Clone, Copy)]
@@ -84,7 +84,7 @@ fn known_length(k: Lengths, w: u32) -> f32
 }
 
 // v scaled to length 1, where w, the bits of the square of its length, is known.
-pub fn known_unit(k: Lengths, v: V3, w: u32) -> Unit
+pub fn known_unit(k: Lengths, v: V3, w: u32) -> Option<V3>
     requires { Roots k × (k.first ≤ w) × (w < k.first + 4)
         × (w ≡ to_bits binary32 (vdot v v)) }
     ensures { result ≡ unit_of v }

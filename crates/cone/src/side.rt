@@ -13,7 +13,7 @@ ghost use Rattle.cone.specs.Cone.{cone_normal, cone_foot, cone_apex, cone_verts,
 use crate::lengths::{Lengths, is_known, known_unit, lengths_near};
 use block::Pair;
 use lists::put_three;
-use math::{Unit, V3};
+use math::V3;
 use parts::{GeomCtx, Vert, index_of, put_vert, ring_at, share};
 
 // What is scaled to length 1 for the normal at pair p.
@@ -29,12 +29,12 @@ fn cone_slope(pairs: &[f32], r: f32, height: f32, p: usize) -> V3
     }
 }
 
-fn or_up(u: Unit) -> V3
+fn or_up(u: Option<V3>) -> V3
     ensures { result ≡ or_else u y_axis }
 {
     match u {
-        Unit::Of(v) => v,
-        Unit::Nothing => V3 {
+        Some(v) => v,
+        None => V3 {
             x: 0.0,
             y: 1.0,
             z: 0.0,

@@ -10,8 +10,8 @@ use lib.Dec.{eqb}
 use lib.ListN.{length}
 use lib.Ieee.{Float, lt, neg}
 use Rattle.math.specs.declared.vector.V3.{V3}
-use Rattle.math.specs.declared.vector.Unit.{Unit}
-use Rattle.math.specs.declared.vector.Unit.TheVariants.{Of, Nothing}
+use Rattle.std.specs.Prelude.{Option}
+use Rattle.std.specs.Prelude.{Some, None}
 use Rattle.math.specs.declared.quaternion.Quat.{Quat}
 use Rattle.math.specs.Vector.{zero_f, one_f, x_axis, y_axis, vadd, vsub, vscale, vdot, vcross, unit_of}
 use Rattle.math.specs.Quaternion.{rotated, between}
@@ -23,11 +23,11 @@ use Rattle.extrusion.specs.Rows.{axes_of}
 
 -- ---- what may be missing
 
-pub first_step : (f : ℕ → Unit) (i : ℕ) (y z r : Unit) → y ≡ first_of f i → z ≡ f i → r ≡ or y z → r ≡ first_of f (i + 1)
+pub first_step : (f : ℕ → (Option V3)) (i : ℕ) (y z r : (Option V3)) → y ≡ first_of f i → z ≡ f i → r ≡ or y z → r ≡ first_of f (i + 1)
 unfolding first_of
 first_step f i y z r ey ez er = rw (er, ey, ez, add-one) refl
 
-pub last_step : (s : Unit) (f : ℕ → Unit) (i : ℕ) (y z r : Unit) → y ≡ last_of s f i → z ≡ f i → r ≡ or z y → r ≡ last_of s f (i + 1)
+pub last_step : (s : (Option V3)) (f : ℕ → (Option V3)) (i : ℕ) (y z r : (Option V3)) → y ≡ last_of s f i → z ≡ f i → r ≡ or z y → r ≡ last_of s f (i + 1)
 unfolding last_of
 last_step s f i y z r ey ez er = rw (er, ey, ez, add-one) refl
 
@@ -69,56 +69,56 @@ module _ (sp : List V3) (n i : ℕ) (k : Bool) (e : k ≡ closed sp) where
   end_last r t z w = rw (w, ← e, t, ne_eqb i 0 z) refl
 
 module _ (sp : List V3) (n i : ℕ) (k : Bool) (en : n ≡ length sp) (e : k ≡ is_end n i) where
-  pub y_end : (v : V3) (r : Unit) → k ≡ true → v ≡ along_end sp n i → r ≡ unit_of v → r ≡ y_own sp i
+  pub y_end : (v : V3) (r : (Option V3)) → k ≡ true → v ≡ along_end sp n i → r ≡ unit_of v → r ≡ y_own sp i
   unfolding y_own
   y_end v r t ev er = rw (er, ev, ← en, ← e, t) refl
 
-  pub y_inner : (v : V3) (r : Unit) → k ≡ false → v ≡ step sp (i - 1) (i + 1) → r ≡ unit_of v → r ≡ y_own sp i
+  pub y_inner : (v : V3) (r : (Option V3)) → k ≡ false → v ≡ step sp (i - 1) (i + 1) → r ≡ unit_of v → r ≡ y_own sp i
   unfolding y_own
   y_inner v r t ev er = rw (er, ev, ← en, ← e, t) refl
 
-  pub z_end_lem : (r : Unit) → k ≡ true → r ≡ z_end sp n i → r ≡ z_own sp i
+  pub z_end_lem : (r : (Option V3)) → k ≡ true → r ≡ z_end sp n i → r ≡ z_own sp i
   unfolding z_own
   z_end_lem r t er = rw (er, ← en, ← e, t) refl
 
-  pub z_inner : (r : Unit) → k ≡ false → r ≡ bend sp (i - 1) i (i + 1) → r ≡ z_own sp i
+  pub z_inner : (r : (Option V3)) → k ≡ false → r ≡ bend sp (i - 1) i (i + 1) → r ≡ z_own sp i
   unfolding z_own
   z_inner r t er = rw (er, ← en, ← e, t) refl
 
 -- ---- Z
 
-pub bend_is : (sp : List V3) (a i b : ℕ) (p q v : V3) (r : Unit) → p ≡ step sp i b → q ≡ step sp i a → v ≡ vcross p q → r ≡ unit_of v → r ≡ bend sp a i b
+pub bend_is : (sp : List V3) (a i b : ℕ) (p q v : V3) (r : (Option V3)) → p ≡ step sp i b → q ≡ step sp i a → v ≡ vcross p q → r ≡ unit_of v → r ≡ bend sp a i b
 unfolding bend
 bend_is sp a i b p q v r ep eq ev er = rw (er, ev, ep, eq) refl
 
 module _ (sp : List V3) (n i : ℕ) (k : Bool) (e : k ≡ closed sp) where
-  pub z_closed : (r : Unit) → k ≡ true → r ≡ bend sp (n - 2) 0 1 → r ≡ z_end sp n i
+  pub z_closed : (r : (Option V3)) → k ≡ true → r ≡ bend sp (n - 2) 0 1 → r ≡ z_end sp n i
   unfolding z_end
   z_closed r t w = rw (w, ← e, t) refl
 
-  pub z_first : (r : Unit) → k ≡ false → 2 < n → i ≡ 0 → r ≡ bend sp 0 1 2 → r ≡ z_end sp n i
+  pub z_first : (r : (Option V3)) → k ≡ false → 2 < n → i ≡ 0 → r ≡ bend sp 0 1 2 → r ≡ z_end sp n i
   unfolding z_end
   z_first r t l z w = rw (w, ← e, t, lt-ltb 2 n l, eq-eqb i 0 z) refl
 
-  pub z_last : (r : Unit) → k ≡ false → 2 < n → (i ≡ 0 → ⊥) → r ≡ bend sp (n - 3) (n - 2) (n - 1) → r ≡ z_end sp n i
+  pub z_last : (r : (Option V3)) → k ≡ false → 2 < n → (i ≡ 0 → ⊥) → r ≡ bend sp (n - 3) (n - 2) (n - 1) → r ≡ z_end sp n i
   unfolding z_end
   z_last r t l z w = rw (w, ← e, t, lt-ltb 2 n l, ne_eqb i 0 z) refl
 
-  pub z_none : k ≡ false → n ≤ 2 → Nothing ≡ z_end sp n i
+  pub z_none : k ≡ false → n ≤ 2 → None ≡ z_end sp n i
   unfolding z_end
   z_none t l = rw (← e, t, le-ltb 2 n l) refl
 
-pub turned_over : (prev : Unit) (z p r : V3) (d : Float) → prev ≡ Of p → d ≡ vdot z p → lt d zero_f ≡ true → r ≡ vscale z (neg one_f) → r ≡ turned prev z
+pub turned_over : (prev : (Option V3)) (z p r : V3) (d : Float) → prev ≡ Some p → d ≡ vdot z p → lt d zero_f ≡ true → r ≡ vscale z (neg one_f) → r ≡ turned prev z
 turned_over prev z p r d ep ed t er = rw (er, ep, ← ed, t) refl
 
-pub turned_not : (prev : Unit) (z p : V3) (d : Float) → prev ≡ Of p → d ≡ vdot z p → lt d zero_f ≡ false → z ≡ turned prev z
+pub turned_not : (prev : (Option V3)) (z p : V3) (d : Float) → prev ≡ Some p → d ≡ vdot z p → lt d zero_f ≡ false → z ≡ turned prev z
 turned_not prev z p d ep ed t = rw (ep, ← ed, t) refl
 
-pub pick_is : (first prev z a b : Unit) (v r : V3) → a ≡ or z prev → b ≡ or a first → v ≡ or_else b z_axis → r ≡ turned prev v → r ≡ pick_z first prev z
+pub pick_is : (first prev z a b : (Option V3)) (v r : V3) → a ≡ or z prev → b ≡ or a first → v ≡ or_else b z_axis → r ≡ turned prev v → r ≡ pick_z first prev z
 unfolding pick_z
 pick_is first prev z a b v r ea eb ev er = rw (er, ev, eb, ea) refl
 
-pub upright_is : (y z s t r : V3) (d : Float) (u : Unit) → d ≡ vdot z y → s ≡ vscale y d → t ≡ vsub z s → u ≡ unit_of t → r ≡ or_else u z → r ≡ upright y z
+pub upright_is : (y z s t r : V3) (d : Float) (u : (Option V3)) → d ≡ vdot z y → s ≡ vscale y d → t ≡ vsub z s → u ≡ unit_of t → r ≡ or_else u z → r ≡ upright y z
 unfolding upright
 upright_is y z s t r d u ed es et eu er = rw (er, eu, et, es, ed) refl
 
@@ -126,15 +126,15 @@ pub bent_is : (y z u x : V3) → u ≡ upright y z → x ≡ vcross y u → axes
 unfolding bent
 bent_is y z u x eu ex = rw (ex, eu) refl
 
-pub straight_is : (y : Unit) (u1 u2 u3 e a b c : V3) (q : Quat) → u1 ≡ y_axis → u2 ≡ y_axis → e ≡ or_else y u2 → q ≡ between u1 e → a ≡ rotated q x_axis → u3 ≡ y_axis
+pub straight_is : (y : (Option V3)) (u1 u2 u3 e a b c : V3) (q : Quat) → u1 ≡ y_axis → u2 ≡ y_axis → e ≡ or_else y u2 → q ≡ between u1 e → a ≡ rotated q x_axis → u3 ≡ y_axis
     → b ≡ rotated q u3 → c ≡ rotated q z_axis → axes a b c ≡ straight y
 unfolding straight
 straight_is y u1 u2 u3 e a b c q e1 e2 ee eq ea e3 eb ec = rw (ea, eb, ec, e3, eq, ee, e1, e2) refl
 
-pub by_bent : (first y₀ y : Unit) (z f u v : V3) (r : PlaneAxes) → first ≡ Of f → u ≡ y_axis → v ≡ or_else y u → axes_of r ≡ bent v z → axes_of r ≡ axes_by first y₀ y z
+pub by_bent : (first y₀ y : (Option V3)) (z f u v : V3) (r : PlaneAxes) → first ≡ Some f → u ≡ y_axis → v ≡ or_else y u → axes_of r ≡ bent v z → axes_of r ≡ axes_by first y₀ y z
 by_bent first y₀ y z f u v r ef eu ev er = rw (er, ev, eu, ef) refl
 
-pub by_straight : (first y₀ y : Unit) (z : V3) (r : PlaneAxes) → first ≡ Nothing → axes_of r ≡ straight y₀ → axes_of r ≡ axes_by first y₀ y z
+pub by_straight : (first y₀ y : (Option V3)) (z : V3) (r : PlaneAxes) → first ≡ None → axes_of r ≡ straight y₀ → axes_of r ≡ axes_by first y₀ y z
 by_straight first y₀ y z r ef er = rw (er, ef) refl
 
 pub placed_is : (o l a b c s t r : V3) (f : PlaneAxes) → a ≡ vscale f.x l.x → b ≡ vscale f.y l.y → s ≡ vadd a b → c ≡ vscale f.z l.z → t ≡ vadd s c → r ≡ vadd o t → r ≡ placed o (axes_of f) l

@@ -5,8 +5,8 @@ use Prim.Native.Nat.{ℕ, suc, ◌+◌, ◌*◌, ◌≤◌, ◌<◌}
 use native.Mathlib.Numerals.{add-one}
 use lib.ListN.{length}
 use Rattle.math.specs.declared.vector.V3.{V3}
-use Rattle.math.specs.declared.vector.Unit.{Unit}
-use Rattle.math.specs.declared.vector.Unit.TheVariants.{Of, Nothing}
+use Rattle.std.specs.Prelude.{Option}
+use Rattle.std.specs.Prelude.{Some, None}
 use Rattle.math.specs.declared.quaternion.Quat.{Quat}
 use Rattle.block.specs.declared.texture.Pair.{Pair}
 use Rattle.block.specs.Value.{words2}
@@ -58,22 +58,22 @@ row_length sp cs scs qs m i e = length_words _ 3 (λ p. refl) cs ∙ ap (λ (k :
 -- ---- the walk along the spine
 
 -- the state before point i
-pub record Walked (sp : List V3) (cs scs : List Pair) (qs : List Quat) (n : ℕ) (l : List ℕ) (k i : ℕ) (work : List ℕ) (y prev : Unit) : Type 0 where
+pub record Walked (sp : List V3) (cs scs : List Pair) (qs : List Quat) (n : ℕ) (l : List ℕ) (k i : ℕ) (work : List ℕ) (y prev : (Option V3)) : Type 0 where
   pub y_is : y ≡ last_of (first_y sp) (y_own sp) i
   pub prev_is : prev ≡ prev_z sp i
   pub rows : Pieces (row_by sp cs scs qs) n l k i work
 
 module _ (sp : List V3) (cs scs : List Pair) (qs : List Quat) where
-  pub walk_start : (n : ℕ) (l : List ℕ) (k : ℕ) (y : Unit) → y ≡ first_y sp → Walked sp cs scs qs n l k 0 l y Nothing
+  pub walk_start : (n : ℕ) (l : List ℕ) (k : ℕ) (y : (Option V3)) → y ≡ first_y sp → Walked sp cs scs qs n l k 0 l y None
   unfolding last_of prev_z
   walk_start n l k y e = record { y_is = e; prev_is = refl; rows = pieces_none }
 
-  axes_is : (i : ℕ) (first y₀ y own y' prev z : Unit) (v : V3) (f : Axes) → first ≡ first_z sp → y₀ ≡ first_y sp → y ≡ last_of (first_y sp) (y_own sp) i → own ≡ y_own sp i → y' ≡ or own y
+  axes_is : (i : ℕ) (first y₀ y own y' prev z : (Option V3)) (v : V3) (f : Axes) → first ≡ first_z sp → y₀ ≡ first_y sp → y ≡ last_of (first_y sp) (y_own sp) i → own ≡ y_own sp i → y' ≡ or own y
       → prev ≡ prev_z sp i → z ≡ z_own sp i → v ≡ pick_z first prev z → f ≡ axes_by first y₀ y' v → f ≡ axes_at sp i
   unfolding axes_at y_at last_of
   axes_is i first y₀ y own y' prev z v f ef e₀ ey eo ey' ep ez ev er = rw (er, ev, ez, ep, ey', eo, ey, e₀, ef) refl
 
-  prev_more : (i : ℕ) → prev_z sp (suc i) ≡ Of (pick_z (first_z sp) (prev_z sp i) (z_own sp i))
+  prev_more : (i : ℕ) → prev_z sp (suc i) ≡ Some (pick_z (first_z sp) (prev_z sp i) (z_own sp i))
   unfolding prev_z
   prev_more i = refl
 
@@ -81,16 +81,16 @@ module _ (sp : List V3) (cs scs : List Pair) (qs : List Quat) where
   unfolding row_by
   row_by_lem i o f q sc eo ef eq es = rw (eo, ef, eq, es) refl
 
-  pub walk_step : (n : ℕ) (l work work' : List ℕ) (k i m : ℕ) (first y₀ y own y' prev z : Unit) (v o : V3) (f : PlaneAxes) (q : Quat) (sc : Pair)
+  pub walk_step : (n : ℕ) (l work work' : List ℕ) (k i m : ℕ) (first y₀ y own y' prev z : (Option V3)) (v o : V3) (f : PlaneAxes) (q : Quat) (sc : Pair)
       → Walked sp cs scs qs n l k i work y prev → m ≡ length cs → k + n * (3 * m) ≤ length l → i < n
       → first ≡ first_z sp → y₀ ≡ first_y sp → own ≡ y_own sp i → y' ≡ or own y → z ≡ z_own sp i → v ≡ pick_z first prev z → axes_of f ≡ axes_by first y₀ y' v
       → o ≡ at sp i → q ≡ turn_at qs i → sc ≡ scale_at scs i
       → work' ≡ spliced work (k + i * (3 * m)) (row_words o (axes_of f) q sc cs)
-      → Walked sp cs scs qs n l k (i + 1) work' y' (Of v)
+      → Walked sp cs scs qs n l k (i + 1) work' y' (Some v)
   walk_step n l work work' k i m first y₀ y own y' prev z v o f q sc w em room h ef e₀ eo ey' ez ev er eO eQ eS ew =
       let fr : axes_of f ≡ axes_at sp i = axes_is i first y₀ y own y' prev z v (axes_of f) ef e₀ w.y_is eo ey' w.prev_is ez ev er in
       record {
         y_is = last_step _ _ _ _ _ _ w.y_is eo ey';
-        prev_is = ap Of (ev ∙ (λ j. pick_z (ef j) (w.prev_is j) (ez j))) ∙ sym (prev_more i) ∙ ap (prev_z sp) (sym (add-one i));
+        prev_is = ap Some (ev ∙ (λ j. pick_z (ef j) (w.prev_is j) (ez j))) ∙ sym (prev_more i) ∙ ap (prev_z sp) (sym (add-one i));
         rows = pieces_more (3 * m) (λ t. row_length sp cs scs qs m t em) room w.rows h refl (row_by_lem i o (axes_of f) q sc eO fr eQ eS) ew;
       }

@@ -7,7 +7,7 @@ ghost use Rattle.mesh.specs.Frames.{pick_z, axes_by};
 ghost use Rattle.extrusion.specs.Rows.{axes_of};
 
 use crate::frames::or;
-use math::{Unit, V3};
+use math::V3;
 
 // X and Z span the plane, and Y goes along the spine.
 #[derive(Clone, Copy)]
@@ -17,32 +17,32 @@ pub struct PlaneAxes {
     pub z: V3,
 }
 
-fn or_else(u: Unit, d: V3) -> V3
+fn or_else(u: Option<V3>, d: V3) -> V3
     ensures { result ≡ or_else u d }
 {
     match u {
-        Unit::Of(v) => v,
-        Unit::Nothing => d,
+        Some(v) => v,
+        None => d,
     }
 }
 
 // z, turned over where it points against the one used before it.
-fn turned(prev: Unit, z: V3) -> V3
+fn turned(prev: Option<V3>, z: V3) -> V3
     ensures { result ≡ spec.turned prev z }
 {
     match prev {
-        Unit::Of(p) => {
+        Some(p) => {
             if math::dot(z, p) < 0.0 {
                 return math::scale(z, -1.0);
             }
             return z;
         }
-        Unit::Nothing => z,
+        None => z,
     }
 }
 
 // The Z axis used at a point, by the first of all, the one used before, and the point's own.
-pub fn pick_z(first: Unit, prev: Unit, z: Unit) -> V3
+pub fn pick_z(first: Option<V3>, prev: Option<V3>, z: Option<V3>) -> V3
     ensures { result ≡ pick_z first prev z }
 {
     let back = V3 {
@@ -85,7 +85,7 @@ fn upward() -> V3
 }
 
 // The axes where all points are in a line: Y goes along it.
-fn straight(y: Unit) -> PlaneAxes
+fn straight(y: Option<V3>) -> PlaneAxes
     ensures { axes_of result ≡ spec.straight y }
 {
     let q = math::quat_between(upward(), or_else(y, upward()));
@@ -111,11 +111,11 @@ fn straight(y: Unit) -> PlaneAxes
 }
 
 // Bent by the first Z axis of all, where there is one; else one frame for all points.
-pub fn axes_by(first: Unit, y0: Unit, y: Unit, z: V3) -> PlaneAxes
+pub fn axes_by(first: Option<V3>, y0: Option<V3>, y: Option<V3>, z: V3) -> PlaneAxes
     ensures { axes_of result ≡ axes_by first y0 y z }
 {
     match first {
-        Unit::Of(_) => bent(or_else(y, upward()), z),
-        Unit::Nothing => straight(y0),
+        Some(_) => bent(or_else(y, upward()), z),
+        None => straight(y0),
     }
 }

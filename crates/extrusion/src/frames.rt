@@ -5,15 +5,15 @@ ghost use Rattle.mesh.specs.Frames.{same3, closed, is_end, along_end, y_own, fir
 ghost use Rattle.mesh.specs.Extrusion.{threes};
 
 use crate::reading::spine_at;
-use math::{Unit, V3};
+use math::V3;
 
 // The first of two that is there.
-pub fn or(a: Unit, b: Unit) -> Unit
+pub fn or(a: Option<V3>, b: Option<V3>) -> Option<V3>
     ensures { result ≡ spec.or a b }
 {
     match a {
-        Unit::Of(v) => Unit::Of(v),
-        Unit::Nothing => b,
+        Some(v) => Some(v),
+        None => b,
     }
 }
 
@@ -70,7 +70,7 @@ fn along_end(s: &[u8], n: usize, i: usize) -> V3
     step(s, n, n - 2, n - 1)
 }
 
-pub fn y_own(s: &[u8], n: usize, i: usize) -> Unit
+pub fn y_own(s: &[u8], n: usize, i: usize) -> Option<V3>
     requires { (12 * n ≤ length s.now) × (2 ≤ n) × (i < n) }
     ensures { result ≡ y_own (threes s.now n) i }
 {
@@ -80,11 +80,11 @@ pub fn y_own(s: &[u8], n: usize, i: usize) -> Unit
     math::normalize(step(s, n, i - 1, i + 1))
 }
 
-pub fn first_y(s: &[u8], n: usize) -> Unit
+pub fn first_y(s: &[u8], n: usize) -> Option<V3>
     requires { (12 * n ≤ length s.now) × (2 ≤ n) }
     ensures { result ≡ first_y (threes s.now n) }
 {
-    let mut y = Unit::Nothing;
+    let mut y = None;
     let mut i = 0;
     while i < n {
         y = or(y, y_own(s, n, i));
@@ -94,14 +94,14 @@ pub fn first_y(s: &[u8], n: usize) -> Unit
 }
 
 // The normal of the plane of point i and its neighbours a and b.
-fn plane(s: &[u8], n: usize, a: usize, i: usize, b: usize) -> Unit
+fn plane(s: &[u8], n: usize, a: usize, i: usize, b: usize) -> Option<V3>
     requires { (12 * n ≤ length s.now) × (a < n) × (i < n) × (b < n) }
     ensures { result ≡ bend (threes s.now n) a i b }
 {
     math::normalize(math::cross(step(s, n, i, b), step(s, n, i, a)))
 }
 
-fn z_end(s: &[u8], n: usize, i: usize) -> Unit
+fn z_end(s: &[u8], n: usize, i: usize) -> Option<V3>
     requires { (12 * n ≤ length s.now) × (2 ≤ n) }
     ensures { result ≡ z_end (threes s.now n) n i }
 {
@@ -114,10 +114,10 @@ fn z_end(s: &[u8], n: usize, i: usize) -> Unit
         }
         return plane(s, n, n - 3, n - 2, n - 1);
     }
-    Unit::Nothing
+    None
 }
 
-pub fn z_own(s: &[u8], n: usize, i: usize) -> Unit
+pub fn z_own(s: &[u8], n: usize, i: usize) -> Option<V3>
     requires { (12 * n ≤ length s.now) × (2 ≤ n) × (i < n) }
     ensures { result ≡ z_own (threes s.now n) i }
 {
@@ -127,11 +127,11 @@ pub fn z_own(s: &[u8], n: usize, i: usize) -> Unit
     plane(s, n, i - 1, i, i + 1)
 }
 
-pub fn first_z(s: &[u8], n: usize) -> Unit
+pub fn first_z(s: &[u8], n: usize) -> Option<V3>
     requires { (12 * n ≤ length s.now) × (2 ≤ n) }
     ensures { result ≡ first_z (threes s.now n) }
 {
-    let mut z = Unit::Nothing;
+    let mut z = None;
     let mut i = 0;
     while i < n {
         z = or(z, z_own(s, n, i));

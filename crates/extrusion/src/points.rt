@@ -14,7 +14,7 @@ use crate::reading::{
     pair_at, scale_count, section_count, spine_at, spine_count, turn_count, turn_in,
 };
 use block::{Header, Pair};
-use math::{Quat, Unit, V3};
+use math::{Quat, V3};
 
 // The scale at point i, of k: the first where there are too few.
 fn scale_at(scales: &[u8], k: usize, i: usize) -> Pair
@@ -132,12 +132,12 @@ fn put_rows(
     let first = first_z(spine, n);
     let y0 = first_y(spine, n);
     let mut y = y0;
-    let mut prev = Unit::Nothing;
+    let mut prev = None;
     let mut i = 0;
     while i < n {
         y = or(y_own(spine, n, i), y);
         let z = pick_z(first, prev, z_own(spine, n, i));
-        prev = Unit::Of(z);
+        prev = Some(z);
         let f = axes_by(first, y0, y, z);
         put_row(
             section,

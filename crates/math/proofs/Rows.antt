@@ -2,7 +2,7 @@
 use mathlib.Core.Path.{◌≡◌, refl}
 use Prim.Native.Nat.{ℕ}
 use lib.Ieee.{Float, nan, binary32, of_bits, to_bits}
-use Rattle.math.specs.declared.vector.Unit.TheVariants.{Of, Nothing}
+use Rattle.std.specs.Prelude.{Some, None}
 use Rattle.math.specs.SquareRoot.{root_of}
 use Rattle.math.specs.Vector.{zero_f, one_f, v3, x_axis, y_axis, unit_of}
 use Rattle.math.specs.Quaternion.{quat, identity, between}
@@ -30,9 +30,9 @@ roots = (refl, refl, refl, refl, refl, refl, refl, refl)
 -- FORMAT 9.3: (3, 4, 0) is normalised to (0.6, 0.8, 0), and (0, 0, 0) is not.
 -- (41, 0, 0) shows the reciprocal: 41 * (1 / 41) is just below 1, where 41 / 41 is 1.
 pub units :
-    (unit_of (v3 (float 0x4040_0000) (float 0x4080_0000) zero_f) ≡ Of (v3 (float 0x3f19_999a) (float 0x3f4c_cccd) zero_f))
-    × (unit_of (v3 (float 0x4224_0000) zero_f zero_f) ≡ Of (v3 (float 0x3f7f_ffff) zero_f zero_f))
-    × (unit_of (v3 zero_f zero_f zero_f) ≡ Nothing)
+    (unit_of (v3 (float 0x4040_0000) (float 0x4080_0000) zero_f) ≡ Some (v3 (float 0x3f19_999a) (float 0x3f4c_cccd) zero_f))
+    × (unit_of (v3 (float 0x4224_0000) zero_f zero_f) ≡ Some (v3 (float 0x3f7f_ffff) zero_f zero_f))
+    × (unit_of (v3 zero_f zero_f zero_f) ≡ None)
 unfolding unit_of root_of of_bits lib.Ieee.add lib.Ieee.mul lib.Ieee.div lib.Ieee.lt
 units = (refl, refl, refl)
 

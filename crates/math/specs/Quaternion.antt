@@ -4,8 +4,8 @@ use Rattle.std.specs.Float.{binary32}
 use Rattle.std.specs.Float.Ieee.{add, sub, mul, div, neg, lt, of_bits}
 use Rattle.std.specs.Float.Ieee.Scale.{finite}
 use Rattle.math.specs.declared.vector.V3.{V3}
-use Rattle.math.specs.declared.vector.Unit.{Unit}
-use Rattle.math.specs.declared.vector.Unit.TheVariants.{Of, Nothing}
+use Rattle.std.specs.Prelude.{Option}
+use Rattle.std.specs.Prelude.{Some, None}
 use Rattle.math.specs.declared.quaternion.Quat.{Quat}
 use Rattle.math.specs.SquareRoot.{root_of}
 use Rattle.math.specs.Vector.{zero_f, one_f, two_f, v3, x_axis, y_axis, vadd, vscale, vdot, vcross, unit_of}
@@ -35,18 +35,18 @@ turned u w v t = vadd (vadd v (vscale t w)) (vcross u t)
 abbrev pub rotated : Quat → V3 → V3
 rotated q v = turned (vector_part q) q.w v (vscale (vcross (vector_part q) v) two_f)
 
-abbrev pub turn_by : Unit → Float → Float → Quat
-turn_by (Of u) s c = cond (finite s && finite c) (quat (mul binary32 u.x s) (mul binary32 u.y s) (mul binary32 u.z s) c) identity
-turn_by Nothing s c = identity
+abbrev pub turn_by : (Option V3) → Float → Float → Quat
+turn_by (Some u) s c = cond (finite s && finite c) (quat (mul binary32 u.x s) (mul binary32 u.y s) (mul binary32 u.z s) c) identity
+turn_by None s c = identity
 
 -- FORMAT 9.5, axis_angle_to_quat: s and c are the sine and the cosine of half the angle
 unfoldable pub axis_turn : V3 → Float → Float → Quat
 unfolding unit_of
 axis_turn a s c = turn_by (unit_of a) s c
 
-abbrev pub half_about : Unit → Quat
-half_about (Of u) = quat u.x u.y u.z zero_f
-half_about Nothing = quat zero_f zero_f one_f zero_f
+abbrev pub half_about : (Option V3) → Quat
+half_about (Some u) = quat u.x u.y u.z zero_f
+half_about None = quat zero_f zero_f one_f zero_f
 
 -- the X axis, or the Y axis where x is not well below 1
 abbrev pub other_axis : Float → V3
@@ -75,10 +75,10 @@ unfoldable pub turn_to : V3 → V3 → Quat
 unfolding half_turn shortest_arc
 turn_to f t = turn_at (vdot f t) f t
 
-abbrev pub turn_units : Unit → Unit → Quat
-turn_units (Of f) (Of t) = turn_to f t
-turn_units (Of f) Nothing = identity
-turn_units Nothing u = identity
+abbrev pub turn_units : (Option V3) → (Option V3) → Quat
+turn_units (Some f) (Some t) = turn_to f t
+turn_units (Some f) None = identity
+turn_units None u = identity
 
 -- FORMAT 9.5, quat_between
 unfoldable pub between : V3 → V3 → Quat

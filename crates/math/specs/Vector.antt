@@ -4,8 +4,8 @@ use Rattle.std.specs.Float.{binary32}
 use Rattle.std.specs.Float.Ieee.{add, sub, mul, div, lt, fits, of_bits}
 use Rattle.std.specs.Float.Ieee.Scale.{finite}
 use Rattle.math.specs.declared.vector.V3.{V3}
-use Rattle.math.specs.declared.vector.Unit.{Unit}
-use Rattle.math.specs.declared.vector.Unit.TheVariants.{Of, Nothing}
+use Rattle.std.specs.Prelude.{Option}
+use Rattle.std.specs.Prelude.{Some, None}
 use Rattle.math.specs.SquareRoot.{root_of}
 
 -- f32 constants, by their bits: 0, 1, 2 and 1e-20
@@ -67,10 +67,10 @@ abbrev pub usable : Float → Bool
 usable l = finite l && lt tiny l
 
 -- a times the reciprocal of the length l
-abbrev pub unit_by : Float → V3 → Unit
-unit_by l a = cond (usable l) (Of (vscale a (div binary32 one_f l))) Nothing
+abbrev pub unit_by : Float → V3 → (Option V3)
+unit_by l a = cond (usable l) (Some (vscale a (div binary32 one_f l))) None
 
 -- FORMAT 9.3, normalize
-unfoldable pub unit_of : V3 → Unit
+unfoldable pub unit_of : V3 → (Option V3)
 unfolding vlen
 unit_of a = unit_by (vlen a) a

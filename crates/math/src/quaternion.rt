@@ -4,7 +4,7 @@ ghost use Rattle.math.specs.Quaternion.{rotated, identity, axis_turn, other_axis
 
 use crate::order::abs;
 use crate::square_root::root;
-use crate::vector::{Unit, V3, add, cross, dot, normalize, scale};
+use crate::vector::{V3, add, cross, dot, normalize, scale};
 use crate::word::is_finite;
 
 #[derive(Clone, Copy)]
@@ -43,7 +43,7 @@ fn identity() -> Quat
 pub fn axis_turn(axis: V3, s: f32, c: f32) -> Quat
     ensures { result ≡ axis_turn axis s c }
 {
-    let Unit::Of(u) = normalize(axis) else {
+    let Some(u) = normalize(axis) else {
         return identity();
     };
     if is_finite(s) {
@@ -82,7 +82,7 @@ fn other_axis(x: f32) -> V3
 fn half_turn(f: V3) -> Quat
     ensures { result ≡ half_turn f }
 {
-    let Unit::Of(u) = normalize(cross(f, other_axis(f.x))) else {
+    let Some(u) = normalize(cross(f, other_axis(f.x))) else {
         return Quat {
             x: 0.0,
             y: 0.0,
@@ -127,10 +127,10 @@ fn turn_to(f: V3, t: V3) -> Quat
 pub fn quat_between(from: V3, to: V3) -> Quat
     ensures { result ≡ between from to }
 {
-    let Unit::Of(f) = normalize(from) else {
+    let Some(f) = normalize(from) else {
         return identity();
     };
-    let Unit::Of(t) = normalize(to) else {
+    let Some(t) = normalize(to) else {
         return identity();
     };
     turn_to(f, t)

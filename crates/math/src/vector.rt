@@ -12,13 +12,6 @@ pub struct V3 {
     pub z: f32,
 }
 
-// A direction: a vector scaled to length 1, or none.
-#[derive(Clone, Copy)]
-pub enum Unit {
-    Of(V3),
-    Nothing,
-}
-
 pub fn add(a: V3, b: V3) -> V3
     ensures { result ≡ vadd a b }
 {
@@ -72,18 +65,18 @@ pub fn len(a: V3) -> f32
 }
 
 // The vector a, whose length is l, scaled to length 1: none where l is not finite, or not above 1e-20. For who needs the length too.
-pub fn unit_by(a: V3, l: f32) -> Unit
+pub fn unit_by(a: V3, l: f32) -> Option<V3>
     ensures { result ≡ unit_by l a }
 {
     if is_finite(l) {
         if l > 1e-20 {
-            return Unit::Of(scale(a, 1.0 / l));
+            return Some(scale(a, 1.0 / l));
         }
     }
-    Unit::Nothing
+    None
 }
 
-pub fn normalize(a: V3) -> Unit
+pub fn normalize(a: V3) -> Option<V3>
     ensures { result ≡ unit_of a }
 {
     unit_by(a, len(a))
@@ -91,10 +84,10 @@ pub fn normalize(a: V3) -> Unit
 
 #[derive(Clone, Copy)]
 pub struct Units {
-    pub a: Unit,
-    pub b: Unit,
-    pub c: Unit,
-    pub d: Unit,
+    pub a: Option<V3>,
+    pub b: Option<V3>,
+    pub c: Option<V3>,
+    pub d: Option<V3>,
 }
 
 // Four vectors normalised: their roots are taken together.

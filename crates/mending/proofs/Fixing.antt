@@ -11,8 +11,8 @@ use lib.Ieee.{Float, binary32, sub, lt}
 use lib.Seq.{sets, sets-eq}
 use Rattle.bits.specs.declared.Words3.{Words3}
 use Rattle.math.specs.declared.vector.V3.{V3}
-use Rattle.math.specs.declared.vector.Unit.{Unit}
-use Rattle.math.specs.declared.vector.Unit.TheVariants.{Of, Nothing}
+use Rattle.std.specs.Prelude.{Option}
+use Rattle.std.specs.Prelude.{Some, None}
 use Rattle.math.specs.Vector.{y_axis, vlen, unit_by, unit_of, one_f}
 use Rattle.math.specs.Order.{magnitude}
 use Rattle.lists.specs.Loops.{tab}
@@ -30,26 +30,26 @@ use Rattle.mending.proofs.Lent.{first_same, spot_in, spot_out}
 -- ---- one vertex
 
 -- whose normal can be scaled: it is scaled where it is visibly off length 1, else kept; l is its length
-pub mend_scaled : (w r : Words3) (n u other : V3) (l : Float) → n ≡ floats w → l ≡ vlen n → unit_by l n ≡ Of u
+pub mend_scaled : (w r : Words3) (n u other : V3) (l : Float) → n ≡ floats w → l ≡ vlen n → unit_by l n ≡ Some u
     → r ≡ cond (lt visible (magnitude (sub binary32 l one_f))) (bits u) w → r ≡ mend_by (unit_of (floats w)) w other
 unfolding mend_by renorm or_words unit_of
 mend_scaled w r n u other l en el eu er =
-    let k : unit_of (floats w) ≡ Of u = ap unit_of (sym en) ∙ ap (λ (l : Float). unit_by l n) (sym el) ∙ eu in
+    let k : unit_of (floats w) ≡ Some u = ap unit_of (sym en) ∙ ap (λ (l : Float). unit_by l n) (sym el) ∙ eu in
     let m : l ≡ vlen (floats w) = el ∙ ap vlen en in
     er
     ∙ ap (λ (l : Float). cond (lt visible (magnitude (sub binary32 l one_f))) (bits u) w) m
-    ∙ ap (λ (q : Unit). cond (lt visible (magnitude (sub binary32 (vlen (floats w)) one_f))) (or_words q w) w) (sym k)
-    ∙ ap (λ (q : Unit). mend_by q w other) (sym k)
+    ∙ ap (λ (q : (Option V3)). cond (lt visible (magnitude (sub binary32 (vlen (floats w)) one_f))) (or_words q w) w) (sym k)
+    ∙ ap (λ (q : (Option V3)). mend_by q w other) (sym k)
 
 -- whose normal cannot: it is what the table has
-pub mend_found : (ps is t : List ℕ) (count v k : ℕ) (w r : Words3) (n o : V3) (l : Float) → n ≡ floats w → l ≡ vlen n → unit_by l n ≡ Nothing
+pub mend_found : (ps is t : List ℕ) (count v k : ℕ) (w r : Words3) (n o : V3) (l : Float) → n ≡ floats w → l ≡ vlen n → unit_by l n ≡ None
     → v < length t → Firsts (lent_frame ps) (lent_keys [] count) is t → k ≡ get_or t v 0 → o ≡ found (lent_frame ps) (lent_keys [] count) is k y_axis → r ≡ bits o
     → r ≡ mend_by (unit_of (floats w)) w (first_normal (lent_frame ps) (lent_keys [] count) v is)
 unfolding mend_by unit_of Firsts
 mend_found ps is t count v k w r n o l en el eu h F ek eo er =
-    let z : unit_of (floats w) ≡ Nothing = ap unit_of (sym en) ∙ ap (λ (l : Float). unit_by l n) (sym el) ∙ eu in
+    let z : unit_of (floats w) ≡ None = ap unit_of (sym en) ∙ ap (λ (l : Float). unit_by l n) (sym el) ∙ eu in
     er ∙ ap bits (eo ∙ ap (λ (k : ℕ). found (lent_frame ps) (lent_keys [] count) is k y_axis) ek ∙ F v h)
-    ∙ ap (λ (q : Unit). mend_by q w (first_normal (lent_frame ps) (lent_keys [] count) v is)) (sym z)
+    ∙ ap (λ (q : (Option V3)). mend_by q w (first_normal (lent_frame ps) (lent_keys [] count) v is)) (sym z)
 
 -- ---- the table
 

@@ -9,7 +9,7 @@ use lib.Ieee.Bits.{of_bits-to_bits}
 use lib.Ieee.Fits.{add-fits}
 use Rattle.bits.specs.declared.Words3.{Words3}
 use Rattle.math.specs.declared.vector.V3.{V3}
-use Rattle.math.specs.declared.vector.Unit.TheVariants.{Of, Nothing}
+use Rattle.std.specs.Prelude.{Some, None}
 use Rattle.math.specs.SquareRoot.{root_of}
 use Rattle.math.specs.Vector.{vscale, vdot, vlen, usable, unit_of, one_f}
 use Rattle.math.specs.Order.{magnitude}
@@ -46,4 +46,4 @@ near_kept w n other d b en ed eb h =
     let l : Float = root_of (of_bits binary32 b) in
     let q : (usable l ≡ true) × (lt visible (magnitude (sub binary32 l one_f)) ≡ false) = neither (usable l) (lt visible (magnitude (sub binary32 l one_f))) (near_off b h) in
     let u : V3 = vscale n (div binary32 one_f l) in
-    mend_scaled w w n u other l en (sym (ap root_of back)) (ap (λ (t : Bool). cond t (Of u) Nothing) q.0) (sym (ap (λ (t : Bool). cond t (bits u) w) q.1))
+    mend_scaled w w n u other l en (sym (ap root_of back)) (ap (λ (t : Bool). cond t (Some u) None) q.0) (sym (ap (λ (t : Bool). cond t (bits u) w) q.1))

@@ -10,8 +10,8 @@ use borrow.Author.Tests.{eqb-true, eqb-false, ne_eqb}
 use lib.ListN.{length, get_or, drop, set, length-set, length-drop}
 use lib.Seq.{drop-cons, get_or-set_same, get_or-set_other}
 use Rattle.math.specs.declared.vector.V3.{V3}
-use Rattle.math.specs.declared.vector.Unit.{Unit}
-use Rattle.math.specs.declared.vector.Unit.TheVariants.{Of, Nothing}
+use Rattle.std.specs.Prelude.{Option}
+use Rattle.std.specs.Prelude.{Some, None}
 use Rattle.math.specs.Vector.{y_axis}
 use Rattle.mesh.specs.Soup.{Frame}
 use Rattle.mesh.specs.Normals.{or_else}
@@ -91,10 +91,10 @@ module _ (F : Frame) (vs : List Key) (is : List ℕ) where
   abbrev uses : ℕ → ℕ → Bool
   uses n v = eqb (get_or is (n * 3 + 0) 0) v || (eqb (get_or is (n * 3 + 1) 0) v || eqb (get_or is (n * 3 + 2) 0) v)
 
-  found_new : (x : Bool) (m n : ℕ) (u rest : V3) → triangle_normal F vs is n ≡ Of u
+  found_new : (x : Bool) (m n : ℕ) (u rest : V3) → triangle_normal F vs is n ≡ Some u
       → found F vs is (mark x n m) rest ≡ found F vs is m (cond x u rest)
   unfolding or_else
-  found_new true zero n u rest e = ap (λ (w : Unit). or_else w y_axis) e
+  found_new true zero n u rest e = ap (λ (w : (Option V3)). or_else w y_axis) e
   found_new true (suc m) n u rest e = refl
   found_new false m n u rest e = refl
 
@@ -103,10 +103,10 @@ module _ (F : Frame) (vs : List Key) (is : List ℕ) where
   unfolding noted marked_all or_else
   noted_found t n v rest h = go (triangle_normal F vs is n) refl
     where
-      go : (w : Unit) → triangle_normal F vs is n ≡ w
+      go : (w : (Option V3)) → triangle_normal F vs is n ≡ w
           → found F vs is (get_or (noted_by w is t n) v 0) rest ≡ found F vs is (get_or t v 0) (cond (uses n v) (or_else w rest) rest)
-      go Nothing e = ap (found F vs is (get_or t v 0)) (sym (cond_same (uses n v) rest))
-      go (Of u) e =
+      go None e = ap (found F vs is (get_or t v 0)) (sym (cond_same (uses n v) rest))
+      go (Some u) e =
           let a = get_or is (n * 3 + 0) 0 in
           let b = get_or is (n * 3 + 1) 0 in
           let c = get_or is (n * 3 + 2) 0 in
@@ -163,11 +163,11 @@ module _ (F : Frame) (vs : List Key) (is : List ℕ) where
 
   -- ---- what an entry stands for
 
-  pub found_is : (k : ℕ) (w : Unit) → (k ≡ 0 → ⊥) → w ≡ triangle_normal F vs is (k - 1) → found F vs is k y_axis ≡ or_else w y_axis
+  pub found_is : (k : ℕ) (w : (Option V3)) → (k ≡ 0 → ⊥) → w ≡ triangle_normal F vs is (k - 1) → found F vs is k y_axis ≡ or_else w y_axis
   found_is zero w h e = absurd (h refl)
   found_is (suc n) w h e =
       let q : suc n - 1 ≡ n = omega arith in
-      ap (λ (u : Unit). or_else u y_axis) (sym (e ∙ ap (triangle_normal F vs is) q))
+      ap (λ (u : (Option V3)). or_else u y_axis) (sym (e ∙ ap (triangle_normal F vs is) q))
 
 -- ---- the clearing
 

@@ -1,8 +1,8 @@
 -- FORMAT 10.3, fix_zero_normals: what is lent to it, as a mesh; and how the first usable triangle of each vertex is held in a table.
 use Rattle.std.specs.Prelude.{◌≡◌, Bool, true, ◌&&◌, cond, List, [], map, ℕ, zero, suc, ◌+◌, ◌*◌, ◌<◌, leb, ltb, eqb, length, get_or, set}
 use Rattle.math.specs.declared.vector.V3.{V3}
-use Rattle.math.specs.declared.vector.Unit.{Unit}
-use Rattle.math.specs.declared.vector.Unit.TheVariants.{Of, Nothing}
+use Rattle.std.specs.Prelude.{Option}
+use Rattle.std.specs.Prelude.{Some, None}
 use Rattle.math.specs.Vector.{y_axis}
 use Rattle.lists.specs.Loops.{tab}
 use Rattle.block.specs.declared.crease.CreaseRule.TheVariants.{Own}
@@ -33,7 +33,7 @@ mended_words positions indices normals count = flat (map words3 (mesh_of (lent_f
 -- ---- the table: at v 0, or one more than the number of the first triangle that has a usable normal and uses vertex v
 
 -- FORMAT 10.3, fix_zero_normals (fn_): of triangle n
-unfoldable pub triangle_normal : Frame → List Key → List ℕ → ℕ → Unit
+unfoldable pub triangle_normal : Frame → List Key → List ℕ → ℕ → (Option V3)
 triangle_normal F vs is n =
     tri_normal (vertex_spot F vs (get_or is (n * 3 + 0) 0)) (vertex_spot F vs (get_or is (n * 3 + 1) 0)) (vertex_spot F vs (get_or is (n * 3 + 2) 0))
 
@@ -51,9 +51,9 @@ unfoldable pub marked_all : List ℕ → List ℕ → ℕ → List ℕ
 marked_all is t n = marked (marked (marked t (get_or is (n * 3 + 0) 0) (n + 1)) (get_or is (n * 3 + 1) 0) (n + 1)) (get_or is (n * 3 + 2) 0) (n + 1)
 
 -- FORMAT 10.3: only a triangle that has a normal counts
-abbrev pub noted_by : Unit → List ℕ → List ℕ → ℕ → List ℕ
-noted_by (Of u) is t n = marked_all is t n
-noted_by Nothing is t n = t
+abbrev pub noted_by : (Option V3) → List ℕ → List ℕ → ℕ → List ℕ
+noted_by (Some u) is t n = marked_all is t n
+noted_by None is t n = t
 
 -- FORMAT 10.3: triangle n is met
 unfoldable pub noted : Frame → List Key → List ℕ → List ℕ → ℕ → List ℕ

@@ -14,7 +14,7 @@ use crate::words::put_three;
 use bits::Words3;
 use block::VertexNumber;
 use lists::{get, put};
-use math::{Unit, V3};
+use math::V3;
 
 // ---- the words of a vertex
 
@@ -70,7 +70,7 @@ fn spot_of(positions: &[u32], count: usize, v: VertexNumber) -> V3
     floats_of(words_at(positions, VertexNumber(0)))
 }
 
-fn tri_normal(a: V3, b: V3, c: V3) -> Unit
+fn tri_normal(a: V3, b: V3, c: V3) -> Option<V3>
     ensures { result ≡ tri_normal a b c }
 {
     math::normalize(math::cross(math::sub(b, a), math::sub(c, a)))
@@ -84,7 +84,7 @@ fn corner(indices: &[u32], n: usize, j: usize) -> VertexNumber
     VertexNumber(get(indices, n * 3 + j) as usize)
 }
 
-fn triangle_normal(positions: &[u32], indices: &[u32], count: usize, n: usize) -> Unit
+fn triangle_normal(positions: &[u32], indices: &[u32], count: usize, n: usize) -> Option<V3>
     requires { (count ≤ 2 ^ 18) × (n < 2 ^ 32) }
     ensures { result ≡ triangle_normal (lent_frame positions.now) (lent_keys [] count) indices.now n }
 {
@@ -130,7 +130,7 @@ fn note(positions: &[u32], indices: &[u32], count: usize, n: usize, table: &mut 
     requires { (count ≤ 2 ^ 18) × (n + 1 < 2 ^ 32) }
     ensures { table.new ≡ noted (lent_frame positions.now) (lent_keys [] count) indices.now table.old n }
 {
-    let Unit::Of(_u) = triangle_normal(positions, indices, count, n) else {
+    let Some(_u) = triangle_normal(positions, indices, count, n) else {
         return;
     };
     mark_all(indices, n, table);
@@ -169,7 +169,7 @@ fn found_at(positions: &[u32], indices: &[u32], count: usize, k: u32) -> V3
         return straight_up();
     }
     let n = (k - 1) as usize;
-    let Unit::Of(u) = triangle_normal(positions, indices, count, n) else {
+    let Some(u) = triangle_normal(positions, indices, count, n) else {
         return straight_up();
     };
     u
@@ -232,7 +232,7 @@ fn mend_one(
         return Mended { words: w, made };
     }
     let l = math::len(n);
-    let Unit::Of(u) = math::unit_by(n, l) else {
+    let Some(u) = math::unit_by(n, l) else {
         make_table(positions, indices, count, made, table);
         let k = get(table, v.0);
         return Mended {

@@ -10,8 +10,8 @@ use lib.Dec.{eqb}
 use lib.Ieee.{Float}
 use lib.ListN.{length, get_or, length-append}
 use Rattle.math.specs.declared.vector.V3.{V3}
-use Rattle.math.specs.declared.vector.Unit.{Unit}
-use Rattle.math.specs.declared.vector.Unit.TheVariants.{Of, Nothing}
+use Rattle.std.specs.Prelude.{Option}
+use Rattle.std.specs.Prelude.{Some, None}
 use Rattle.math.specs.Vector.{v3, zero_f, y_axis, vadd, unit_of}
 use Rattle.block.specs.declared.crease.CreaseRule.{CreaseRule}
 use Rattle.block.specs.declared.crease.CreaseRule.TheVariants.{Own, Every, Bound}
@@ -146,10 +146,10 @@ module _ (F : Frame) (p : ℕ) where
       plain_two ((c ∷ cs) ∷ A) f B = ap (λ (t : List V3). copies p (facing F (c ∷ cs)) (c ∷ cs) ++ t) (plain_two A f B)
   sum_dense A f B n (Bound b) = go (unit_of n)
     where
-      go : (o : Unit)
+      go : (o : (Option V3))
           → near_sum b (length A) n o (incident F (A ++ f ∷ B) p) ≡ near_sum b (length (dense A)) n o (incident F (dense A ++ f ∷ dense B) p)
-      go Nothing = refl
-      go (Of u) =
+      go None = refl
+      go (Some u) =
           near_split b u n A f B
           ∙ sym (λ i. sum_n b u (sum_n b u n (plain_dense A i)) (plain_dense B i))
           ∙ sym (near_split b u n (dense A) f (dense B))

@@ -11,8 +11,8 @@ use lib.Ieee.Bits.{of_bits-to_bits, of_bits-fits}
 use lib.Ieee.Fits.{and_i, and_l, and_r, add-fits}
 use Rattle.bits.specs.declared.Words3.{Words3}
 use Rattle.math.specs.declared.vector.V3.{V3}
-use Rattle.math.specs.declared.vector.Unit.{Unit}
-use Rattle.math.specs.declared.vector.Unit.TheVariants.{Of, Nothing}
+use Rattle.std.specs.Prelude.{Option}
+use Rattle.std.specs.Prelude.{Some, None}
 use Rattle.math.specs.Vector.{v3, zero_f, one_f, y_axis, fits3, vadd, vscale, vlen, usable, unit_of}
 use Rattle.math.proofs.Normal.{unit_again, unit_up, sum_fits, scale_fits}
 use Rattle.polygon.specs.Facing.{edge_sum, newell_from, newell}
@@ -79,10 +79,10 @@ unfolding sum_near
 sum_near_fits b own u s [] h = h
 sum_near_fits b own u s (k ∷ hs) h = sum_near_fits b own u (near_step b own u s k) hs (step_fits b own u s k h)
 
-near_sum_fits : (b : Float) (own : ℕ) (n : V3) (o : Unit) (hs : List Hit) → T (fits3 n) → T (fits3 (near_sum b own n o hs))
+near_sum_fits : (b : Float) (own : ℕ) (n : V3) (o : (Option V3)) (hs : List Hit) → T (fits3 n) → T (fits3 (near_sum b own n o hs))
 unfolding near_sum
-near_sum_fits b own n (Of u) hs h = sum_near_fits b own u n hs h
-near_sum_fits b own n Nothing hs h = h
+near_sum_fits b own n (Some u) hs h = sum_near_fits b own u n hs h
+near_sum_fits b own n None hs h = h
 
 crease_sum_fits : (r : CreaseRule) (own : ℕ) (n : V3) (hs : List Hit) → T (fits3 n) → T (fits3 (crease_sum r own n hs))
 unfolding crease_sum
@@ -96,24 +96,24 @@ pub record Sound (v : V3) : Type 0 where
   pub fit : T (fits3 v)
   pub long : T (usable (vlen v))
 
-unit_long : (a w : V3) → unit_of a ≡ Of w → T (usable (vlen a))
+unit_long : (a w : V3) → unit_of a ≡ Some w → T (usable (vlen a))
 unfolding unit_of
 unit_long a w e = go (usable (vlen a)) e
   where
-    go : (b : Bool) → cond b (Of (vscale a (div binary32 one_f (vlen a)))) Nothing ≡ Of w → T b
+    go : (b : Bool) → cond b (Some (vscale a (div binary32 one_f (vlen a)))) None ≡ Some w → T b
     go true e = tt
     go false e = absurd (let z : ◌≡◌ {A = ℕ} 0 1 = cc in omega arith)
 
-unit_usable : (a u : V3) → T (fits3 a) → unit_of a ≡ Of u → Sound u
+unit_usable : (a u : V3) → T (fits3 a) → unit_of a ≡ Some u → Sound u
 unit_usable a u h e = let again = unit_again a u h e in record { fit = again.0; long = unit_long u again.1.0 again.1.1 }
 
 up_usable : Sound y_axis
 up_usable = record { fit = words_fit 0 0x3f80_0000 0; long = unit_long y_axis y_axis unit_up }
 
-else_usable : (o : Unit) (d : V3) → ((u : V3) → o ≡ Of u → Sound u) → Sound d → Sound (or_else o d)
+else_usable : (o : (Option V3)) (d : V3) → ((u : V3) → o ≡ Some u → Sound u) → Sound d → Sound (or_else o d)
 unfolding or_else
-else_usable (Of u) d h k = h u refl
-else_usable Nothing d h k = k
+else_usable (Some u) d h k = h u refl
+else_usable None d h k = k
 
 pub generated_usable : (F : Frame) (fs : List Face) (num : ℕ) (f : Face) (p : ℕ) → Sound (generated F fs num f p)
 unfolding generated
@@ -143,6 +143,6 @@ pub mend_usable : (n : Words3) (other : V3) → Usable n → mend_by (unit_of (f
 unfolding mend_by unit_of
 mend_usable n other u = go (usable (vlen (floats n))) u
   where
-    go : (b : Bool) → T b → mend_by (cond b (Of (vscale (floats n) (div binary32 one_f (vlen (floats n))))) Nothing) n other ≡ renorm n
+    go : (b : Bool) → T b → mend_by (cond b (Some (vscale (floats n) (div binary32 one_f (vlen (floats n))))) None) n other ≡ renorm n
     go true t = refl
     go false t = absurd t

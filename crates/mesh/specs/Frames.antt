@@ -3,8 +3,8 @@
 use Rattle.std.specs.Prelude.{ℕ, zero, suc, ◌+◌, ◌-◌, Bool, ◌&&◌, ◌||◌, cond, List, eqb, ltb, length, get_or}
 use Rattle.std.specs.Float.Ieee.{lt, eq, neg}
 use Rattle.math.specs.declared.vector.V3.{V3}
-use Rattle.math.specs.declared.vector.Unit.{Unit}
-use Rattle.math.specs.declared.vector.Unit.TheVariants.{Of, Nothing}
+use Rattle.std.specs.Prelude.{Option}
+use Rattle.std.specs.Prelude.{Some, None}
 use Rattle.math.specs.declared.quaternion.Quat.{Quat}
 use Rattle.math.specs.Vector.{zero_f, one_f, v3, x_axis, y_axis, vsub, vscale, vdot, vcross, unit_of}
 use Rattle.math.specs.Quaternion.{rotated, between}
@@ -28,17 +28,17 @@ abbrev pub axes : V3 → V3 → V3 → Axes
 axes x y z = record { x = x; y = y; z = z }
 
 -- FORMAT 8.4, Option::or: the first of two that is there
-abbrev pub or : Unit → Unit → Unit
-or (Of v) u = Of v
-or Nothing u = u
+abbrev pub or : (Option V3) → (Option V3) → (Option V3)
+or (Some v) u = Some v
+or None u = u
 
 -- FORMAT 8.4: the first that is there of f 0, f 1, .. f (n - 1)
-unfoldable pub first_of : (ℕ → Unit) → ℕ → Unit
-first_of f zero = Nothing
+unfoldable pub first_of : (ℕ → (Option V3)) → ℕ → (Option V3)
+first_of f zero = None
 first_of f (suc n) = or (first_of f n) (f n)
 
 -- FORMAT 8.4: the last of them, or s where none is there
-unfoldable pub last_of : Unit → (ℕ → Unit) → ℕ → Unit
+unfoldable pub last_of : (Option V3) → (ℕ → (Option V3)) → ℕ → (Option V3)
 last_of s f zero = s
 last_of s f (suc n) = or (f n) (last_of s f n)
 
@@ -71,48 +71,48 @@ abbrev pub along : List V3 → ℕ → ℕ → V3
 along sp n i = cond (is_end n i) (along_end sp n i) (step sp (i - 1) (i + 1))
 
 -- FORMAT 8.4: the Y axis that a point has of itself
-unfoldable pub y_own : List V3 → ℕ → Unit
+unfoldable pub y_own : List V3 → ℕ → (Option V3)
 y_own sp i = unit_of (along sp (length sp) i)
 
 -- FORMAT 8.4: the first of all
-unfoldable pub first_y : List V3 → Unit
+unfoldable pub first_y : List V3 → (Option V3)
 first_y sp = first_of (y_own sp) (length sp)
 
 -- FORMAT 8.4, extrusion_frames (ys): the Y axis of point i: the nearest one at the point or before it, else the first after it
-unfoldable pub y_at : List V3 → ℕ → Unit
+unfoldable pub y_at : List V3 → ℕ → (Option V3)
 y_at sp i = last_of (first_y sp) (y_own sp) (suc i)
 
 -- FORMAT 8.4: the normal of the plane of a point and its neighbours a and b
-unfoldable pub bend : List V3 → ℕ → ℕ → ℕ → Unit
+unfoldable pub bend : List V3 → ℕ → ℕ → ℕ → (Option V3)
 bend sp a i b = unit_of (vcross (step sp i b) (step sp i a))
 
 -- FORMAT 8.4: at the ends of a closed spine the neighbours are across the seam; an open end has what the point next to it has
-unfoldable pub z_end : List V3 → ℕ → ℕ → Unit
+unfoldable pub z_end : List V3 → ℕ → ℕ → (Option V3)
 z_end sp n i =
     cond (closed sp) (bend sp (n - 2) 0 1)
-    (cond (ltb 2 n) (cond (eqb i 0) (bend sp 0 1 2) (bend sp (n - 3) (n - 2) (n - 1))) Nothing)
+    (cond (ltb 2 n) (cond (eqb i 0) (bend sp 0 1 2) (bend sp (n - 3) (n - 2) (n - 1))) None)
 
 -- FORMAT 8.4, extrusion_frames (zs): the Z axis of a point, an open end having its neighbour's; none where the points are in a line
-unfoldable pub z_own : List V3 → ℕ → Unit
+unfoldable pub z_own : List V3 → ℕ → (Option V3)
 z_own sp i = cond (is_end (length sp) i) (z_end sp (length sp) i) (bend sp (i - 1) i (i + 1))
 
 -- FORMAT 8.4, extrusion_frames (first): the first of all
-unfoldable pub first_z : List V3 → Unit
+unfoldable pub first_z : List V3 → (Option V3)
 first_z sp = first_of (z_own sp) (length sp)
 
 -- FORMAT 8.4: z, turned over where it points against the one used before it
-abbrev pub turned : Unit → V3 → V3
-turned (Of p) z = cond (lt (vdot z p) zero_f) (vscale z (neg one_f)) z
-turned Nothing z = z
+abbrev pub turned : (Option V3) → V3 → V3
+turned (Some p) z = cond (lt (vdot z p) zero_f) (vscale z (neg one_f)) z
+turned None z = z
 
 -- FORMAT 8.4, extrusion_frames (z): the Z axis used at a point, by the first of all, the one used before, and the point's own
-unfoldable pub pick_z : Unit → Unit → Unit → V3
+unfoldable pub pick_z : (Option V3) → (Option V3) → (Option V3) → V3
 pick_z first prev z = turned prev (or_else (or (or z prev) first) z_axis)
 
 -- FORMAT 8.4, extrusion_frames (prev): the Z axis used before point i
-unfoldable pub prev_z : List V3 → ℕ → Unit
-prev_z sp zero = Nothing
-prev_z sp (suc i) = Of (pick_z (first_z sp) (prev_z sp i) (z_own sp i))
+unfoldable pub prev_z : List V3 → ℕ → (Option V3)
+prev_z sp zero = None
+prev_z sp (suc i) = Some (pick_z (first_z sp) (prev_z sp i) (z_own sp i))
 
 -- FORMAT 8.4: z straightened against y
 unfoldable pub upright : V3 → V3 → V3
@@ -127,13 +127,13 @@ abbrev pub turned_by : Quat → Axes
 turned_by q = axes (rotated q x_axis) (rotated q y_axis) (rotated q z_axis)
 
 -- FORMAT 8.4, extrusion_frames (frame): all points in a line: the axes turned so that Y goes along it
-unfoldable pub straight : Unit → Axes
+unfoldable pub straight : (Option V3) → Axes
 straight y = turned_by (between y_axis (or_else y y_axis))
 
 -- FORMAT 8.4: by the first Z axis of all, where there is one; else one frame for all
-abbrev pub axes_by : Unit → Unit → Unit → V3 → Axes
-axes_by (Of f) y₀ y z = bent (or_else y y_axis) z
-axes_by Nothing y₀ y z = straight y₀
+abbrev pub axes_by : (Option V3) → (Option V3) → (Option V3) → V3 → Axes
+axes_by (Some f) y₀ y z = bent (or_else y y_axis) z
+axes_by None y₀ y z = straight y₀
 
 -- FORMAT 8.4: the axes at point i
 unfoldable pub axes_at : List V3 → ℕ → Axes

@@ -4,8 +4,8 @@ use Rattle.std.specs.Float.{binary32}
 use Rattle.std.specs.Float.Ieee.{of_bits, sub, lt}
 use Rattle.bits.specs.declared.Words3.{Words3}
 use Rattle.math.specs.declared.vector.V3.{V3}
-use Rattle.math.specs.declared.vector.Unit.{Unit}
-use Rattle.math.specs.declared.vector.Unit.TheVariants.{Of, Nothing}
+use Rattle.std.specs.Prelude.{Option}
+use Rattle.std.specs.Prelude.{Some, None}
 use Rattle.math.specs.Vector.{one_f, y_axis, vsub, vcross, vlen, usable, unit_of}
 use Rattle.math.specs.Order.{magnitude}
 use Rattle.polygon.specs.Points.{spot}
@@ -23,9 +23,9 @@ abbrev pub visible : Float
 visible = of_bits binary32 0x3727_c5ac
 
 -- FORMAT 10.3, unwrap_or
-unfoldable pub or_words : Unit → Words3 → Words3
-or_words (Of u) other = bits u
-or_words Nothing other = other
+unfoldable pub or_words : (Option V3) → Words3 → Words3
+or_words (Some u) other = bits u
+or_words None other = other
 
 -- FORMAT 10.3, fix_zero_normals (renorm)
 unfoldable pub renorm : Words3 → Words3
@@ -38,7 +38,7 @@ unfoldable pub vertex_spot : Frame → List Key → ℕ → V3
 vertex_spot F vs v = spot F.points (get_or vs v no_key).point
 
 -- FORMAT 10.3, fix_zero_normals (fn_)
-unfoldable pub tri_normal : V3 → V3 → V3 → Unit
+unfoldable pub tri_normal : V3 → V3 → V3 → (Option V3)
 tri_normal a b c = unit_of (vcross (vsub b a) (vsub c a))
 
 -- FORMAT 10.3, fix_zero_normals (face_n): the normal of the first triangle that has one and uses vertex v, else (0, 1, 0)
@@ -52,9 +52,9 @@ first_normal F vs v (a ∷ b ∷ c ∷ is) =
     cond (eqb a v || (eqb b v || eqb c v)) here rest
 
 -- FORMAT 10.3, fix_zero_normals: a normal that can be scaled stays or is scaled, any other is replaced
-unfoldable pub mend_by : Unit → Words3 → V3 → Words3
-mend_by (Of u) n other = renorm n
-mend_by Nothing n other = bits other
+unfoldable pub mend_by : (Option V3) → Words3 → V3 → Words3
+mend_by (Some u) n other = renorm n
+mend_by None n other = bits other
 
 -- FORMAT 10.3, fix_zero_normals: the normal of vertex v, whose key is k, in a mesh of these vertices and indices
 unfoldable pub mended : Frame → List Key → List ℕ → ℕ → Key → Words3

@@ -3,8 +3,8 @@ use Rattle.std.specs.Prelude.{Bool, false, cond, List, [], ◌∷◌, ℕ, eqb, 
 use Rattle.std.specs.Float.Ieee.{lt}
 use Rattle.bits.specs.declared.Words3.{Words3}
 use Rattle.math.specs.declared.vector.V3.{V3}
-use Rattle.math.specs.declared.vector.Unit.{Unit}
-use Rattle.math.specs.declared.vector.Unit.TheVariants.{Of, Nothing}
+use Rattle.std.specs.Prelude.{Option}
+use Rattle.std.specs.Prelude.{Some, None}
 use Rattle.math.specs.Vector.{v3, zero_f, y_axis, vadd, vdot, unit_of}
 use Rattle.polygon.specs.Points.{spots}
 use Rattle.polygon.specs.Facing.{newell}
@@ -47,12 +47,12 @@ sum_all s [] = s
 sum_all s (h ∷ hs) = sum_all (vadd s h.normal) hs
 
 -- FORMAT 10.2, generate_normals: whether the cosine is above the bound; never for a face without a unit normal
-unfoldable pub is_near : Float → V3 → Unit → Bool
-is_near b u Nothing = false
-is_near b u (Of v) = lt b (vdot u v)
+unfoldable pub is_near : Float → V3 → (Option V3) → Bool
+is_near b u None = false
+is_near b u (Some v) = lt b (vdot u v)
 
 -- FORMAT 10.2, generate_normals: one face more, numbered g, with the unit normal k and the facing normal n; the face numbered `own` is left out
-unfoldable pub near_by : Float → ℕ → V3 → ℕ → Unit → V3 → V3 → V3
+unfoldable pub near_by : Float → ℕ → V3 → ℕ → (Option V3) → V3 → V3 → V3
 near_by b own u g k s n = let more = cond (is_near b u k) (vadd s n) s in cond (eqb g own) s more
 
 unfoldable pub near_step : Float → ℕ → V3 → V3 → Hit → V3
@@ -64,9 +64,9 @@ sum_near b own u s [] = s
 sum_near b own u s (h ∷ hs) = sum_near b own u (near_step b own u s h) hs
 
 -- FORMAT 10.2: a face without a unit normal looks at no other
-unfoldable pub near_sum : Float → ℕ → V3 → Unit → List Hit → V3
-near_sum b own n Nothing hs = n
-near_sum b own n (Of u) hs = sum_near b own u n hs
+unfoldable pub near_sum : Float → ℕ → V3 → (Option V3) → List Hit → V3
+near_sum b own n None hs = n
+near_sum b own n (Some u) hs = sum_near b own u n hs
 
 -- FORMAT 10.2, generate_normals: the sum at a corner of the face numbered `own`, whose facing normal is n; ISO/IEC 14772-1, 4.6.3.5
 unfoldable pub crease_sum : CreaseRule → ℕ → V3 → List Hit → V3
@@ -75,9 +75,9 @@ crease_sum Every own n hs = sum_all (v3 zero_f zero_f zero_f) hs
 crease_sum (Bound b) own n hs = near_sum b own n (unit_of n) hs
 
 -- FORMAT 9.3, unwrap_or
-unfoldable pub or_else : Unit → V3 → V3
-or_else (Of u) other = u
-or_else Nothing other = other
+unfoldable pub or_else : (Option V3) → V3 → V3
+or_else (Some u) other = u
+or_else None other = other
 
 -- FORMAT 10.2, generate_normals: the sum scaled; else the face's own unit normal; else (0, 1, 0)
 unfoldable pub generated : Frame → List Face → ℕ → Face → ℕ → V3

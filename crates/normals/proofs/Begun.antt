@@ -9,8 +9,8 @@ use lib.Dec.{eqb}
 use lib.ListN.{length}
 use lib.Ieee.{Float}
 use Rattle.math.specs.declared.vector.V3.{V3}
-use Rattle.math.specs.declared.vector.Unit.{Unit}
-use Rattle.math.specs.declared.vector.Unit.TheVariants.{Of, Nothing}
+use Rattle.std.specs.Prelude.{Option}
+use Rattle.std.specs.Prelude.{Some, None}
 use Rattle.math.specs.Vector.{y_axis, unit_of}
 use Rattle.block.specs.declared.crease.CreaseRule.{CreaseRule}
 use Rattle.block.specs.declared.crease.CreaseRule.TheVariants.{Bound}
@@ -25,16 +25,16 @@ use Rattle.normals.proofs.Fills.{spread_none, spread_step, made_length}
 use Rattle.normals.proofs.Floats.{summed_put}
 
 module _ (w : List ℕ) (t : Plan) (c own p : ℕ) (eo : own ≡ owner_in w t c) where
-  module _ (b : Float) (k : Unit) (h : k ≡ unit_of (normal_in w t own)) where
-    pub sum_some : (u r : V3) → p ≡ gather_in w t c → k ≡ Of u → r ≡ sum_near b own u (normal_in w t own) (hits_at w t p) → r ≡ corner_sum_in w t (Bound b) c
+  module _ (b : Float) (k : (Option V3)) (h : k ≡ unit_of (normal_in w t own)) where
+    pub sum_some : (u r : V3) → p ≡ gather_in w t c → k ≡ Some u → r ≡ sum_near b own u (normal_in w t own) (hits_at w t p) → r ≡ corner_sum_in w t (Bound b) c
     unfolding corner_sum_in crease_sum near_sum
     sum_some u r ep i q = rw (← eo, ← ep, ← h, i) q
 
-    pub sum_none : (r : V3) → k ≡ Nothing → r ≡ normal_in w t own → r ≡ corner_sum_in w t (Bound b) c
+    pub sum_none : (r : V3) → k ≡ None → r ≡ normal_in w t own → r ≡ corner_sum_in w t (Bound b) c
     unfolding corner_sum_in crease_sum near_sum
     sum_none r i q = rw (← eo, ← h, i) q
 
-  pub normal_is : (rule : CreaseRule) (s : Unit) (v : V3) → s ≡ unit_of (corner_sum_in w t rule c) → v ≡ or_else s (or_else (unit_of (normal_in w t own)) y_axis) → v ≡ corner_normal_in w t rule c
+  pub normal_is : (rule : CreaseRule) (s : (Option V3)) (v : V3) → s ≡ unit_of (corner_sum_in w t rule c) → v ≡ or_else s (or_else (unit_of (normal_in w t own)) y_axis) → v ≡ corner_normal_in w t rule c
   unfolding corner_normal_in normal_at corner_sum_in
   normal_is rule s v es ev = ev ∙ λ i. or_else (es i) (or_else (unit_of (normal_in w t (eo i))) y_axis)
 

@@ -10,8 +10,8 @@ use lib.Dec.{eqb}
 use lib.ListN.{length, get_or}
 use lib.Ieee.{Float, nan, inf, fin, binary32, add, mul, lt}
 use Rattle.math.specs.declared.vector.V3.{V3}
-use Rattle.math.specs.declared.vector.Unit.{Unit}
-use Rattle.math.specs.declared.vector.Unit.TheVariants.{Of, Nothing}
+use Rattle.std.specs.Prelude.{Option}
+use Rattle.std.specs.Prelude.{Some, None}
 use Rattle.math.specs.Vector.{v3, vadd, vdot}
 use Rattle.block.specs.declared.crease.CreaseRule.{CreaseRule}
 use Rattle.mesh.specs.Normals.{is_near, near_by, or_else}
@@ -40,10 +40,10 @@ far : (b : Float) (u : V3) → lt b (vdot u no_unit) ≡ false
 unfolding add
 far b u = rw (mul_nan u.x) (lt_nan b)
 
-pub near_mirrored : (b : Float) (own : ℕ) (u : V3) (g : ℕ) (k : Unit) (s n : V3) → near_by b own u g (Of (or_else k no_unit)) s n ≡ near_by b own u g k s n
+pub near_mirrored : (b : Float) (own : ℕ) (u : V3) (g : ℕ) (k : (Option V3)) (s n : V3) → near_by b own u g (Some (or_else k no_unit)) s n ≡ near_by b own u g k s n
 unfolding near_by is_near or_else
-near_mirrored b own u g (Of v) s n = refl
-near_mirrored b own u g Nothing s n = ap (λ (r : Bool). cond (eqb g own) s (cond r (vadd s n) s)) (far b u)
+near_mirrored b own u g (Some v) s n = refl
+near_mirrored b own u g None s n = ap (λ (r : Bool). cond (eqb g own) s (cond r (vadd s n) s)) (far b u)
 
 -- ---- a vector put at a
 
@@ -71,7 +71,7 @@ pub mirror_none : {d : List Float} {w : List ℕ} {t : Plan} → 3 * t.count + 6
 mirror_none r = record { room = r; normal = λ g b. absurd (not-suc-le-zero b); unit = λ g b. absurd (not-suc-le-zero b) }
 
 -- a turn of the loop
-pub mirror_next : (d : List Float) {d₁ d₂ : List Float} {w : List ℕ} {t : Plan} (g a : ℕ) (n u : V3) (k : Unit) → Mirrored d w t g → a ≡ 3 * t.count + 6 * g → g < t.faces
+pub mirror_next : (d : List Float) {d₁ d₂ : List Float} {w : List ℕ} {t : Plan} (g a : ℕ) (n u : V3) (k : (Option V3)) → Mirrored d w t g → a ≡ 3 * t.count + 6 * g → g < t.faces
     → n ≡ normal_in w t g → k ≡ unit_in w t g → u ≡ or_else k no_unit → d₁ ≡ spliced d a (three n) → d₂ ≡ spliced d₁ (a + 3) (three u)
     → Mirrored d₂ w t (g + 1)
 mirror_next d {d₁} {d₂} {w} {t} g a n u k M ea h en ek eu e₁ e₂ =
@@ -92,7 +92,7 @@ mirror_next d {d₁} {d₂} {w} {t} g a n u k M ea h en ek eu e₁ e₂ =
       unit = λ i b. ⊎_elim
           (λ (q : i ≡ g).
           let at : 3 * t.count + 6 * i + 3 ≡ a + 3 = omega arith in
-          ap (vector d₂) at ∙ vector_put d₁ (a + 3) u e₂ h₂ ∙ eu ∙ ap (λ (x : Unit). or_else x no_unit) (ek ∙ ap (unit_in w t) (sym q)))
+          ap (vector d₂) at ∙ vector_put d₁ (a + 3) u e₂ h₂ ∙ eu ∙ ap (λ (x : (Option V3)). or_else x no_unit) (ek ∙ ap (unit_in w t) (sym q)))
           (λ (q : i < g).
           vector_out d₁ (a + 3) u e₂ h₂ (3 * t.count + 6 * i + 3) (inl (omega arith)) ∙ vector_out d a n e₁ h₁ (3 * t.count + 6 * i + 3) (inl (omega arith)) ∙ M.unit i q)
           (last_or i g b);

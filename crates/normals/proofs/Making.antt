@@ -11,8 +11,8 @@ use lib.ListN.{length, get_or, set, length-set}
 use lib.Ieee.{Float, binary32, of_bits, to_bits, fits}
 use lib.Ieee.Bits.{of_bits-to_bits}
 use Rattle.math.specs.declared.vector.V3.{V3}
-use Rattle.math.specs.declared.vector.Unit.{Unit}
-use Rattle.math.specs.declared.vector.Unit.TheVariants.{Of, Nothing}
+use Rattle.std.specs.Prelude.{Option}
+use Rattle.std.specs.Prelude.{Some, None}
 use Rattle.math.specs.Vector.{v3, unit_of}
 use Rattle.block.specs.declared.crease.CreaseRule.TheVariants.{Own}
 use Rattle.polygon.specs.Points.{spots}
@@ -40,7 +40,7 @@ module _ {b : ℕ} {v w : List ℕ} (K : Kept b v w) where
 
   pub unit_kept : (a : ℕ) → a + 4 ≤ b → unit_at w a ≡ unit_at v a
   unfolding unit_at
-  unit_kept a h = λ i. cond (eqb (kept_at K a (omega arith) i) 0) Nothing (Of (at3_kept (a + 1) (omega arith) i))
+  unit_kept a h = λ i. cond (eqb (kept_at K a (omega arith) i) 0) None (Some (at3_kept (a + 1) (omega arith) i))
 
   module _ (t : Plan) where
     pub normal_kept : (g : ℕ) → t.rows + 7 * g + 3 ≤ b → normal_in w t g ≡ normal_in v t g
@@ -141,21 +141,21 @@ stored w a x y z v h fx fy fz ex ey ez =
 
 -- ---- a unit vector, and a row
 
-module _ (w : List ℕ) (a : ℕ) (k : Unit) (h : a + 4 ≤ length w) where
-  pub unit_some : (w' : List ℕ) (u : V3) → Kept (a + 1) (set w a 1) w' → at3 w' (a + 1) ≡ u → k ≡ Of u → Kept a w w' × (unit_at w' a ≡ k)
+module _ (w : List ℕ) (a : ℕ) (k : (Option V3)) (h : a + 4 ≤ length w) where
+  pub unit_some : (w' : List ℕ) (u : V3) → Kept (a + 1) (set w a 1) w' → at3 w' (a + 1) ≡ u → k ≡ Some u → Kept a w w' × (unit_at w' a ≡ k)
   unfolding unit_at
   unit_some w' u L f g =
       let M : Kept a w (set w a 1) = kept_set a 1 kept_all (omega arith) in
       let one : get_or w' a 0 ≡ 1 = kept_at L a (omega arith) ∙ set_hit w a 1 a (omega arith) refl in
       (kept_then M L (omega arith), rw (one, f) (sym g))
 
-  pub unit_none : k ≡ Nothing → Kept a w (set w a 0) × (unit_at (set w a 0) a ≡ k)
+  pub unit_none : k ≡ None → Kept a w (set w a 0) × (unit_at (set w a 0) a ≡ k)
   unfolding unit_at
   unit_none g =
       let nul : get_or (set w a 0) a 0 ≡ 0 = set_hit w a 0 a (omega arith) refl in
       (kept_set a 0 kept_all (omega arith), rw nul (sym g))
 
-pub row_made : (w w₁ w₂ : List ℕ) (a : ℕ) (v : V3) (k : Unit) → Kept a w w₁ → at3 w₁ a ≡ v → k ≡ unit_of v → Kept (a + 3) w₁ w₂ → unit_at w₂ (a + 3) ≡ k
+pub row_made : (w w₁ w₂ : List ℕ) (a : ℕ) (v : V3) (k : (Option V3)) → Kept a w w₁ → at3 w₁ a ≡ v → k ≡ unit_of v → Kept (a + 3) w₁ w₂ → unit_at w₂ (a + 3) ≡ k
     → Kept a w w₂ × (at3 w₂ a ≡ v) × (unit_at w₂ (a + 3) ≡ unit_of v)
 row_made w w₁ w₂ a v k K e ek L f = (kept_then K L (omega arith), at3_kept L a (omega arith) ∙ e, f ∙ ek)
 

@@ -10,7 +10,7 @@ use lib.Dec.{eqb}
 use lib.ListN.{length}
 use lib.Ieee.{Float}
 use Rattle.math.specs.declared.vector.V3.{V3}
-use Rattle.math.specs.declared.vector.Unit.{Unit}
+use Rattle.std.specs.Prelude.{Option}
 use Rattle.math.specs.Vector.{v3, zero_f, unit_of}
 use Rattle.block.specs.declared.crease.CreaseRule.{CreaseRule}
 use Rattle.block.specs.declared.crease.CreaseRule.TheVariants.{Own, Every, Bound}
@@ -74,7 +74,7 @@ module _ {v w : List ℕ} {t : Plan} (K : Kept t.sums v w) (R : Ready v t) where
       }
 
   -- one sum more
-  pub sums_next : {w' : List ℕ} (p : ℕ) (s : V3) (k : Unit) → SummedTo v w t p → s ≡ sum_all (v3 zero_f zero_f zero_f) (hits_at w t p) → k ≡ unit_of s
+  pub sums_next : {w' : List ℕ} (p : ℕ) (s : V3) (k : (Option V3)) → SummedTo v w t p → s ≡ sum_all (v3 zero_f zero_f zero_f) (hits_at w t p) → k ≡ unit_of s
       → Kept (t.sums + 4 * p) w w' → unit_at w' (t.sums + 4 * p) ≡ k → Kept t.sums v w' × SummedTo v w' t (p + 1)
   unfolding sum_in
   sums_next {w'} p s k S es ek L f = (
@@ -107,7 +107,7 @@ unfolding is_every
 sums_bound rule b e M = record { every = λ f. absurd (true≢false (sym f ∙ ap is_every e)); bound = λ f. M }
 
 -- a sum read, and the rows
-pub sums_read : {w : List ℕ} {t : Plan} {d : List Float} (rule : CreaseRule) (p : ℕ) (k : Unit) → Summed w t rule d → rule ≡ Every → p < t.spots → k ≡ sum_in w t p → k ≡ every_at w t p
+pub sums_read : {w : List ℕ} {t : Plan} {d : List Float} (rule : CreaseRule) (p : ℕ) (k : (Option V3)) → Summed w t rule d → rule ≡ Every → p < t.spots → k ≡ sum_in w t p → k ≡ every_at w t p
 unfolding is_every
 sums_read rule p k S e h q = q ∙ (S.every (ap is_every e)).at p h
 

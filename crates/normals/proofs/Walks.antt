@@ -6,8 +6,8 @@ use native.Mathlib.Omega.{arith}
 use lib.ListN.{length, get_or, take, drop, drop_of_length-le}
 use lib.Ieee.{Float}
 use Rattle.math.specs.declared.vector.V3.{V3}
-use Rattle.math.specs.declared.vector.Unit.{Unit}
-use Rattle.math.specs.declared.vector.Unit.TheVariants.{Of}
+use Rattle.std.specs.Prelude.{Option}
+use Rattle.std.specs.Prelude.{Some}
 use Rattle.math.specs.Vector.{vadd, unit_of}
 use Rattle.mesh.specs.Normals.{Hit, sum_all, sum_near, near_by, near_step, or_else}
 use Rattle.tables.specs.declared.layout.Plan.{Plan}
@@ -89,13 +89,13 @@ module _ (w : List ℕ) (t : Plan) (x g : ℕ) (s r : V3) (e : g ≡ x) where
   unfolding sum_all
   all_one n en er hs = ap (λ (k : V3). sum_all k hs) (sym (er ∙ ap (vadd s) (en ∙ ap (normal_in w t) e)))
 
-  pub near_one_lem : (b : Float) (own : ℕ) (u v n : V3) → Ready w t → g < t.faces → v ≡ or_else (unit_in w t g) no_unit → n ≡ normal_in w t g → r ≡ near_by b own u g (Of v) s n
+  pub near_one_lem : (b : Float) (own : ℕ) (u v n : V3) → Ready w t → g < t.faces → v ≡ or_else (unit_in w t g) no_unit → n ≡ normal_in w t g → r ≡ near_by b own u g (Some v) s n
       → (hs : List Hit) → sum_near b own u s (hit_of w t x ∷ hs) ≡ sum_near b own u r hs
   unfolding sum_near near_step
   near_one_lem b own u v n R i ev en er hs =
       ap (λ (k : V3). sum_near b own u k hs)
-      (sym (er ∙ (λ z. near_by b own u g (Of (ev z)) s (en z)) ∙ near_mirrored b own u g (unit_in w t g) s (normal_in w t g)
-      ∙ ap (λ (k : Unit). near_by b own u g k s (normal_in w t g)) (R.units g i)
+      (sym (er ∙ (λ z. near_by b own u g (Some (ev z)) s (en z)) ∙ near_mirrored b own u g (unit_in w t g) s (normal_in w t g)
+      ∙ ap (λ (k : (Option V3)). near_by b own u g k s (normal_in w t g)) (R.units g i)
       ∙ ap (λ (k : ℕ). near_by b own u k (unit_of (normal_in w t k)) s (normal_in w t k)) e))
 
 pub all_none : (s : V3) → sum_all s [] ≡ s

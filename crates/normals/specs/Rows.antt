@@ -3,8 +3,8 @@ use Rattle.std.specs.Prelude.{◌≡◌, Bool, true, false, cond, List, map, ℕ
 use Rattle.std.specs.Float.{nan, binary32}
 use Rattle.std.specs.Float.Ieee.{of_bits}
 use Rattle.math.specs.declared.vector.V3.{V3}
-use Rattle.math.specs.declared.vector.Unit.{Unit}
-use Rattle.math.specs.declared.vector.Unit.TheVariants.{Of, Nothing}
+use Rattle.std.specs.Prelude.{Option}
+use Rattle.std.specs.Prelude.{Some, None}
 use Rattle.math.specs.Vector.{v3, zero_f, unit_of}
 use Rattle.block.specs.declared.crease.CreaseRule.{CreaseRule}
 use Rattle.block.specs.declared.crease.CreaseRule.TheVariants.{Own, Every, Bound}
@@ -20,14 +20,14 @@ unfoldable pub at3 : List ℕ → ℕ → V3
 at3 w a = v3 (of_bits binary32 (get_or w a 0)) (of_bits binary32 (get_or w (a + 1) 0)) (of_bits binary32 (get_or w (a + 2) 0))
 
 -- four words: 0 for no unit vector, or 1 and the vector
-unfoldable pub unit_at : List ℕ → ℕ → Unit
-unit_at w a = cond (eqb (get_or w a 0) 0) Nothing (Of (at3 w (a + 1)))
+unfoldable pub unit_at : List ℕ → ℕ → (Option V3)
+unit_at w a = cond (eqb (get_or w a 0) 0) None (Some (at3 w (a + 1)))
 
 -- a face's row of seven words: its facing normal, and its unit vector
 unfoldable pub normal_in : List ℕ → Plan → ℕ → V3
 normal_in w t g = at3 w (t.rows + 7 * g)
 
-unfoldable pub unit_in : List ℕ → Plan → ℕ → Unit
+unfoldable pub unit_in : List ℕ → Plan → ℕ → (Option V3)
 unit_in w t g = unit_at w (t.rows + 7 * g + 3)
 
 -- FORMAT 10.1: the facing normal of kept face g, by the points and corners in w
@@ -73,10 +73,10 @@ pub record Ready (w : List ℕ) (t : Plan) : Type 0 where
   pub units : (g : ℕ) → g < t.faces → unit_in w t g ≡ unit_of (normal_in w t g)
 
 -- FORMAT 10.2, generate_normals (every face): the unit vector of the sum at p, and the words that it is kept in
-abbrev pub every_at : List ℕ → Plan → ℕ → Unit
+abbrev pub every_at : List ℕ → Plan → ℕ → (Option V3)
 every_at w t p = unit_of (sum_all (v3 zero_f zero_f zero_f) (hits_at w t p))
 
-unfoldable pub sum_in : List ℕ → Plan → ℕ → Unit
+unfoldable pub sum_in : List ℕ → Plan → ℕ → (Option V3)
 sum_in w t p = unit_at w (t.sums + 4 * p)
 
 -- of the first n numbers it is kept, by the words v

@@ -6,7 +6,7 @@ ghost use Rattle.tables.specs.Soups.{Sound};
 ghost use Rattle.normals.specs.Rows.{at3, unit_at, facing_in, OwnedTo, Rowed, Onward};
 
 use crate::vectors::{store_unit, store3};
-use math::{Unit, V3};
+use math::V3;
 use tables::{Plan, fill, narrow, stretch_of};
 
 // Each corner's face.
@@ -37,7 +37,7 @@ fn face_normal(work: &[u32], t: Plan, ccw: bool, g: usize) -> V3
 }
 
 // A face's row: its facing normal v, and its unit vector k.
-fn put_row(work: &mut [u32], a: usize, v: V3, k: Unit)
+fn put_row(work: &mut [u32], a: usize, v: V3, k: Option<V3>)
     requires { (a + 7 ≤ length work.old) × (k ≡ unit_of v) }
     ensures { Kept a work.old work.new × (at3 work.new a ≡ v) × (unit_at work.new (a + 3) ≡ unit_of v) }
 {

@@ -11,7 +11,7 @@ ghost use Rattle.normals.specs.Written.{again, corner_sum_in, corner_normal_in, 
 use crate::sums::{corner_normal, normal_by, sum_near};
 use crate::vectors::{load, load_unit, put3};
 use block::{CornerNumber, CreaseRule};
-use math::{Unit, V3};
+use math::V3;
 use tables::{Plan, gather_of, owner_of};
 
 // The sum at corner c under the cosine rule.
@@ -22,10 +22,10 @@ fn sum_at(work: &[u32], t: Plan, floats: &[f32], c: CornerNumber, bound: f32) ->
     let p = gather_of(work, t, c);
     let own = owner_of(work, t, c);
     match load_unit(work, t.rows + 7 * own + 3) {
-        Unit::Of(u) => {
+        Some(u) => {
             return sum_near(work, t, floats, p, own, u, bound);
         }
-        Unit::Nothing => {
+        None => {
             return load(work, t.rows + 7 * own);
         }
     }
@@ -68,7 +68,7 @@ fn sum_after(
 }
 
 // The normal of corner c, whose sum has the unit vector s.
-fn put_normal(work: &[u32], t: Plan, bound: f32, floats: &mut [f32], c: CornerNumber, s: Unit)
+fn put_normal(work: &[u32], t: Plan, bound: f32, floats: &mut [f32], c: CornerNumber, s: Option<V3>)
     requires { Ready work.now t × (c.0 < t.count) × (3 * t.count ≤ length floats.old) × (s ≡ unit_of (corner_sum_in work.now t (Bound bound) c.0)) }
     ensures { (floats.new ≡ spliced floats.old (3 * c.0) (three (corner_normal_in work.now t (Bound bound) c.0))) × (length floats.new ≡ length floats.old) }
 {

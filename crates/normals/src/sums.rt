@@ -1,6 +1,6 @@
 // FORMAT 10.2, generate_normals: the unit vector of the sum of facing normals at a corner by the crease rule, and the corner's normal.
 ghost use Rattle.std.specs.Prelude.{◌≡◌, map, ℕ, ◌+◌, ◌≤◌, ◌<◌, length};
-ghost use Rattle.math.specs.declared.vector.Unit.TheVariants.{Of};
+ghost use Rattle.std.specs.Prelude.{Some};
 ghost use Rattle.math.specs.Vector.{y_axis, unit_of};
 ghost use Rattle.lists.specs.Loops.{All};
 ghost use Rattle.mesh.specs.Normals.{near_by, sum_near, crease_sum, or_else};
@@ -10,7 +10,7 @@ ghost use Rattle.normals.specs.Written.{normal_at};
 use crate::groups::{end_at, start_at};
 use crate::vectors::{get3, load_unit, or_else};
 use block::{CreaseRule, PointNumber};
-use math::{Unit, V3};
+use math::V3;
 use tables::{Plan, wide};
 
 // s, and the normal of face g where g is another face than own and its unit vector is near to u. A face without one has a row that is near to nothing.
@@ -78,8 +78,8 @@ fn crease_unit(
     p: PointNumber,
     own: usize,
     rule: CreaseRule,
-    k: Unit,
-) -> Unit
+    k: Option<V3>,
+) -> Option<V3>
     requires { Ready work.now t × Summed work.now t rule floats.now × (p.0 < t.spots) × (own < t.faces) × (k ≡ unit_of (normal_in work.now t own)) }
     ensures { result ≡ unit_of (crease_sum rule own (normal_in work.now t own) (hits_at work.now t p.0)) }
 {
@@ -92,11 +92,11 @@ fn crease_unit(
         }
         CreaseRule::Bound(b) => {
             match k {
-                Unit::Of(u) => {
+                Some(u) => {
                     return math::normalize(sum_near(work, t, floats, p, own, u, b));
                 }
-                Unit::Nothing => {
-                    return Unit::Nothing;
+                None => {
+                    return None;
                 }
             }
         }
@@ -104,7 +104,7 @@ fn crease_unit(
 }
 
 // The normal of a corner of face own, whose sum has the unit vector s.
-pub fn normal_by(work: &[u32], t: Plan, own: usize, s: Unit) -> V3
+pub fn normal_by(work: &[u32], t: Plan, own: usize, s: Option<V3>) -> V3
     requires { Ready work.now t × (own < t.faces) }
     ensures { result ≡ or_else s (or_else (unit_of (normal_in work.now t own)) y_axis) }
 {

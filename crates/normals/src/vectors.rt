@@ -5,7 +5,7 @@ ghost use Rattle.mesh.specs.Normals.{or_else};
 ghost use Rattle.normals.specs.Rows.{at3, unit_at, vector};
 ghost use Rattle.normals.specs.Written.{three};
 
-use math::{Unit, V3};
+use math::V3;
 
 pub fn load(work: &[u32], a: usize) -> V3
     requires { a + 3 ≤ length work.now }
@@ -19,14 +19,14 @@ pub fn load(work: &[u32], a: usize) -> V3
 }
 
 // A flag word, since every pattern is a float.
-pub fn load_unit(work: &[u32], a: usize) -> Unit
+pub fn load_unit(work: &[u32], a: usize) -> Option<V3>
     requires { a + 4 ≤ length work.now }
     ensures { result ≡ unit_at work.now a }
 {
     if work[a] == 0 {
-        return Unit::Nothing;
+        return None;
     }
-    Unit::Of(load(work, a + 1))
+    Some(load(work, a + 1))
 }
 
 pub fn store3(work: &mut [u32], a: usize, v: V3)
@@ -39,17 +39,17 @@ pub fn store3(work: &mut [u32], a: usize, v: V3)
 }
 
 // As `load_unit` reads it.
-pub fn store_unit(work: &mut [u32], a: usize, k: Unit)
+pub fn store_unit(work: &mut [u32], a: usize, k: Option<V3>)
     requires { a + 4 ≤ length work.old }
     ensures { Kept a work.old work.new × (unit_at work.new a ≡ k) }
 {
     match k {
-        Unit::Of(u) => {
+        Some(u) => {
             work[a] = 1;
             store3(work, a + 1, u);
             return;
         }
-        Unit::Nothing => {
+        None => {
             work[a] = 0;
             return;
         }
@@ -76,14 +76,14 @@ pub fn get3(part: &[f32], a: usize) -> V3
     }
 }
 
-pub fn or_else(k: Unit, other: V3) -> V3
+pub fn or_else(k: Option<V3>, other: V3) -> V3
     ensures { result ≡ or_else k other }
 {
     match k {
-        Unit::Of(u) => {
+        Some(u) => {
             return u;
         }
-        Unit::Nothing => {
+        None => {
             return other;
         }
     }

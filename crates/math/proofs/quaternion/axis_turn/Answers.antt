@@ -8,13 +8,13 @@ returns-in_default c = rw (c.identity.ensures, ← c.normalize.ensures, c.in_def
 pub returns-then-is_finite-2 : goal.returns-then-is_finite-2
 unfolding axis_turn
 returns-then-is_finite-2 c =
-    rw (← c.normalize.ensures, c.in-Of.is, ← c.is_finite.ensures, c.if-is_finite.true, ← c.is_finite-then-is_finite.ensures, c.if-is_finite-2.true)
+    rw (← c.normalize.ensures, c.in-Some.is, ← c.is_finite.ensures, c.if-is_finite.true, ← c.is_finite-then-is_finite.ensures, c.if-is_finite-2.true)
 
 pub returns-then-is_finite : goal.returns-then-is_finite
 unfolding axis_turn
 returns-then-is_finite c =
-    rw (c.identity-then-is_finite.ensures, ← c.normalize.ensures, c.in-Of.is, ← c.is_finite.ensures, c.if-is_finite.true, ← c.is_finite-then-is_finite.ensures, c.if-is_finite-2.false)
+    rw (c.identity-then-is_finite.ensures, ← c.normalize.ensures, c.in-Some.is, ← c.is_finite.ensures, c.if-is_finite.true, ← c.is_finite-then-is_finite.ensures, c.if-is_finite-2.false)
 
 pub returns : goal.returns
 unfolding axis_turn
-returns c = rw (c.identity-2.ensures, ← c.normalize.ensures, c.in-Of.is, ← c.is_finite.ensures, c.if-is_finite.false)
+returns c = rw (c.identity-2.ensures, ← c.normalize.ensures, c.in-Some.is, ← c.is_finite.ensures, c.if-is_finite.false)

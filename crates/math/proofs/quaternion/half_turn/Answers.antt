@@ -10,4 +10,4 @@ returns-in_default c = ap half_about (sym c.in_default.is ∙ c.normalize.ensure
 pub returns : goal.returns
 unfolding half_turn
 returns c =
-    ap half_about (sym c.in-Of.is ∙ c.normalize.ensures ∙ ap unit_of (c.cross.ensures ∙ ap (vcross c.args.f) c.other_axis.ensures))
+    ap half_about (sym c.in-Some.is ∙ c.normalize.ensures ∙ ap unit_of (c.cross.ensures ∙ ap (vcross c.args.f) c.other_axis.ensures))

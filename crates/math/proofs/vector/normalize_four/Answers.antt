@@ -1,13 +1,13 @@
 use mathlib.Core.Path.{◌≡◌, ◌∙◌, ap}
 use lib.Ieee.{Float}
 use Rattle.math.specs.declared.vector.V3.{V3}
-use Rattle.math.specs.declared.vector.Unit.{Unit}
+use Rattle.std.specs.Prelude.{Option}
 use Rattle.math.specs.SquareRoot.{root_of}
 use Rattle.math.specs.Vector.{vdot, unit_by, unit_of, vlen}
 use Rattle.math.proofs.vector.normalize_four.Goals as goal
 
 -- the unit vector, from the root of the square of the length
-unit : (a : V3) (s l : Float) (k : Unit) → s ≡ vdot a a → l ≡ root_of s → k ≡ unit_by l a → k ≡ unit_of a
+unit : (a : V3) (s l : Float) (k : (Option V3)) → s ≡ vdot a a → l ≡ root_of s → k ≡ unit_by l a → k ≡ unit_of a
 unfolding unit_of vlen
 unit a s l k e r h = h ∙ ap (λ (x : Float). unit_by x a) (r ∙ ap root_of e)
 

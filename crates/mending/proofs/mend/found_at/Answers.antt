@@ -10,4 +10,4 @@ returns-in_default c = c.straight_up-in_default.ensures ∙ ap (λ w. or_else w 
 
 pub returns : goal.returns
 unfolding or_else
-returns c = ap (λ w. or_else w y_axis) (sym c.in-Of.is) ∙ sym (found_is _ _ _ c.args.k _ c.if-k-eq0.false c.triangle_normal.ensures)
+returns c = ap (λ w. or_else w y_axis) (sym c.in-Some.is) ∙ sym (found_is _ _ _ c.args.k _ c.if-k-eq0.false c.triangle_normal.ensures)

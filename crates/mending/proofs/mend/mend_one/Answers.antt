@@ -15,4 +15,4 @@ returns-in_default c = (
 
 pub returns : goal.returns
 returns c =
-    (mend_scaled _ _ _ _ _ _ c.floats_of-n.ensures c.len-l.ensures (sym c.unit_by.ensures ∙ c.in-Of.is) c.scaled.ensures, c.requires.3)
+    (mend_scaled _ _ _ _ _ _ c.floats_of-n.ensures c.len-l.ensures (sym c.unit_by.ensures ∙ c.in-Some.is) c.scaled.ensures, c.requires.3)

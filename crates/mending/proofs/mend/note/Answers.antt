@@ -7,4 +7,4 @@ returns-in_default c = rw (← c.triangle_normal.ensures, c.in_default.is)
 
 pub returns : goal.returns
 unfolding noted
-returns c = rw (c.mark_all.ensures, ← c.triangle_normal.ensures, c.in-Of.is)
+returns c = rw (c.mark_all.ensures, ← c.triangle_normal.ensures, c.in-Some.is)

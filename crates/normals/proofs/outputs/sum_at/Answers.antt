@@ -27,23 +27,23 @@ pub sum_near-requires : goal.sum_near-requires
 sum_near-requires c =
     (c.requires.0, rw c.gather_of-p.ensures (c.requires.0.gathers _ c.requires.2), rw c.owner_of-own.ensures (c.requires.0.owned _ c.requires.2), c.requires.1)
 
-pub returns-in-Of : goal.returns-in-Of
+pub returns-in-Some : goal.returns-in-Some
 unfolding unit_in
-returns-in-Of c =
+returns-in-Some c =
     let o : c.owner_of-own.result < c.args.t.faces = rw c.owner_of-own.ensures (c.requires.0.owned _ c.requires.2) in
-    sum_some _ _ _ _ _ c.owner_of-own.ensures _ _ (c.load_unit.ensures ∙ c.requires.0.units _ o) _ _ c.gather_of-p.ensures c.in-Of.is c.sum_near.ensures
+    sum_some _ _ _ _ _ c.owner_of-own.ensures _ _ (c.load_unit.ensures ∙ c.requires.0.units _ o) _ _ c.gather_of-p.ensures c.in-Some.is c.sum_near.ensures
 
-pub overflow_mul-own-in-Nothing : goal.overflow_mul-own-in-Nothing
-overflow_mul-own-in-Nothing c = let R = c.requires.0.room in let o = c.requires.0.owned _ c.requires.2 in omega (arith, o, c.owner_of-own.ensures)
+pub overflow_mul-own-in-None : goal.overflow_mul-own-in-None
+overflow_mul-own-in-None c = let R = c.requires.0.room in let o = c.requires.0.owned _ c.requires.2 in omega (arith, o, c.owner_of-own.ensures)
 
-pub overflow_add-t-in-Nothing : goal.overflow_add-t-in-Nothing
-overflow_add-t-in-Nothing c = let R = c.requires.0.room in let o = c.requires.0.owned _ c.requires.2 in omega (arith, o, c.owner_of-own.ensures)
+pub overflow_add-t-in-None : goal.overflow_add-t-in-None
+overflow_add-t-in-None c = let R = c.requires.0.room in let o = c.requires.0.owned _ c.requires.2 in omega (arith, o, c.owner_of-own.ensures)
 
 pub load-requires : goal.load-requires
 load-requires c = let R = c.requires.0.room in let o = c.requires.0.owned _ c.requires.2 in omega (arith, o, c.owner_of-own.ensures)
 
-pub returns-in-Nothing : goal.returns-in-Nothing
+pub returns-in-None : goal.returns-in-None
 unfolding unit_in normal_in
-returns-in-Nothing c =
+returns-in-None c =
     let o : c.owner_of-own.result < c.args.t.faces = rw c.owner_of-own.ensures (c.requires.0.owned _ c.requires.2) in
-    sum_none _ _ _ _ 0 c.owner_of-own.ensures _ _ (c.load_unit.ensures ∙ c.requires.0.units _ o) _ c.in-Nothing.is c.load.ensures
+    sum_none _ _ _ _ 0 c.owner_of-own.ensures _ _ (c.load_unit.ensures ∙ c.requires.0.units _ o) _ c.in-None.is c.load.ensures

@@ -1,6 +1,6 @@
 use native.Mathlib.Omega.{arith}
 use mathlib.Core.Path.{ap, ◌∙◌}
-use Rattle.math.specs.declared.vector.Unit.{Unit}
+use Rattle.std.specs.Prelude.{Option}
 use Rattle.math.specs.Vector.{y_axis}
 use Rattle.mesh.specs.Normals.{or_else}
 use Rattle.normals.specs.Rows.{unit_in}
@@ -21,4 +21,4 @@ load_unit-requires c = let R = c.requires.0.room in omega (arith, c.requires.1)
 pub returns : goal.returns
 unfolding unit_in
 returns c =
-    c.or_else-2.ensures ∙ ap (or_else c.args.s) (c.or_else.ensures ∙ ap (λ (q : Unit). or_else q y_axis) (c.load_unit.ensures ∙ c.requires.0.units _ c.requires.1))
+    c.or_else-2.ensures ∙ ap (or_else c.args.s) (c.or_else.ensures ∙ ap (λ (q : (Option V3)). or_else q y_axis) (c.load_unit.ensures ∙ c.requires.0.units _ c.requires.1))

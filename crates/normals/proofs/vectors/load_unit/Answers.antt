@@ -1,6 +1,6 @@
 use mathlib.Core.Path.{ap}
 use borrow.Author.Tests.{eq-eqb, ne_eqb}
-use Rattle.math.specs.declared.vector.Unit.TheVariants.{Of}
+use Rattle.std.specs.Prelude.{Some}
 use Rattle.normals.specs.Rows.{unit_at}
 use Rattle.normals.proofs.vectors.load_unit.Goals as goal
 
@@ -10,4 +10,4 @@ returns-then-work-a-eq0 c = rw (eq-eqb _ _ c.if-work-a-eq0.true)
 
 pub returns : goal.returns
 unfolding unit_at
-returns c = rw (ne_eqb _ _ c.if-work-a-eq0.false) (ap Of c.load.ensures)
+returns c = rw (ne_eqb _ _ c.if-work-a-eq0.false) (ap Some c.load.ensures)

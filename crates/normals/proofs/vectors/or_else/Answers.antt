@@ -1,10 +1,10 @@
 use Rattle.mesh.specs.Normals.{or_else}
 use Rattle.normals.proofs.vectors.or_else.Goals as goal
 
-pub returns-in-Of : goal.returns-in-Of
+pub returns-in-Some : goal.returns-in-Some
 unfolding or_else
-returns-in-Of c = rw c.in-Of.is
+returns-in-Some c = rw c.in-Some.is
 
-pub returns-in-Nothing : goal.returns-in-Nothing
+pub returns-in-None : goal.returns-in-None
 unfolding or_else
-returns-in-Nothing c = rw c.in-Nothing.is
+returns-in-None c = rw c.in-None.is

@@ -7,12 +7,12 @@ use Rattle.normals.proofs.vectors.store_unit.Goals as goal
 pub store3-requires : goal.store3-requires
 store3-requires c = simp length-set (omega arith)
 
-pub shape_of-work-in-Of : goal.shape_of-work-in-Of
-shape_of-work-in-Of c = c.store3.ensures.0.len ∙ simp length-set refl
+pub shape_of-work-in-Some : goal.shape_of-work-in-Some
+shape_of-work-in-Some c = c.store3.ensures.0.len ∙ simp length-set refl
 
-pub returns-in-Of : goal.returns-in-Of
-returns-in-Of c =
-    unit_some _ _ _ c.requires _ _ c.store3.ensures.0 c.store3.ensures.1 c.in-Of.is
+pub returns-in-Some : goal.returns-in-Some
+returns-in-Some c =
+    unit_some _ _ _ c.requires _ _ c.store3.ensures.0 c.store3.ensures.1 c.in-Some.is
 
-pub returns-in-Nothing : goal.returns-in-Nothing
-returns-in-Nothing c = unit_none _ _ _ c.requires c.in-Nothing.is
+pub returns-in-None : goal.returns-in-None
+returns-in-None c = unit_none _ _ _ c.requires c.in-None.is
