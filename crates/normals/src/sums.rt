@@ -16,7 +16,7 @@ use tables::{Plan, wide};
 // s, and the normal of face g where g is another face than own and its unit vector is near to u. A face without one has a row that is near to nothing.
 fn near_step(floats: &[f32], row: usize, g: usize, own: usize, u: V3, bound: f32, s: V3) -> V3
     requires { row + 6 ≤ length floats.now }
-    ensures { result ≡ near_by bound own u g (Of (vector floats.now (row + 3))) s (vector floats.now row) }
+    ensures { result ≡ near_by bound own u g (Some (vector floats.now (row + 3))) s (vector floats.now row) }
 {
     let v = get3(floats, row + 3);
     if math::dot(u, v) > bound {

@@ -1,3 +1,4 @@
+use Rattle.math.specs.declared.vector.V3.{V3}
 use native.Mathlib.Omega.{arith}
 use mathlib.Core.Path.{ap, ◌∙◌}
 use Rattle.std.specs.Prelude.{Option}
