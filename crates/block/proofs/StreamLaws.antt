@@ -3,15 +3,14 @@ use Prim.Native.Nat.{ℕ, zero, suc, ◌-◌, ◌/◌, ◌^◌, ◌≤◌, ◌<�
 use mathlib.Core.Path.{◌≡◌, refl, sym, ap, ◌∙◌}
 use mathlib.Core.Bool.{Bool, true, false, cond}
 use mathlib.Core.List.{List, [], ◌∷◌}
-use mathlib.Core.Option.{Option, none, some}
 use borrow.Author.Tests.{lt-ltb, le-ltb, eq-eqb, ne_eqb, leb-false, ltb-false}
 use native.Mathlib.Omega.{arith}
 use lib.Dec.{eqb, ltb, leb, leb-suc-suc, eqb-suc-zero}
 use lib.IntN.{ℤ, pos, negsuc}
-use lib.ListN.{length, get_or, get_elem?}
+use lib.ListN.{length, get_or}
 use Rattle.bits.specs.Bits.{entries}
 use Rattle.bits.proofs.Entries.{entries_length}
-use Rattle.block.specs.declared.value.Found.TheVariants.{At, Missing}
+use Rattle.std.specs.Prelude.{Option, Some, None, slice_get}
 use Rattle.block.specs.Value.{count_of, value_at}
 use Rattle.block.specs.Stream.{is_negative, chosen, itself, entry_at, number_in, number_at, signed, index_get, through, stream_index, found_of, value_get, stream_get, listed, values_of, or_else, Corner, indexed, bare}
 
@@ -30,11 +29,11 @@ module _ (own coord : List ℕ) where
 
 module _ (list : List ℕ) (k : ℕ) where
   module _ (e : length list / 4 ≡ 0) where
-    pub itself_fits : k < 2 ^ 32 → At k ≡ number_in list k
+    pub itself_fits : k < 2 ^ 32 → Some k ≡ number_in list k
     unfolding number_in itself
     itself_fits h = rw (entries_length, eq-eqb _ _ e, lt-ltb k (2 ^ 32) h)
 
-    pub itself_large : 2 ^ 32 ≤ k → Missing ≡ number_in list k
+    pub itself_large : 2 ^ 32 ≤ k → None ≡ number_in list k
     unfolding number_in itself
     itself_large h = rw (entries_length, eq-eqb _ _ e, le-ltb k (2 ^ 32) h)
 
@@ -43,35 +42,35 @@ module _ (list : List ℕ) (k : ℕ) where
     unfolding number_in
     listed_in = rw (ne_eqb (length (entries list)) 0 (λ z. n (sym (entries_length list) ∙ z)))
 
-    pub entry_past : length list / 4 ≤ k → Missing ≡ number_in list k
+    pub entry_past : length list / 4 ≤ k → None ≡ number_in list k
     unfolding entry_at
     entry_past h = rw (← listed_in, entries_length, le-ltb _ _ h)
 
     module _ (w : ℕ) (h : k < length list / 4) (e : w ≡ get_or (entries list) k 0) (t : Bool) (q : t ≡ is_negative w) where
-      pub entry_negative : t ≡ true → Missing ≡ number_in list k
+      pub entry_negative : t ≡ true → None ≡ number_in list k
       unfolding entry_at
       entry_negative p = rw (← listed_in, entries_length, lt-ltb _ _ h, ← e, ← q, p)
 
-      pub entry_found : t ≡ false → At w ≡ number_in list k
+      pub entry_found : t ≡ false → Some w ≡ number_in list k
       unfolding entry_at
       entry_found p = rw (← listed_in, entries_length, lt-ltb _ _ h, ← e, ← q, p)
 
 -- ---- Stream::get
 
 -- a number that is not negative fits a u32
-fits_itself : (w : ℕ) → is_negative w ≡ false → At w ≡ itself w
+fits_itself : (w : ℕ) → is_negative w ≡ false → Some w ≡ itself w
 unfolding is_negative itself
 fits_itself w e = let h : w < 0x8000_0000 = leb-false 0x8000_0000 w e in rw (lt-ltb w (2 ^ 32) (omega arith))
 
-signed_found : (w : ℕ) → cond (is_negative w) Missing (At w) ≡ found_of (some (signed w))
+signed_found : (w : ℕ) → cond (is_negative w) None (Some w) ≡ found_of (Some (signed w))
 unfolding signed is_negative
 signed_found w = go (leb 0x8000_0000 w) refl
   where
-    go : (b : Bool) → leb 0x8000_0000 w ≡ b → cond b Missing (At w) ≡ found_of (some (cond b (negsuc (0xffff_ffff - w)) (pos w)))
+    go : (b : Bool) → leb 0x8000_0000 w ≡ b → cond b None (Some w) ≡ found_of (Some (cond b (negsuc (0xffff_ffff - w)) (pos w)))
     go true e = refl
     go false e = fits_itself w e
 
-entry_get : (ws : List ℕ) (k : ℕ) → entry_at ws k ≡ found_of (index_get (get_elem? ws k))
+entry_get : (ws : List ℕ) (k : ℕ) → entry_at ws k ≡ found_of (index_get (slice_get ws k))
 unfolding entry_at
 entry_get [] k = rw (le-ltb k 0 (omega arith))
 entry_get (w ∷ ws) zero = rw (lt-ltb 0 (suc (length ws)) (omega arith)) (signed_found w)
@@ -101,7 +100,7 @@ stream_number own coord true place face point at = go (entries own) refl
     go (w ∷ ws) e = rw (eqb-suc-zero, e, eqb-suc-zero) (entry_get (w ∷ ws) place)
 
 module _ {A : Type 0} where
-  listed_get : (n : ℕ) (f : ℕ → A) (k : ℕ) (missing : A) → cond (ltb k n) (f k) missing ≡ or_else (get_elem? (listed n f) k) missing
+  listed_get : (n : ℕ) (f : ℕ → A) (k : ℕ) (missing : A) → cond (ltb k n) (f k) missing ≡ or_else (slice_get (listed n f) k) missing
   unfolding listed
   listed_get zero f k missing = rw (le-ltb k 0 (omega arith))
   listed_get (suc n) f zero missing = rw (lt-ltb 0 (suc n) (omega arith))
@@ -110,11 +109,11 @@ module _ {A : Type 0} where
   module _ (made : ℕ → A) (w : ℕ) (values : List ℕ) (missing : A) (few : count_of w values ≤ 2 ^ 32) where
     value_get_lem : (z : Option ℤ) → value_at made w values (found_of z) missing ≡ or_else (value_get (values_of made w values) z) missing
     unfolding value_at itself
-    value_get_lem none = refl
-    value_get_lem (some (negsuc n)) = refl
-    value_get_lem (some (pos n)) = go (ltb n (2 ^ 32)) refl
+    value_get_lem None = refl
+    value_get_lem (Some (negsuc n)) = refl
+    value_get_lem (Some (pos n)) = go (ltb n (2 ^ 32)) refl
       where
-        go : (b : Bool) → ltb n (2 ^ 32) ≡ b → value_at made w values (cond b (At n) Missing) missing ≡ or_else (get_elem? (values_of made w values) n) missing
+        go : (b : Bool) → ltb n (2 ^ 32) ≡ b → value_at made w values (cond b (Some n) None) missing ≡ or_else (slice_get (values_of made w values) n) missing
         go true e = listed_get (count_of w values) made n missing
         go false e =
             let h : 2 ^ 32 ≤ n = ltb-false n (2 ^ 32) e in

@@ -5,20 +5,20 @@ use mathlib.Core.List.{List}
 use borrow.Author.Tests.{lt-ltb, le-ltb}
 use native.Mathlib.Nat.{add-zero}
 use Rattle.bits.specs.Bits.{word_at}
-use Rattle.block.specs.declared.value.Found.{Found}
-use Rattle.block.specs.declared.value.Found.TheVariants.{At, Missing}
+use Rattle.std.specs.Prelude.{Option}
+use Rattle.std.specs.Prelude.{Some, None}
 use Rattle.block.specs.Value.{count_of, value_word, value_at}
 
 module _ {A : Type 0} (made : ℕ → A) (w : ℕ) (values : List ℕ) (missing : A) where
-  pub value_there : (f : Found) (n k : ℕ) (r : A) → f ≡ At n → k ≡ n → k < count_of w values → r ≡ made k → r ≡ value_at made w values f missing
+  pub value_there : (f : (Option ℕ)) (n k : ℕ) (r : A) → f ≡ Some n → k ≡ n → k < count_of w values → r ≡ made k → r ≡ value_at made w values f missing
   unfolding value_at
   value_there f n k r e q h p = rw (e, ← q, lt-ltb k (count_of w values) h, p)
 
-  pub value_past : (f : Found) (n k : ℕ) → f ≡ At n → k ≡ n → count_of w values ≤ k → missing ≡ value_at made w values f missing
+  pub value_past : (f : (Option ℕ)) (n k : ℕ) → f ≡ Some n → k ≡ n → count_of w values ≤ k → missing ≡ value_at made w values f missing
   unfolding value_at
   value_past f n k e q h = rw (e, ← q, le-ltb k (count_of w values) h)
 
-  pub value_missing : (f : Found) → f ≡ Missing → missing ≡ value_at made w values f missing
+  pub value_missing : (f : (Option ℕ)) → f ≡ None → missing ≡ value_at made w values f missing
   unfolding value_at
   value_missing f e = rw e
 

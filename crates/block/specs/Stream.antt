@@ -1,15 +1,11 @@
 -- Which value of an attribute a corner reads. FORMAT 7.1.
-use Rattle.std.specs.Prelude.{ℕ, ◌+◌, zero, suc, ◌-◌, ◌^◌, ◌<◌, ◌≡◌, Bool, false, cond, List, [], ◌∷◌, eqb, leb, ltb, ℤ, pos, negsuc, length, get_or, take, drop}
-use Rattle.std.proofs.Math.Option.{Option, none, some}
-use Rattle.std.proofs.Math.ListN.{get_elem?}
+use Rattle.std.specs.Prelude.{ℕ, ◌+◌, zero, suc, ◌-◌, ◌^◌, ◌<◌, ◌≡◌, Bool, false, cond, List, [], ◌∷◌, eqb, leb, ltb, ℤ, pos, negsuc, length, get_or, slice_get, take, drop, Option, Some, None}
 use Rattle.bits.specs.Bits.{entries}
 use Rattle.bits.specs.declared.Words2.{Words2}
 use Rattle.bits.specs.declared.Words3.{Words3}
 use Rattle.bits.specs.declared.Words4.{Words4}
 use Rattle.block.specs.Kind.{is_indexed}
 use Rattle.block.specs.declared.kind.Kind.{Kind}
-use Rattle.block.specs.declared.value.Found.{Found}
-use Rattle.block.specs.declared.value.Found.TheVariants.{At, Missing}
 use Rattle.block.specs.declared.stream.Stream.{Stream}
 use Rattle.block.specs.declared.header.Header.{Header}
 use Rattle.block.specs.Extents.{place_of}
@@ -39,19 +35,19 @@ unfoldable pub chosen : List ℕ → List ℕ → List ℕ
 chosen own coord = cond (eqb (length (entries own)) 0) coord own
 
 -- the number k, where a u32 holds it: no list of values is longer
-unfoldable pub itself : ℕ → Found
-itself k = cond (ltb k (2 ^ 32)) (At k) Missing
+unfoldable pub itself : ℕ → Option ℕ
+itself k = cond (ltb k (2 ^ 32)) (Some k) None
 
 -- entry k, where there is one and it is not negative
-unfoldable pub entry_at : List ℕ → ℕ → Found
-entry_at ws k = cond (ltb k (length ws)) (cond (is_negative (get_or ws k 0)) Missing (At (get_or ws k 0))) Missing
+unfoldable pub entry_at : List ℕ → ℕ → Option ℕ
+entry_at ws k = cond (ltb k (length ws)) (cond (is_negative (get_or ws k 0)) None (Some (get_or ws k 0))) None
 
 -- FORMAT 7.1: the number at place k of a list or, where the list is empty, k itself
-unfoldable pub number_in : List ℕ → ℕ → Found
+unfoldable pub number_in : List ℕ → ℕ → Option ℕ
 number_in list k = cond (eqb (length (entries list)) 0) (itself k) (entry_at (entries list) k)
 
 -- FORMAT 7.1: the number of the value that a corner reads, by its place in coordIndex or by its face
-unfoldable pub number_at : List ℕ → List ℕ → Bool → ℕ → ℕ → Found
+unfoldable pub number_at : List ℕ → List ℕ → Bool → ℕ → ℕ → Option ℕ
 number_at own coord perVertex place face = cond perVertex (number_in (chosen own coord) place) (number_in own face)
 
 -- the bytes of the attribute's values, and of its own index list
@@ -62,7 +58,7 @@ abbrev pub index_in : List ℕ → Stream → List ℕ
 index_in bs s = take s.index_len (drop s.index_at bs)
 
 -- FORMAT 7.1: the number that a corner reads in a block
-abbrev pub found_at : List ℕ → List ℕ → Stream → ℕ → ℕ → Found
+abbrev pub found_at : List ℕ → List ℕ → Stream → ℕ → ℕ → Option ℕ
 found_at bs coord s place face = number_at (index_in bs s) coord s.per_vertex place face
 
 -- FORMAT 7.1 and 7.2: the value that a corner reads
@@ -83,29 +79,29 @@ signed w = cond (leb 0x8000_0000 w) (negsuc (0xffff_ffff - w)) (pos w)
 
 -- *index.get(k)? as i64
 abbrev pub index_get : Option ℕ → Option ℤ
-index_get none = none
-index_get (some w) = some (signed w)
+index_get None = None
+index_get (Some w) = Some (signed w)
 
 -- entry k of the index list or, where that is empty, the number in hand
 abbrev pub through : List ℕ → ℕ → ℕ → Option ℤ
-through [] k n = some (pos n)
-through (w ∷ ws) k n = index_get (get_elem? (w ∷ ws) k)
+through [] k n = Some (pos n)
+through (w ∷ ws) k n = index_get (slice_get (w ∷ ws) k)
 
 -- idx of Stream::get; `as i64` keeps a face number, which is below 2 ^ 63
 unfoldable pub stream_index : List ℕ → Bool → ℕ → ℕ → ℕ → Option ℤ
 stream_index index perVertex k face coord = cond perVertex (through index k coord) (through index face face)
 
 -- idx as the number of a value
-abbrev pub found_of : Option ℤ → Found
-found_of none = Missing
-found_of (some (negsuc n)) = Missing
-found_of (some (pos n)) = itself n
+abbrev pub found_of : Option ℤ → Option ℕ
+found_of None = None
+found_of (Some (negsuc n)) = None
+found_of (Some (pos n)) = itself n
 
 -- values.get(idx), and none where idx is negative
 abbrev pub value_get : {A : Type 0} → List A → Option ℤ → Option A
-value_get values none = none
-value_get values (some (negsuc n)) = none
-value_get values (some (pos n)) = get_elem? values n
+value_get values None = None
+value_get values (Some (negsuc n)) = None
+value_get values (Some (pos n)) = slice_get values n
 
 -- Stream::get: k is the place in coordIndex, and coord the entry there
 unfoldable pub stream_get : {A : Type 0} → List A → List ℕ → Bool → ℕ → ℕ → ℕ → Option A
@@ -122,8 +118,8 @@ values_of made w values = listed (count_of w values) made
 
 -- unwrap_or
 abbrev pub or_else : {A : Type 0} → Option A → A → A
-or_else none missing = missing
-or_else (some a) missing = a
+or_else None missing = missing
+or_else (Some a) missing = a
 
 -- the place and the point of a corner: coordIndex names the point at the place or, where there is no coordIndex (a grid), the place is the point's number
 pub data Corner (coord : List ℕ) (place point : ℕ) : Type 0 where

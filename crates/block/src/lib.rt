@@ -29,4 +29,4 @@ pub use stream::{
 };
 pub use texture::{Pair, TexTransform, uv};
 pub use topology::Topology;
-pub use value::{Found, value2, value3, value4};
+pub use value::{value2, value3, value4};

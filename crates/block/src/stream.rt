@@ -5,7 +5,7 @@ ghost use Rattle.block.specs.Stream.{index_bytes, stream_of, is_negative, chosen
 use crate::extents::list_place;
 use crate::header::Header;
 use crate::kind::{Kind, is_indexed};
-use crate::value::{Found, value2, value3, value4};
+use crate::value::{value2, value3, value4};
 use bits::{Words2, Words3, Words4};
 
 // An attribute of a block: where its values and its own index list lie, in bytes.
@@ -78,24 +78,24 @@ pub fn chosen_list<'a>(own: &'a [u8], coord: &'a [u8]) -> &'a [u8]
 }
 
 // The number at place `k` of a list, or `k` itself where the list is empty. What no u32 holds is beyond every list of values.
-fn number_in(list: &[u8], k: usize) -> Found
+fn number_in(list: &[u8], k: usize) -> Option<u32>
     ensures { result ≡ number_in list.now k }
 {
     let n = list.len() / 4;
     if n == 0 {
         if k < 0x1_0000_0000 {
-            return Found::At(k as u32);
+            return Some(k as u32);
         }
-        return Found::Missing;
+        return None;
     }
     if k < n {
         let w = bits::entry(list, k);
         if is_negative(w) {
-            return Found::Missing;
+            return None;
         }
-        return Found::At(w);
+        return Some(w);
     }
-    Found::Missing
+    None
 }
 
 // The number of the value that a corner reads, by its place in coordIndex or by its face.
@@ -105,7 +105,7 @@ pub fn number_at<'a>(
     per_vertex: bool,
     place: usize,
     face: usize,
-) -> Found
+) -> Option<u32>
     ensures { result ≡ number_at own.now coord.now per_vertex place face }
 {
     if per_vertex {
@@ -115,7 +115,7 @@ pub fn number_at<'a>(
 }
 
 // The same for an attribute of a block.
-fn found_at<'a>(block: &'a [u8], coord: &'a [u8], s: Stream, place: usize, face: usize) -> Found
+fn found_at<'a>(block: &'a [u8], coord: &'a [u8], s: Stream, place: usize, face: usize) -> Option<u32>
     ensures { result ≡ found_at block.now coord.now s place face }
 {
     number_at(

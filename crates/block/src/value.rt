@@ -1,15 +1,8 @@
 // What an attribute's list holds at a number (FORMAT 7.2). Words are the bits of f32, and are copied.
-ghost use Rattle.std.specs.Prelude.{◌≡◌, ◌<◌, ◌/◌, true, false, length};
+ghost use Rattle.std.specs.Prelude.{◌≡◌, ◌<◌, ◌/◌, true, false, length, Some};
 ghost use Rattle.block.specs.Value.{words3, value2_at, value3_at, value4_at};
 
 use bits::{Words2, Words3, Words4};
-
-// The number of the value to read, or that there is none.
-#[derive(Clone, Copy)]
-pub enum Found {
-    At(u32),
-    Missing,
-}
 
 const ONE: u32 = 0x3f80_0000;
 
@@ -19,10 +12,10 @@ fn wide(n: u32) -> usize
     n as usize
 }
 
-pub fn value2(values: &[u8], found: Found, missing: Words2) -> Words2
+pub fn value2(values: &[u8], found: Option<u32>, missing: Words2) -> Words2
     ensures { result ≡ value2_at values.now found missing }
 {
-    let Found::At(n) = found else {
+    let Some(n) = found else {
         return missing;
     };
     let k = wide(n);
@@ -47,10 +40,10 @@ fn three(values: &[u8], k: usize) -> Words3
     }
 }
 
-pub fn value3(values: &[u8], found: Found, missing: Words3) -> Words3
+pub fn value3(values: &[u8], found: Option<u32>, missing: Words3) -> Words3
     ensures { result ≡ value3_at values.now found missing }
 {
-    let Found::At(n) = found else {
+    let Some(n) = found else {
         return missing;
     };
     let k = wide(n);
@@ -62,7 +55,7 @@ pub fn value3(values: &[u8], found: Found, missing: Words3) -> Words3
 
 // A colour of 4 words.
 fn value_rgba(values: &[u8], n: u32, missing: Words4) -> Words4
-    ensures { result ≡ value4_at values.now true (Found.At n) missing }
+    ensures { result ≡ value4_at values.now true (Some n) missing }
 {
     let k = wide(n);
     if k < values.len() / 16 {
@@ -78,7 +71,7 @@ fn value_rgba(values: &[u8], n: u32, missing: Words4) -> Words4
 
 // A colour of 3 words, with alpha 1.
 fn value_rgb(values: &[u8], n: u32, missing: Words4) -> Words4
-    ensures { result ≡ value4_at values.now false (Found.At n) missing }
+    ensures { result ≡ value4_at values.now false (Some n) missing }
 {
     let k = wide(n);
     if k < values.len() / 12 {
@@ -93,10 +86,10 @@ fn value_rgb(values: &[u8], n: u32, missing: Words4) -> Words4
     missing
 }
 
-pub fn value4(values: &[u8], alpha: bool, found: Found, missing: Words4) -> Words4
+pub fn value4(values: &[u8], alpha: bool, found: Option<u32>, missing: Words4) -> Words4
     ensures { result ≡ value4_at values.now alpha found missing }
 {
-    let Found::At(n) = found else {
+    let Some(n) = found else {
         return missing;
     };
     if alpha {

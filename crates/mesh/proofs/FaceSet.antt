@@ -11,8 +11,8 @@ use lib.Dec.{eqb, ltb}
 use lib.ListN.{length, get_or, get_or-eq_default}
 use Rattle.bits.specs.Bits.{entries}
 use Rattle.bits.specs.declared.Words4.{Words4}
-use Rattle.block.specs.declared.value.Found.{Found}
-use Rattle.block.specs.declared.value.Found.TheVariants.{At, Missing}
+use Rattle.std.specs.Prelude.{Option}
+use Rattle.std.specs.Prelude.{Some, None}
 use Rattle.block.specs.Runs.{Run, runs, kept, corners, triangles, sum_over}
 use Rattle.block.specs.Stream.{is_negative, chosen, entry_at, number_in, number_at}
 use Rattle.block.specs.Value.{value2_at, value3_at, value4_at}
@@ -37,8 +37,8 @@ record Alike (x y : List ℕ) (k : ℕ) : Type 0 where
   in_y : k < length (entries y)
   same : get_or (entries x) k 0 ≡ get_or (entries y) k 0
 
-unfoldable numbered : ℕ → Found
-numbered e = cond (is_negative e) Missing (At e)
+unfoldable numbered : ℕ → (Option ℕ)
+numbered e = cond (is_negative e) None (Some e)
 
 number_there : (x : List ℕ) (k : ℕ) → k < length (entries x) → number_in x k ≡ numbered (get_or (entries x) k 0)
 unfolding number_in entry_at numbered
