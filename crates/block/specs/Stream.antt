@@ -9,7 +9,7 @@ use Rattle.block.specs.declared.kind.Kind.{Kind}
 use Rattle.block.specs.declared.stream.Stream.{Stream}
 use Rattle.block.specs.declared.header.Header.{Header}
 use Rattle.block.specs.Extents.{place_of}
-use Rattle.block.specs.Value.{count_of, value2_at, value3_at, value4_at}
+use Rattle.block.specs.Value.{count_of, words2, words3, value_at, value4_at}
 
 -- FORMAT 2.4: only sets have index lists
 abbrev pub index_bytes : Kind → ℕ → ℕ
@@ -61,12 +61,15 @@ index_in bs s = take s.index_len (drop s.index_at bs)
 abbrev pub found_at : List ℕ → List ℕ → Stream → ℕ → ℕ → Option ℕ
 found_at bs coord s place face = number_at (index_in bs s) coord s.per_vertex place face
 
--- FORMAT 7.1 and 7.2: the value that a corner reads
+-- FORMAT 7.1 and 7.2: the value that a corner reads, of w words, made by `made`
+abbrev pub get_at : {A : Type 0} → (List ℕ → ℕ → A) → ℕ → List ℕ → List ℕ → Stream → ℕ → ℕ → A → A
+get_at made w bs coord s place face missing = value_at (made (values_in bs s)) w (values_in bs s) (found_at bs coord s place face) missing
+
 abbrev pub get2_at : List ℕ → List ℕ → Stream → ℕ → ℕ → Words2 → Words2
-get2_at bs coord s place face missing = value2_at (values_in bs s) (found_at bs coord s place face) missing
+get2_at bs coord s place face missing = get_at words2 2 bs coord s place face missing
 
 abbrev pub get3_at : List ℕ → List ℕ → Stream → ℕ → ℕ → Words3 → Words3
-get3_at bs coord s place face missing = value3_at (values_in bs s) (found_at bs coord s place face) missing
+get3_at bs coord s place face missing = get_at words3 3 bs coord s place face missing
 
 abbrev pub get4_at : List ℕ → List ℕ → Stream → Bool → ℕ → ℕ → Words4 → Words4
 get4_at bs coord s alpha place face missing = value4_at (values_in bs s) alpha (found_at bs coord s place face) missing

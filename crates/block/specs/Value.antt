@@ -1,11 +1,11 @@
 -- What an attribute's list holds at a number. FORMAT 7.2.
-use Rattle.std.specs.Prelude.{ℕ, ◌+◌, ◌*◌, ◌/◌, Bool, true, false, cond, List, ltb, length}
+use Rattle.std.specs.Prelude.{ℕ, ◌+◌, ◌*◌, ◌/◌, Bool, true, false, cond, List, ltb, length, Option, Some, None}
 use Rattle.bits.specs.Bits.{word_at}
 use Rattle.bits.specs.declared.Words2.{Words2}
 use Rattle.bits.specs.declared.Words3.{Words3}
 use Rattle.bits.specs.declared.Words4.{Words4}
-use Rattle.std.specs.Prelude.{Option}
-use Rattle.std.specs.Prelude.{Some, None}
+use Rattle.block.specs.declared.value.Rgb.{Rgb}
+use Rattle.block.specs.declared.value.Rgba.{Rgba}
 
 -- how many values of w words a list of bytes holds
 abbrev pub count_of : ℕ → List ℕ → ℕ
@@ -16,7 +16,7 @@ abbrev pub value_word : ℕ → List ℕ → ℕ → ℕ → ℕ
 value_word w values n j = word_at values (4 * w * n + 4 * j)
 
 -- FORMAT 7.2: the value that `made` reads at the number found, or the missing one where the list has none there
-unfoldable pub value_at : {A : Type 0} → (ℕ → A) → ℕ → List ℕ → (Option ℕ) → A → A
+unfoldable pub value_at : {A : Type 0} → (ℕ → A) → ℕ → List ℕ → Option ℕ → A → A
 value_at made w values (Some n) missing = cond (ltb n (count_of w values)) (made n) missing
 value_at made w values None missing = missing
 
@@ -36,12 +36,19 @@ abbrev pub words4 : Bool → List ℕ → ℕ → Words4
 words4 true values n = record { r = value_word 4 values n 0; g = value_word 4 values n 1; b = value_word 4 values n 2; a = value_word 4 values n 3 }
 words4 false values n = opaque_of (words3 values n)
 
+-- the two colours as values of their own
+abbrev pub rgba : List ℕ → ℕ → Rgba
+rgba values n = record { 0 = words4 true values n }
+
+abbrev pub rgb : List ℕ → ℕ → Rgb
+rgb values n = record { 0 = words4 false values n }
+
 -- FORMAT 7.2: the read for each width
-abbrev pub value2_at : List ℕ → (Option ℕ) → Words2 → Words2
+abbrev pub value2_at : List ℕ → Option ℕ → Words2 → Words2
 value2_at values found missing = value_at (words2 values) 2 values found missing
 
-abbrev pub value3_at : List ℕ → (Option ℕ) → Words3 → Words3
+abbrev pub value3_at : List ℕ → Option ℕ → Words3 → Words3
 value3_at values found missing = value_at (words3 values) 3 values found missing
 
-abbrev pub value4_at : List ℕ → Bool → (Option ℕ) → Words4 → Words4
+abbrev pub value4_at : List ℕ → Bool → Option ℕ → Words4 → Words4
 value4_at values alpha found missing = value_at (words4 alpha values) (cond alpha 4 3) values found missing

@@ -25,8 +25,8 @@ pub use refusal::{Refusal, is_taken, number_of, refusal_of};
 pub use runs::{Totals, ends_run, face_totals, is_kept, next_start, point_at, run_at};
 pub use settings::{Settings, finite_transform, read_settings};
 pub use stream::{
-    Stream, chosen_list, color_stream, get2, get3, get4, normal_stream, number_at, texture_stream,
+    Stream, chosen_list, color_stream, get, get4, normal_stream, number_at, texture_stream,
 };
 pub use texture::{Pair, TexTransform, uv};
 pub use topology::Topology;
-pub use value::{value2, value3, value4};
+pub use value::{Rgb, Rgba, Value, value_or, value4};

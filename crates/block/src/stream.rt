@@ -1,12 +1,12 @@
 // Which value of an attribute a corner reads (FORMAT 7.1; Stream::get).
 ghost use Rattle.std.specs.Prelude.{◌≡◌, ◌<◌, true};
-ghost use Rattle.block.specs.Stream.{index_bytes, stream_of, is_negative, chosen, number_in, number_at, found_at, get2_at, get3_at, get4_at};
+ghost use Rattle.block.specs.Stream.{index_bytes, stream_of, is_negative, chosen, number_in, number_at, found_at, get_at, get4_at};
 
 use crate::extents::list_place;
 use crate::header::Header;
 use crate::kind::{Kind, is_indexed};
-use crate::value::{value2, value3, value4};
-use bits::{Words2, Words3, Words4};
+use crate::value::{Value, value_or, value4};
+use bits::Words4;
 
 // An attribute of a block: where its values and its own index list lie, in bytes.
 #[derive(Clone, Copy)]
@@ -127,35 +127,22 @@ fn found_at<'a>(block: &'a [u8], coord: &'a [u8], s: Stream, place: usize, face:
     )
 }
 
-// What an attribute of two, three or four words has at a corner.
-pub fn get2<'a>(
+// What an attribute has at a corner.
+pub fn get<'a, V: Value>(
     block: &'a [u8],
     coord: &'a [u8],
     s: Stream,
     place: usize,
     face: usize,
-    missing: Words2,
-) -> Words2
-    ensures { result ≡ get2_at block.now coord.now s place face missing }
+    missing: V,
+) -> V
+    ensures { result ≡ get_at V.made V.width block.now coord.now s place face missing }
 {
     let found = found_at(block, coord, s, place, face);
-    value2(bits::part(block, s.values_at, s.values_len), found, missing)
+    value_or(bits::part(block, s.values_at, s.values_len), found, missing)
 }
 
-pub fn get3<'a>(
-    block: &'a [u8],
-    coord: &'a [u8],
-    s: Stream,
-    place: usize,
-    face: usize,
-    missing: Words3,
-) -> Words3
-    ensures { result ≡ get3_at block.now coord.now s place face missing }
-{
-    let found = found_at(block, coord, s, place, face);
-    value3(bits::part(block, s.values_at, s.values_len), found, missing)
-}
-
+// A colour, of 4 words or of 3.
 pub fn get4<'a>(
     block: &'a [u8],
     coord: &'a [u8],

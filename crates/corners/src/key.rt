@@ -6,7 +6,7 @@ ghost use Rattle.corners.specs.Corner.{point_at, place_at, number_at, texture_at
 use crate::attributes::Attributes;
 use crate::laid::CornerTables;
 use bits::{Words2, Words3, Words4};
-use block::{CornerNumber, PointNumber, get3, get4};
+use block::{CornerNumber, PointNumber, get4};
 use tables::wide;
 
 pub fn point_of(work: &[u32], t: CornerTables, c: CornerNumber) -> PointNumber
@@ -72,7 +72,7 @@ fn normal_of<'a>(
         let place = place_of(work, t, c);
         let face = number_of(work, t, c);
         let none = Words3 { x: 0, y: 0, z: 0 };
-        return get3(block, coord, a.normals, place, face, none);
+        return block::get(block, coord, a.normals, place, face, none);
     }
     generated_of(floats, c)
 }

@@ -3,7 +3,7 @@ ghost use Rattle.std.specs.Prelude.{◌≡◌};
 ghost use Rattle.texture.specs.Corner.{texture_in};
 
 use bits::Words2;
-use block::{Header, Settings, get2, texture_stream, uv};
+use block::{Header, Settings, texture_stream, uv};
 
 // The listed texture point or, where no list is there, the default one; then the transform and 1 - t.
 pub fn corner_texture<'a>(
@@ -19,7 +19,7 @@ pub fn corner_texture<'a>(
     let x = s.transform;
     if h.texture_points {
         let none = Words2 { s: 0, t: 0 };
-        let listed = get2(block, coord, texture_stream(h), place, 0, none);
+        let listed = block::get(block, coord, texture_stream(h), place, 0, none);
         return uv(h.transformed, x, listed);
     }
     if h.need_uvs {

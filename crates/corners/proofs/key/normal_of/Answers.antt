@@ -3,7 +3,7 @@ use Rattle.corners.proofs.key.normal_of.Goals as goal
 
 pub returns-then-a : goal.returns-then-a
 unfolding normal_at
-returns-then-a c = rw (c.get3.ensures, c.place_of-place.ensures, c.number_of-face.ensures, c.if-a.true)
+returns-then-a c = rw (c.get.ensures, c.place_of-place.ensures, c.number_of-face.ensures, c.if-a.true)
 
 pub returns : goal.returns
 unfolding normal_at

@@ -3,7 +3,7 @@ use Rattle.texture.proofs.corner.corner_texture.Goals as goal
 
 pub returns-then-h : goal.returns-then-h
 unfolding texture_in
-returns-then-h c = rw (c.uv.ensures, c.get2-listed.ensures, c.texture_stream.ensures, c.if-h.true)
+returns-then-h c = rw (c.uv.ensures, c.get-listed.ensures, c.texture_stream.ensures, c.if-h.true)
 
 pub returns-then-h-2 : goal.returns-then-h-2
 unfolding texture_in
