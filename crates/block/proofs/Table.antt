@@ -17,7 +17,7 @@ use Rattle.block.proofs.RunLaws.{below_at}
 use Rattle.block.specs.Refusal.{number_of, Row, row, is_over_limit, is_other_length, is_by_point, is_other_attributes, block_rows, first_of, Taken}
 use Rattle.block.specs.declared.header.Header.{Header}
 use Rattle.block.specs.declared.refusal.Refusal.{Refusal}
-use Rattle.block.specs.declared.refusal.Refusal.TheVariants.{Stub, Edition, ZeroBits, ListLimit, Length, NoShape, Corners, Buffer, Attributes, Pairs, Nothing}
+use Rattle.block.specs.declared.refusal.Refusal.TheVariants.{Stub, Edition, ZeroBits, ListLimit, Length, NoShape, Corners, Buffer, Attributes, Pairs}
 
 -- ---- the number tells the answer
 unfoldable answer_of : ℕ → Refusal
@@ -30,8 +30,7 @@ answer_of n =
     (cond (eqb n 6) NoShape
     (cond (eqb n 7) Corners
     (cond (eqb n 8) Buffer
-    (cond (eqb n 9) Attributes
-    (cond (eqb n 10) Pairs Nothing)))))))))
+    (cond (eqb n 9) Attributes Pairs))))))))
 
 answer_of_number : (a : Refusal) → answer_of (number_of a) ≡ a
 unfolding answer_of
@@ -45,10 +44,22 @@ answer_of_number Corners = refl
 answer_of_number Buffer = refl
 answer_of_number Attributes = refl
 answer_of_number Pairs = refl
-answer_of_number Nothing = refl
 
 pub number_one_to_one : (a b : Refusal) → number_of a ≡ number_of b → a ≡ b
 number_one_to_one a b e = sym (answer_of_number a) ∙ ap answer_of e ∙ answer_of_number b
+
+-- no refusal has the number 0
+pub number_some : (a : Refusal) → number_of a ≡ 0 → ⊥
+number_some Stub z = omega arith
+number_some Edition z = omega arith
+number_some ZeroBits z = omega arith
+number_some ListLimit z = omega arith
+number_some Length z = omega arith
+number_some NoShape z = omega arith
+number_some Corners z = omega arith
+number_some Buffer z = omega arith
+number_some Attributes z = omega arith
+number_some Pairs z = omega arith
 
 -- ---- a row for each return
 -- what the first three rows leave
@@ -94,22 +105,18 @@ module _ (bs : List ℕ) (h : Header) where
       unfolding first_of
       row_none u v = rw (rest, t, eq-eqb _ _ u, v)
 
--- ---- the way back: where the number is 0 no condition holds, if each row answers something
+-- ---- the way back: where the number is 0 no condition holds
 abbrev pub NoneOf : List Row → Type 0
 NoneOf [] = Unit {0}
 NoneOf (r ∷ rs) = (r.holds ≡ false) × NoneOf rs
 
-abbrev pub Answered : List Row → Type 0
-Answered [] = Unit {0}
-Answered (r ∷ rs) = (number_of r.answer ≡ 0 → ⊥) × Answered rs
-
-pub none_of : (rs : List Row) → Answered rs → first_of rs ≡ 0 → NoneOf rs
+pub none_of : (rs : List Row) → first_of rs ≡ 0 → NoneOf rs
 unfolding first_of
-none_of [] a e = tt
-none_of (r ∷ rs) a e = go r.holds refl (λ z. none_of rs a.1 z) e
+none_of [] e = tt
+none_of (r ∷ rs) e = go r.holds refl (λ z. none_of rs z) e
   where
     go : (b : Bool) → r.holds ≡ b → (first_of rs ≡ 0 → NoneOf rs) → cond b (number_of r.answer) (first_of rs) ≡ 0 → (r.holds ≡ false) × NoneOf rs
-    go true q k z = absurd (a.0 z)
+    go true q k z = absurd (number_some r.answer z)
     go false q k z = (q, k z)
 
 -- what lies past the eight counts reads as 0
@@ -120,15 +127,10 @@ counts_within limit ns e k = go (ltb k (length ns)) refl
     go true q = omega (arith, below_at (suc limit) ns (subst T (sym e) tt) k (ltb-true k _ q))
     go false q = omega (arith, get_or-eq_default ns 0 {n = k} (ltb-false k _ q))
 
--- each of these rows answers something
-pub block_answered : (bs : List ℕ) (h : Header) → Answered (block_rows bs h)
-unfolding block_rows
-block_answered bs h = ((λ z. omega arith), ((λ z. omega arith), ((λ z. omega arith), ((λ z. omega arith), ((λ z. omega arith), ((λ z. omega arith), tt))))))
-
 pub taken_of : (bs : List ℕ) (h : Header) → first_of (block_rows bs h) ≡ 0 → Taken bs h
 unfolding block_rows
 taken_of bs h e =
-    let a = none_of (block_rows bs h) (block_answered bs h) e in
+    let a = none_of (block_rows bs h) e in
     record {
       whole = ltb-false (length bs) (header_bytes edition1) a.0;
       edition_is = not-false _ a.1.0;
@@ -166,10 +168,6 @@ by_point_lem h p e =
     }
 
 -- ---- a table that goes on with ys
-pub answered_append : (xs ys : List Row) → Answered xs → Answered ys → Answered (xs ++ ys)
-answered_append [] ys a b = b
-answered_append (x ∷ xs) ys a b = (a.0, answered_append xs ys a.1 b)
-
 pub first_before : (xs ys : List Row) → (first_of xs ≡ 0 → ⊥) → first_of (xs ++ ys) ≡ first_of xs
 unfolding first_of
 first_before [] ys h = absurd (h refl)
@@ -179,11 +177,11 @@ first_before (x ∷ xs) ys h = go x.holds (λ k. first_before xs ys k) h
     go true f k = refl
     go false f k = f k
 
-pub first_after : (xs ys : List Row) → Answered xs → first_of xs ≡ 0 → first_of (xs ++ ys) ≡ first_of ys
+pub first_after : (xs ys : List Row) → first_of xs ≡ 0 → first_of (xs ++ ys) ≡ first_of ys
 unfolding first_of
-first_after [] ys a h = refl
-first_after (x ∷ xs) ys a h = go x.holds (λ z. first_after xs ys a.1 z) h
+first_after [] ys h = refl
+first_after (x ∷ xs) ys h = go x.holds (λ z. first_after xs ys z) h
   where
     go : (b : Bool) → (first_of xs ≡ 0 → first_of (xs ++ ys) ≡ first_of ys) → cond b (number_of x.answer) (first_of xs) ≡ 0 → cond b (number_of x.answer) (first_of (xs ++ ys)) ≡ first_of ys
-    go true f z = absurd (a.0 z)
+    go true f z = absurd (number_some x.answer z)
     go false f z = f z

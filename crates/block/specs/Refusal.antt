@@ -1,14 +1,14 @@
 -- The table of refusals: the number of each answer, and the conditions of the rows 1 to 5 and 9. FORMAT 3.
-use Rattle.std.specs.Prelude.{ℕ, suc, ◌*◌, ◌≤◌, ◌≡◌, Bool, true, false, not, ◌&&◌, cond, List, [], ◌∷◌, eqb, ltb, length, get_or}
+use Rattle.std.specs.Prelude.{ℕ, suc, ◌*◌, ◌≤◌, ◌≡◌, Bool, true, false, not, ◌&&◌, cond, List, [], ◌∷◌, eqb, ltb, length, get_or, Result, Ok, Err}
 use Rattle.block.specs.Edition.{edition1, is_known, limit_of, header_bytes}
 use Rattle.block.specs.Kind.{is_primitives}
 use Rattle.block.specs.Extents.{word_count}
 use Rattle.block.specs.Runs.{all_below}
 use Rattle.block.specs.declared.header.Header.{Header}
 use Rattle.block.specs.declared.refusal.Refusal.{Refusal}
-use Rattle.block.specs.declared.refusal.Refusal.TheVariants.{Stub, Edition, ZeroBits, ListLimit, Length, NoShape, Corners, Buffer, Attributes, Pairs, Nothing}
+use Rattle.block.specs.declared.refusal.Refusal.TheVariants.{Stub, Edition, ZeroBits, ListLimit, Length, NoShape, Corners, Buffer, Attributes, Pairs}
 
--- FORMAT 3: the table's number of each answer; the conditions 6 to 8 and 10 are of the shape, of the lent slices and of a part's pairs, and stand with those
+-- FORMAT 3: the table's number of each refusal; the conditions 6 to 8 and 10 are of the shape, of the lent slices and of a part's pairs, and stand with those
 abbrev pub number_of : Refusal → ℕ
 number_of Stub = 1
 number_of Edition = 2
@@ -20,7 +20,11 @@ number_of Corners = 7
 number_of Buffer = 8
 number_of Attributes = 9
 number_of Pairs = 10
-number_of Nothing = 0
+
+-- FORMAT 3: the number of an answer: that of its refusal, and 0 where nothing is refused
+abbrev pub refused_as : {A : Type 0} → Result A Refusal → ℕ
+refused_as (Ok a) = 0
+refused_as (Err refusal) = number_of refusal
 
 -- FORMAT 3, 1, stub: fewer bytes than the header of edition 1
 abbrev pub is_stub : List ℕ → Bool

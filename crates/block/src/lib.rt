@@ -21,7 +21,7 @@ pub use extents::{Place, block_bytes, list_part, list_place};
 pub use header::{COUNTS_AT, Header, read_header};
 pub use kind::{Kind, is_indexed, is_lines};
 pub use number::{CornerNumber, PointNumber, VertexNumber};
-pub use refusal::{Refusal, is_taken, number_of, refusal_of};
+pub use refusal::{Refusal, refusal_of};
 pub use runs::{Totals, ends_run, face_totals, is_kept, next_start, point_at, run_at};
 pub use settings::{Settings, finite_transform, read_settings};
 pub use stream::{

@@ -1,8 +1,8 @@
 // What is refused of a block (FORMAT 3): the table's answers, and its rows 1 to 5 and 9.
-ghost use Rattle.std.specs.Prelude.{◌≡◌, not, suc, eqb};
+ghost use Rattle.std.specs.Prelude.{◌≡◌, not, suc};
 ghost use Rattle.block.specs.Edition.{edition1, header_bytes};
 ghost use Rattle.block.specs.Runs.{all_below};
-ghost use Rattle.block.specs.Refusal.{is_by_point, is_other_attributes, block_rows, first_of, number_of};
+ghost use Rattle.block.specs.Refusal.{is_by_point, is_other_attributes, block_rows, first_of, number_of, refused_as};
 
 use crate::edition::{edition_of, is_known, limit_of};
 use crate::extents::block_bytes;
@@ -21,32 +21,26 @@ pub enum Refusal {
     Buffer,
     Attributes,
     Pairs,
-    Nothing,
 }
 
-// The table's number of an answer; 0 where nothing is refused.
-pub fn number_of(answer: Refusal) -> u32
-    ensures { result ≡ number_of answer }
-{
-    match answer {
-        Refusal::Stub => 1,
-        Refusal::Edition => 2,
-        Refusal::ZeroBits => 3,
-        Refusal::ListLimit => 4,
-        Refusal::Length => 5,
-        Refusal::NoShape => 6,
-        Refusal::Corners => 7,
-        Refusal::Buffer => 8,
-        Refusal::Attributes => 9,
-        Refusal::Pairs => 10,
-        Refusal::Nothing => 0,
+// The table's number of a refusal.
+impl From<Refusal> for u32 {
+    ghost from_gives = { λ refusal n. n ≡ number_of refusal };
+
+    fn from(refusal: Refusal) -> u32 {
+        match refusal {
+            Refusal::Stub => 1,
+            Refusal::Edition => 2,
+            Refusal::ZeroBits => 3,
+            Refusal::ListLimit => 4,
+            Refusal::Length => 5,
+            Refusal::NoShape => 6,
+            Refusal::Corners => 7,
+            Refusal::Buffer => 8,
+            Refusal::Attributes => 9,
+            Refusal::Pairs => 10,
+        }
     }
-}
-
-pub fn is_taken(answer: Refusal) -> bool
-    ensures { result ≡ eqb (number_of answer) 0 }
-{
-    number_of(answer) == 0
 }
 
 // The bytes of the header of edition 1: no block is shorter.
@@ -102,27 +96,27 @@ fn is_other_attributes(h: Header) -> bool
 }
 
 // The first of the rows 1 to 5 and 9 that holds.
-pub fn refusal_of(block: &[u8], h: Header) -> Refusal
-    ensures { number_of result ≡ first_of (block_rows block.now h) }
+pub fn refusal_of(block: &[u8], h: Header) -> Result<(), Refusal>
+    ensures { refused_as result ≡ first_of (block_rows block.now h) }
 {
     if block.len() < header_bytes() {
-        return Refusal::Stub;
+        return Err(Refusal::Stub);
     }
     if is_known(h.edition) {} else {
-        return Refusal::Edition;
+        return Err(Refusal::Edition);
     }
     if h.zeros != 0 {
-        return Refusal::ZeroBits;
+        return Err(Refusal::ZeroBits);
     }
     let n = h.counts;
     if over_limit(n, limit_of(h.edition)) {
-        return Refusal::ListLimit;
+        return Err(Refusal::ListLimit);
     }
     if block.len() != block_bytes(h) {
-        return Refusal::Length;
+        return Err(Refusal::Length);
     }
     if is_other_attributes(h) {
-        return Refusal::Attributes;
+        return Err(Refusal::Attributes);
     }
-    Refusal::Nothing
+    Ok(())
 }

@@ -7,7 +7,7 @@ ghost use Rattle.geometry.specs.Answer.{is_short, refusal};
 
 use crate::answer::Lengths;
 use block::{Header, Refusal};
-use sizes::{Sizes, Verdict};
+use sizes::Sizes;
 
 // Row 8.
 fn is_short(z: Sizes, l: Lengths) -> bool
@@ -41,20 +41,13 @@ fn is_short(z: Sizes, l: Lengths) -> bool
 }
 
 // All rows. The sizes are counted once, where the rows 1 to 6 and 9 let the block pass, and handed on.
-pub fn verdict_for(block: &[u8], h: Header, l: Lengths) -> Verdict
+pub fn verdict_for(block: &[u8], h: Header, l: Lengths) -> Result<Sizes, Refusal>
     requires { h ≡ header_of block.now }
     ensures { Judged block.now h (refusal block.now l) result }
 {
-    let first = sizes::verdict_to_7(block, h);
-    match first {
-        Verdict::Refused(no) => {
-            return Verdict::Refused(no);
-        }
-        Verdict::Passed(z) => {
-            if is_short(z, l) {
-                return Verdict::Refused(Refusal::Buffer);
-            }
-            return Verdict::Passed(z);
-        }
+    let z = sizes::verdict_to_7(block, h)?;
+    if is_short(z, l) {
+        return Err(Refusal::Buffer);
     }
+    Ok(z)
 }

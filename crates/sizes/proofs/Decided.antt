@@ -11,12 +11,11 @@ use Rattle.block.specs.Header.{header_of}
 use Rattle.block.specs.Settings.{settings_of}
 use Rattle.block.specs.Edition.{limit_of}
 use Rattle.block.specs.Refusal.{number_of, Taken, block_rows, first_of}
-use Rattle.block.proofs.Table.{Answered, answered_append, none_of, block_answered, taken_of, first_before, first_after}
+use Rattle.block.proofs.Table.{number_some, none_of, taken_of, first_before, first_after}
 use Rattle.mesh.specs.Sizes.{sizes_of, is_no_shape, is_over_corners, shape_rows}
 use Rattle.lent.specs.Lent.{Accepted}
 use Rattle.sizes.specs.declared.kinds.Sizes.{Sizes}
-use Rattle.sizes.specs.declared.refusals.Verdict.{Verdict}
-use Rattle.sizes.specs.declared.refusals.Verdict.TheVariants.{Refused, Passed}
+use Rattle.std.specs.Prelude.{Result, Ok, Err}
 use Rattle.sizes.specs.Judged.{Judged}
 use Rattle.sizes.specs.Known.{Counted}
 
@@ -48,21 +47,21 @@ module _ (bs : List ℕ) (h : Header) where
 -- ---- verdicts
 
 module _ (bs : List ℕ) (h : Header) (n : ℕ) where
-  pub refuse : (a : Refusal) → number_of a ≡ n → (number_of a ≡ 0 → ⊥) → Judged bs h n (Refused a)
+  pub refuse : (a : Refusal) → number_of a ≡ n → Judged bs h n (Err a)
   unfolding Judged
-  refuse a e z = (e, z)
+  refuse a e = e
 
-  pub pass : (s : Sizes) → n ≡ 0 → Counted bs h s → Judged bs h n (Passed s)
+  pub pass : (s : Sizes) → n ≡ 0 → Counted bs h s → Judged bs h n (Ok s)
   unfolding Judged
   pass s e A = (e, A)
 
   -- a verdict v that is read
-  module _ (v : Verdict) (J : Judged bs h n v) where
-    pub refused_is : (a : Refusal) → v ≡ Refused a → (number_of a ≡ n) × (number_of a ≡ 0 → ⊥)
+  module _ (v : Result Sizes Refusal) (J : Judged bs h n v) where
+    pub refused_is : (a : Refusal) → v ≡ Err a → number_of a ≡ n
     unfolding Judged
     refused_is a e = rw e at J
 
-    pub passed_is : (s : Sizes) → v ≡ Passed s → (n ≡ 0) × Counted bs h s
+    pub passed_is : (s : Sizes) → v ≡ Ok s → (n ≡ 0) × Counted bs h s
     unfolding Judged
     passed_is s e = rw e at J
 
@@ -86,16 +85,9 @@ module _ (bs : List ℕ) (h : Header) where
       taken_by = taken_of bs h (sym e ∙ z)
 
       pub shape_rows_lem : (m : ℕ) → m ≡ first_of (shape_rows bs h) → m ≡ rows
-      shape_rows_lem m em = em ∙ sym (first_after (block_rows bs h) (shape_rows bs h) (block_answered bs h) (sym e ∙ z))
+      shape_rows_lem m em = em ∙ sym (first_after (block_rows bs h) (shape_rows bs h) (sym e ∙ z))
 
 -- ---- the way back
-
-shape_answered : (bs : List ℕ) (h : Header) → Answered (shape_rows bs h)
-unfolding shape_rows
-shape_answered bs h = ((λ z. omega arith), ((λ z. omega arith), tt))
-
-pub all_answered : (bs : List ℕ) (h : Header) → Answered (block_rows bs h ++ shape_rows bs h)
-all_answered bs h = answered_append (block_rows bs h) (shape_rows bs h) (block_answered bs h) (shape_answered bs h)
 
 -- FORMAT 3: a block that none of the rows up to 7 refuses is accepted
 pub accepted_of : (bs : List ℕ) → rows bs (header_of bs) ≡ 0 → Accepted bs (header_of bs) (settings_of bs)
@@ -104,6 +96,6 @@ accepted_of bs e = go (first_of (block_rows bs (header_of bs))) refl
   where
     go : (n : ℕ) → first_of (block_rows bs (header_of bs)) ≡ n → Accepted bs (header_of bs) (settings_of bs)
     go zero z =
-        let s = none_of (shape_rows bs (header_of bs)) (shape_answered bs (header_of bs)) (shape_rows_lem bs (header_of bs) 0 (sym z) refl _ refl ∙ e) in
+        let s = none_of (shape_rows bs (header_of bs)) (shape_rows_lem bs (header_of bs) 0 (sym z) refl _ refl ∙ e) in
         record { header = refl; settings = refl; taken = taken_of bs (header_of bs) z; shape = s.0; corners = s.1.0 }
     go (suc n) z = let q : suc n ≡ 0 = block_rows_lem bs (header_of bs) (suc n) (sym z) (λ (f : suc n ≡ 0). omega arith) ∙ e in absurd (omega arith)

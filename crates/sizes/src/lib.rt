@@ -7,4 +7,4 @@ mod refusals;
 
 pub use flags::{Flags, either, flags_of};
 pub use kinds::{Sizes, sizes_of};
-pub use refusals::{Verdict, is_no_shape, verdict_to_7};
+pub use refusals::{is_no_shape, verdict_to_7};

@@ -46,40 +46,30 @@ pub fn is_no_shape(h: Header) -> bool
     }
 }
 
-// What the rows tested so far say of a block: the first that holds, or the sizes, which are counted for them.
-#[derive(Clone, Copy)]
-pub enum Verdict {
-    Refused(Refusal),
-    Passed(Sizes),
-}
-
-// The rows 6 and 7, of a block that the rows 1 to 5 and 9 let pass.
-fn shape_verdict(block: &[u8], h: Header) -> Verdict
+// The rows 6 and 7, of a block that the rows 1 to 5 and 9 let pass: the first that holds, or the sizes, which are counted for them.
+fn shape_verdict(block: &[u8], h: Header) -> Result<Sizes, Refusal>
     requires { (h ≡ header_of block.now) × Taken block.now h }
     ensures { Judged block.now h (first_of (shape_rows block.now h)) result }
 {
     if is_no_shape(h) {
-        return Verdict::Refused(Refusal::NoShape);
+        return Err(Refusal::NoShape);
     }
     let s = sizes_of(block, h);
     let limit = wide(limit_of(h.edition));
     if limit < s.points {
-        return Verdict::Refused(Refusal::Corners);
+        return Err(Refusal::Corners);
     }
     if limit < s.corners {
-        return Verdict::Refused(Refusal::Corners);
+        return Err(Refusal::Corners);
     }
-    Verdict::Passed(s)
+    Ok(s)
 }
 
 // All rows up to 7.
-pub fn verdict_to_7(block: &[u8], h: Header) -> Verdict
+pub fn verdict_to_7(block: &[u8], h: Header) -> Result<Sizes, Refusal>
     requires { h ≡ header_of block.now }
     ensures { Judged block.now h (first_of (block_rows block.now h ++ shape_rows block.now h)) result }
 {
-    let first = block::refusal_of(block, h);
-    if block::is_taken(first) {
-        return shape_verdict(block, h);
-    }
-    Verdict::Refused(first)
+    block::refusal_of(block, h)?;
+    shape_verdict(block, h)
 }
