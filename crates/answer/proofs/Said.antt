@@ -5,7 +5,7 @@ use mathlib.Core.List.{List}
 use borrow.Author.Tests.{lt-ltb, le-ltb}
 use lib.ListN.{length}
 use Rattle.block.specs.Header.{header_of}
-use Rattle.lent.specs.declared.answer.Answer.{Answer}
+use Rattle.lent.specs.Answer.{Answer}
 use Rattle.lent.specs.Answer.{saying}
 use Rattle.geometry.specs.Converted.{Lending, Converted}
 use Rattle.text.specs.declared.lines.Parts.{Parts}

@@ -4,7 +4,6 @@ ghost use Rattle.answer.specs.Text.{block_text, answer_text};
 
 use crate::lending::lend_and_convert;
 use crate::parts::parts_in;
-use block::number_of;
 use lent::Answer;
 use text::{Head, put_long, put_mesh, put_refusal};
 
@@ -21,8 +20,8 @@ pub fn block_text(block: &[u8], out: &mut [u8]) -> usize
     let left = lend_and_convert(block);
     let answer = left.answer;
     match answer {
-        Answer::Refused(refusal) => put_refusal(number_of(refusal), out),
-        Answer::Made(report) => {
+        Err(refusal) => put_refusal(u32::from(refusal), out),
+        Ok(report) => {
             let head = Head {
                 vertices: report.vertices,
                 indices: report.indices,

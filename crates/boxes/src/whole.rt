@@ -5,7 +5,6 @@ ghost use Rattle.boxes.specs.Box.{finite_size, half_size, box_of};
 
 use crate::tris::put_box_tris;
 use crate::verts::put_faces;
-use block::is_taken;
 use lent::Answer;
 use math::{V3, is_finite};
 use parts::{GeomCtx, PartLengths, PartSizes, dim, finite_ctx, part_refusal, part_report};
@@ -59,7 +58,7 @@ pub fn box_prim(
         indices: 36,
         pairs: 0,
     };
-    let no = part_refusal(
+    part_refusal(
         c,
         z,
         PartLengths {
@@ -69,11 +68,8 @@ pub fn box_prim(
             indices: indices.len(),
             floats: 0,
         },
-    );
-    if is_taken(no) {} else {
-        return Answer::Refused(no);
-    }
+    )?;
     put_faces(c, h, positions, normals, textures);
     put_box_tris(indices);
-    Answer::Made(part_report(z))
+    Ok(part_report(z))
 }

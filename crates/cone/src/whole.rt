@@ -5,7 +5,6 @@ ghost use Rattle.parts.specs.Written.{Written, Roomy};
 ghost use Rattle.cone.specs.Cone.{cone_side_sizes, cone_side_at, cone_marks_of, cone_part, cone_of};
 
 use crate::side::put_side;
-use block::is_taken;
 use lent::Answer;
 use parts::{
     Cap, GeomCtx, PartLengths, PartSizes, cap_sizes, dim, finite_ctx, held, part_refusal,
@@ -128,7 +127,7 @@ pub fn cone(
     let c = finite_ctx(ctx);
     let m = marks_of(n, side, bottom);
     let z = m.all;
-    let no = part_refusal(
+    part_refusal(
         c,
         z,
         PartLengths {
@@ -138,12 +137,9 @@ pub fn cone(
             indices: indices.len(),
             floats: pairs.len(),
         },
-    );
-    if is_taken(no) {} else {
-        return Answer::Refused(no);
-    }
+    )?;
     put_cone(
         c, pairs, r, whole, n, side, bottom, m, positions, normals, textures, indices,
     );
-    Answer::Made(part_report(z))
+    Ok(part_report(z))
 }

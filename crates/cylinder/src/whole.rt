@@ -8,7 +8,6 @@ ghost use Rattle.parts.specs.Written.{Written, Roomy};
 ghost use Rattle.cylinder.specs.Cylinder.{side_sizes, side_at, marks_of, cylinder_part, cylinder_of};
 
 use crate::side::put_side;
-use block::is_taken;
 use lent::Answer;
 use parts::{
     Cap, GeomCtx, PartLengths, PartSizes, cap_sizes, dim, finite_ctx, held, part_refusal,
@@ -177,7 +176,7 @@ pub fn cylinder(
     let c = finite_ctx(ctx);
     let m = marks_of(n, side, top, bottom);
     let z = m.all;
-    let no = part_refusal(
+    part_refusal(
         c,
         z,
         PartLengths {
@@ -187,12 +186,9 @@ pub fn cylinder(
             indices: indices.len(),
             floats: pairs.len(),
         },
-    );
-    if is_taken(no) {} else {
-        return Answer::Refused(no);
-    }
+    )?;
     put_cylinder(
         c, pairs, r, h, n, side, top, bottom, m, positions, normals, textures, indices,
     );
-    Answer::Made(part_report(z))
+    Ok(part_report(z))
 }

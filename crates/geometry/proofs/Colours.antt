@@ -30,7 +30,7 @@ use Rattle.mesh.specs.Lines.{somes, joined, item_of, items_of, line_keys, line_e
 use Rattle.mesh.specs.Extrusion.{extrusion_mesh}
 use Rattle.mesh.specs.Primitives.{listed_coord, primitive_mesh}
 use Rattle.mesh.specs.Result.{makes_colours, block_mesh, made_of, made, result_of}
-use Rattle.lent.specs.declared.answer.Answer.{Answer}
+use Rattle.lent.specs.Answer.{Answer}
 use Rattle.geometry.specs.declared.answer.Call.{Call}
 use Rattle.lent.specs.Answer.{said, after_all}
 use Rattle.geometry.specs.Answer.{grey, white, result_for}

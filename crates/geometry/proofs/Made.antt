@@ -24,7 +24,7 @@ use Rattle.mesh.specs.Extrusion.{extrusion_mesh}
 use Rattle.mesh.specs.Primitives.{primitive_mesh}
 use Rattle.mesh.specs.Result.{Result, block_mesh, makes_normals, makes_colours, makes_textures, made_of, made, result_of}
 use Rattle.mesh.proofs.Facts.{Sized, slices_sized}
-use Rattle.lent.specs.declared.answer.Answer.TheVariants.{Made}
+use Rattle.std.specs.Prelude.{Ok}
 use Rattle.geometry.specs.declared.answer.Call.{Call}
 use Rattle.lent.specs.declared.answer.Report.{Report}
 use Rattle.lent.specs.Answer.{saying, said, after_all}
@@ -35,11 +35,11 @@ use Rattle.geometry.proofs.Calls.{number_in, result_in}
 
 -- ---- what is answered by a mesh is not refused, and its counts are those of the mesh
 
-not_refused : (p : Report) (n : ℕ) (r : Result) → saying (Made p) ≡ said n r → n ≡ 0
+not_refused : (p : Report) (n : ℕ) (r : Result) → saying (Ok p) ≡ said n r → n ≡ 0
 not_refused p zero r e = refl
 not_refused p (suc n) r e = absurd (let z : 0 ≡ suc (suc n) = ap number_in e in omega arith)
 
-result_said : (p : Report) (n : ℕ) (r : Result) → n ≡ 0 → saying (Made p) ≡ said n r → result_in r (saying (Made p)) ≡ r
+result_said : (p : Report) (n : ℕ) (r : Result) → n ≡ 0 → saying (Ok p) ≡ said n r → result_in r (saying (Ok p)) ≡ r
 result_said p n r z e = ap (result_in r) (e ∙ ap (λ (k : ℕ). said k r) z)
 
 -- ---- the front of a slice after such a call is what was made
@@ -117,7 +117,7 @@ module _ {call : Call} (bs : List ℕ) (x : AcceptedCall call bs) where
   accepted : number_for bs x.lent ≡ 0
   accepted = not_refused x.report (number_for bs x.lent) (result_for call bs) x.converted.answer
 
-  result_is : result_in (result_for call bs) (saying (Made x.report)) ≡ result_of (header_of bs) M
+  result_is : result_in (result_for call bs) (saying (Ok x.report)) ≡ result_of (header_of bs) M
   unfolding result_for
   result_is = result_said x.report (number_for bs x.lent) (result_for call bs) accepted x.converted.answer
 

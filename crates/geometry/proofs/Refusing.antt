@@ -21,7 +21,7 @@ use Rattle.lent.proofs.Accepts.{sizes_low}
 use Rattle.sizes.specs.declared.kinds.Sizes.{Sizes}
 use Rattle.sizes.specs.Known.{Counted}
 use Rattle.sizes.proofs.Decided as seven
-use Rattle.sizes.proofs.Decided.{all_answered, accepted_of}
+use Rattle.sizes.proofs.Decided.{accepted_of}
 use Rattle.lists.proofs.Tests.{or_none, cond_none}
 use Rattle.geometry.specs.declared.answer.Lengths.{Lengths}
 use Rattle.geometry.specs.Answer.{is_short, rows, refusal}
@@ -73,7 +73,7 @@ module _ (bs : List ℕ) (l : Lengths) (n : ℕ) (e : n ≡ seven.rows bs (heade
   module _ (z : n ≡ 0) where
     by_eighth : cond short 8 0 ≡ refusal bs l
     unfolding first_of
-    by_eighth = sym (eight ∙ first_after before (row Buffer short ∷ []) (all_answered bs (header_of bs)) (sym e ∙ z))
+    by_eighth = sym (eight ∙ first_after before (row Buffer short ∷ []) (sym e ∙ z))
 
     -- row 8 as it was answered
     pub row_eight : (h : Header) (eh : h ≡ header_of bs) (r : Sizes) (A : Counted bs h r) (b k : Bool) → b ≡ is_short (sizes_in r) l → b ≡ k → cond k 8 0 ≡ refusal bs l

@@ -4,7 +4,7 @@ use Rattle.block.specs.declared.header.Header.{Header}
 use Rattle.block.specs.Header.{header_of}
 use Rattle.mesh.specs.Mesh.{Slices}
 use Rattle.mesh.specs.Result.{makes_normals, makes_colours, makes_textures}
-use Rattle.lent.specs.declared.answer.Answer.TheVariants.{Made}
+use Rattle.std.specs.Prelude.{Ok}
 use Rattle.geometry.specs.declared.answer.Call.{Call}
 use Rattle.lent.specs.declared.answer.Report.{Report}
 use Rattle.geometry.specs.Converted.{Lending, Converted}
@@ -14,7 +14,7 @@ pub record AcceptedCall (call : Call) (bs : List ℕ) : Type 0 where
   pub lent : Lending
   pub left : Lending
   pub report : Report
-  pub converted : Converted call bs lent left (Made report)
+  pub converted : Converted call bs lent left (Ok report)
 
 -- FORMAT 5: from the start of each slice as many as the answer says, and none of an attribute that is not made
 unfoldable pub elements : Header → Report → Slices → Slices

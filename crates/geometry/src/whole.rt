@@ -9,7 +9,7 @@ use crate::kinds::make_kind;
 use crate::refusals::verdict_for;
 use block::Header;
 use lent::{Answer, Report};
-use sizes::{Sizes, Verdict};
+use sizes::Sizes;
 
 // A call that nothing refuses, by the block's header and sizes.
 fn make(
@@ -32,7 +32,7 @@ fn make(
     ensures { Converted call block.now
         (record { slices = record { positions = positions.old; normals = normals.old; colours = colours.old; textures = textures.old; sources = sources.old; indices = indices.old }; words = words.old; floats = floats.old })
         (record { slices = record { positions = positions.new; normals = normals.new; colours = colours.new; textures = textures.new; sources = sources.new; indices = indices.new }; words = words.new; floats = floats.new })
-        (Answer.Made result) }
+        (Ok result) }
 {
     let s = block::read_settings(block);
     let missing = call.colour;
@@ -69,7 +69,7 @@ pub fn convert(
         result }
 {
     let h = block::read_header(block);
-    let verdict = verdict_for(
+    let z = verdict_for(
         block,
         h,
         Lengths {
@@ -82,12 +82,8 @@ pub fn convert(
             words: words.len(),
             floats: floats.len(),
         },
-    );
-    match verdict {
-        Verdict::Passed(z) => Answer::Made(make(
-            call, block, h, z, positions, normals, colours, textures, sources, indices, words,
-            floats,
-        )),
-        Verdict::Refused(no) => Answer::Refused(no),
-    }
+    )?;
+    Ok(make(
+        call, block, h, z, positions, normals, colours, textures, sources, indices, words, floats,
+    ))
 }

@@ -5,7 +5,7 @@ use mathlib.Core.Bool.{Bool}
 use mathlib.Core.List.{List}
 use lib.Ieee.{Float}
 use Rattle.mesh.specs.Mesh.{Slices}
-use Rattle.lent.specs.declared.answer.Answer.{Answer}
+use Rattle.lent.specs.Answer.{Answer}
 use Rattle.geometry.specs.declared.answer.Call.{Call}
 use Rattle.geometry.specs.Converted.{Lending, Converted}
 use Rattle.parts.specs.declared.vert.GeomCtx.{GeomCtx}

@@ -3,8 +3,8 @@ use Rattle.std.specs.Prelude.{ℕ, ◌≡◌, List, [], ◌∷◌}
 use Rattle.std.proofs.lemmas.List.Edits.{sets}
 use Rattle.block.specs.Refusal.{number_of}
 use Rattle.mesh.specs.Sizes.{one}
-use Rattle.lent.specs.declared.answer.Answer.{Answer}
-use Rattle.lent.specs.declared.answer.Answer.TheVariants.{Refused, Made}
+use Rattle.lent.specs.Answer.{Answer}
+use Rattle.std.specs.Prelude.{Err, Ok}
 use Rattle.geometry.specs.declared.answer.Call.{Call}
 use Rattle.lent.specs.declared.answer.Report.{Report}
 use Rattle.host.specs.declared.Choice.{Choice}
@@ -19,13 +19,13 @@ words_of p = p.vertices ∷ p.indices ∷ one p.solid ∷ one p.unlit ∷ one p.
 
 -- FORMAT 3: the number of a refusal; 0 where a mesh is made
 abbrev pub returned : Answer → ℕ
-returned (Refused n) = number_of n
-returned (Made p) = 0
+returned (Err n) = number_of n
+returned (Ok p) = 0
 
 -- FORMAT 15: the result slice, as far as it goes; a refused call leaves it
 abbrev pub result_after : Answer → List ℕ → List ℕ
-result_after (Refused n) held = held
-result_after (Made p) held = sets held 0 (words_of p)
+result_after (Err n) held = held
+result_after (Ok p) held = sets held 0 (words_of p)
 
 -- FORMAT 15, 17.12: a call of which the answer fulfils a promise; with the result slice x lent it left y and returned r
 pub record Hosted (promise : Answer → Type 0) (x y : List ℕ) (r : ℕ) : Type 0 where

@@ -4,7 +4,6 @@ ghost use Rattle.std.proofs.lemmas.List.Edits.{sets};
 ghost use Rattle.mesh.specs.Sizes.{one};
 ghost use Rattle.host.specs.Hosted.{words_of, returned, result_after};
 
-use block::number_of;
 use lent::{Answer, Report};
 
 fn one_if(b: bool) -> usize
@@ -40,8 +39,8 @@ pub fn answered(a: Answer, res: &mut [usize]) -> u32
     ensures { (result ≡ returned a) × (res.new ≡ result_after a res.old) }
 {
     match a {
-        Answer::Refused(no) => number_of(no),
-        Answer::Made(p) => {
+        Err(no) => u32::from(no),
+        Ok(p) => {
             put_report(res, p);
             0
         }

@@ -11,8 +11,5 @@ pub struct Report {
     pub has_colors: bool,
 }
 
-#[derive(Clone, Copy)]
-pub enum Answer {
-    Refused(Refusal),
-    Made(Report),
-}
+// What is made, or why nothing is.
+pub type Answer = Result<Report, Refusal>;

@@ -1,7 +1,7 @@
 // A call with slices for as many points and corners as edition 1 allows (FORMAT 4).
 ghost use Rattle.limits.specs.Shown.{Shows};
 
-use block::{LIMIT, number_of};
+use block::{LIMIT};
 use geometry::Call;
 use lent::Answer;
 
@@ -40,14 +40,14 @@ pub fn convert_full(block: &[u8]) -> Seen
         &mut words,
         &mut floats,
     ) {
-        Answer::Refused(no) => Seen {
-            number: number_of(no),
+        Err(no) => Seen {
+            number: u32::from(no),
             indices: 0,
             a: indices[0],
             b: indices[1],
             c: indices[2],
         },
-        Answer::Made(p) => Seen {
+        Ok(p) => Seen {
             number: 0,
             indices: p.indices,
             a: indices[0],

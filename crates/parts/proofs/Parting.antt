@@ -1,4 +1,5 @@
 -- A part and one that follows it; and from what was written, or refused, to what the call of a part promises.
+use Rattle.block.proofs.Table.{number_some}
 use mathlib.Core.Path.{◌≡◌, refl, sym, ap, ◌∙◌, subst}
 use mathlib.Core.Bool.{Bool, true, false, ◌||◌, cond, true≢false}
 use mathlib.Core.List.{List, [], ◌∷◌, ◌++◌}
@@ -18,7 +19,7 @@ use Rattle.lists.specs.Parts.{spliced}
 use Rattle.lists.proofs.Splices.{splice_start, splice_more, put_size}
 use Rattle.mesh.specs.Mesh.{Slices, slices_of, over}
 use Rattle.lent.specs.declared.answer.Report.{Report}
-use Rattle.lent.specs.declared.answer.Answer.TheVariants.{Refused, Made}
+use Rattle.std.specs.Prelude.{Err, Ok}
 use Rattle.lent.specs.Answer.{refused, saying}
 use Rattle.parts.specs.declared.sizes.PartSizes.{PartSizes}
 use Rattle.parts.specs.declared.sizes.PartLengths.{PartLengths}
@@ -223,11 +224,11 @@ module _ (c : GeomCtx) (ps : List Float) (p : Part) (s : Streams) (i : List ℕ)
     unfolding spliced
     over_is l m a x e q = q ∙ (λ j. take (e j) l ++ x ++ drop (e j + length x) l) ∙ ap (λ (k : ℕ). x ++ drop k l) (zero-add (length x))
 
-    pub made_parted : {s' : Streams} {i' : List ℕ} → Written (finite_ctx c) p 0 0 s s' i i' → Parted c ps p lent (lent_to s'.positions s'.normals s'.textures i') (Made (report_of z))
+    pub made_parted : {s' : Streams} {i' : List ℕ} → Written (finite_ctx c) p 0 0 s s' i i' → Parted c ps p lent (lent_to s'.positions s'.normals s'.textures i') (Ok (report_of z))
     unfolding part_result report_of made_for slices_of part_mesh pushed flat
     made_parted {s'} {i'} W =
         record {
-          answer = rw n (λ j. saying (Made (record { vertices = Z.vertices j; indices = Z.indices j; solid = true; unlit = false; has_colors = false })));
+          answer = rw n (λ j. saying (Ok (record { vertices = Z.vertices j; indices = Z.indices j; solid = true; unlit = false; has_colors = false })));
           slices = rw n (λ j. record {
             sources = [];
             positions = over_is s.positions s'.positions (3 * 0) (position_words p.verts) refl (λ k. (W.streams k).positions) j;
@@ -240,27 +241,28 @@ module _ (c : GeomCtx) (ps : List Float) (p : Part) (s : Streams) (i : List ℕ)
 
   -- ---- refused
 
-  pub refused_parted : (why : Refusal) → number_of why ≡ asks (finite_ctx c) z lengths → (number_of why ≡ 0 → ⊥) → Parted c ps p lent lent (Refused why)
-  refused_parted why e a = go (part_number c ps p lent) refl
+  pub refused_parted : (why : Refusal) → number_of why ≡ asks (finite_ctx c) z lengths → Parted c ps p lent lent (Err why)
+  refused_parted why e = go (part_number c ps p lent) refl
     where
-      go : (k : ℕ) → k ≡ part_number c ps p lent → Parted c ps p lent lent (Refused why)
-      go zero q = absurd (a (e ∙ number_is ∙ sym q))
+      go : (k : ℕ) → k ≡ part_number c ps p lent → Parted c ps p lent lent (Err why)
+      go zero q = absurd (number_some why (e ∙ number_is ∙ sym q))
       go (suc k) q = record { answer = rw (← q) (ap refused (e ∙ number_is ∙ sym q)); slices = rw (← q) }
 
   -- ---- a call, in the code's own terms
 
-  module _ {d : GeomCtx} (ed : d ≡ finite_ctx c) (why : Refusal) (e : number_of why ≡ asks d z lengths) {b : Bool} (eb : b ≡ eqb (number_of why) 0) where
-    number_at : number_of why ≡ part_number c ps p lent
-    number_at = e ∙ ap (λ (x : GeomCtx). asks x z lengths) ed ∙ number_is
+  module _ {d : GeomCtx} (ed : d ≡ finite_ctx c) where
+    same_asks : asks d z lengths ≡ asks (finite_ctx c) z lengths
+    same_asks = ap (λ (x : GeomCtx). asks x z lengths) ed
 
-    pub call_refused : b ≡ false → Parted c ps p lent lent (Refused why)
-    call_refused f = refused_parted why (e ∙ ap (λ (x : GeomCtx). asks x z lengths) ed) (λ q. true≢false (sym (eb ∙ eq-eqb _ 0 q) ∙ f))
+    pub call_refused : (why : Refusal) → number_of why ≡ asks d z lengths → Parted c ps p lent lent (Err why)
+    call_refused why e = refused_parted why (e ∙ same_asks)
 
-    none : b ≡ true → part_number c ps p lent ≡ 0
-    none t = sym number_at ∙ eqb-true _ 0 (sym eb ∙ t)
+    module _ (e : 0 ≡ asks d z lengths) where
+      none : part_number c ps p lent ≡ 0
+      none = sym (e ∙ same_asks ∙ number_is)
 
-    pub call_roomy : b ≡ true → Roomy d p 0 0 s i
-    call_roomy t = rw ed (roomy_of (none t))
+      pub call_roomy : Roomy d p 0 0 s i
+      call_roomy = rw ed (roomy_of none)
 
-    pub call_made : {s' : Streams} {i' : List ℕ} {r : Report} → b ≡ true → Written d p 0 0 s s' i i' → r ≡ report_of z → Parted c ps p lent (lent_to s'.positions s'.normals s'.textures i') (Made r)
-    call_made {r = r} t W er = rw er (made_parted (none t) (rw ed at W))
+      pub call_made : {s' : Streams} {i' : List ℕ} {r : Report} → Written d p 0 0 s s' i i' → r ≡ report_of z → Parted c ps p lent (lent_to s'.positions s'.normals s'.textures i') (Ok r)
+      call_made {r = r} W er = rw er (made_parted none (rw ed at W))

@@ -4,7 +4,7 @@ use Rattle.block.specs.declared.refusal.Refusal.TheVariants.{Pairs, Buffer}
 use Rattle.block.specs.Refusal.{Row, row, first_of}
 use Rattle.mesh.specs.Mesh.{Slices, slices_of}
 use Rattle.mesh.specs.Result.{Result}
-use Rattle.lent.specs.declared.answer.Answer.{Answer}
+use Rattle.lent.specs.Answer.{Answer}
 use Rattle.lent.specs.Answer.{saying, said, after_all}
 use Rattle.parts.specs.declared.vert.GeomCtx.{GeomCtx}
 use Rattle.parts.specs.Part.{Part, finite_ctx, part_mesh}

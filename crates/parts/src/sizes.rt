@@ -1,7 +1,7 @@
 // FORMAT 17.2, 17.10: sizes with their defaults, slices and stacks within their bounds, and the refusals of a part.
 ghost use Rattle.std.specs.Prelude.{◌≡◌, [], ◌∷◌, ◌/◌, ◌≤◌, ◌<◌, ◌^◌, ltb};
 ghost use Rattle.block.specs.declared.refusal.Refusal.TheVariants.{Pairs, Buffer};
-ghost use Rattle.block.specs.Refusal.{number_of, row, first_of};
+ghost use Rattle.block.specs.Refusal.{refused_as, row, first_of};
 ghost use Rattle.parts.specs.Sizes.{dim_of, held_to, is_short_texture, is_short_part, report_of, sum_of, sizes_where};
 
 use crate::vert::GeomCtx;
@@ -78,17 +78,17 @@ fn is_short_part(c: GeomCtx, z: PartSizes, l: PartLengths) -> bool
 }
 
 // 10, and then 8.
-pub fn part_refusal(c: GeomCtx, z: PartSizes, l: PartLengths) -> Refusal
+pub fn part_refusal(c: GeomCtx, z: PartSizes, l: PartLengths) -> Result<(), Refusal>
     requires { z.vertices < 2 ^ 32 }
-    ensures { number_of result ≡ first_of (row Pairs (ltb (l.floats / 2) z.pairs) ∷ row Buffer (is_short_part c z l) ∷ []) }
+    ensures { refused_as result ≡ first_of (row Pairs (ltb (l.floats / 2) z.pairs) ∷ row Buffer (is_short_part c z l) ∷ []) }
 {
     if l.floats / 2 < z.pairs {
-        return Refusal::Pairs;
+        return Err(Refusal::Pairs);
     }
     if is_short_part(c, z, l) {
-        return Refusal::Buffer;
+        return Err(Refusal::Buffer);
     }
-    Refusal::Nothing
+    Ok(())
 }
 
 // FORMAT 17.11: solid, lit and without colours.

@@ -17,7 +17,7 @@ use Rattle.lists.proofs.Tests.{never}
 use Rattle.math.specs.Vector.{v3, vsub}
 use Rattle.mesh.specs.Words.{point_words}
 use Rattle.mesh.specs.Mesh.{over}
-use Rattle.paths.specs.declared.answer.PathsAnswer.{PathsAnswer}
+use Rattle.paths.specs.Paths.{PathsAnswer}
 use Rattle.paths.specs.declared.intersect.Ray.{Ray}
 use Rattle.paths.specs.Paths.{point_in, paths_in, path_words, ray_in, blocks, lowest, answer_of, answers_of, is_refused, number_of, paths_number, answers_after, PathsCall, Relabelled}
 use Rattle.paths.proofs.Refusing.{Accepted, accepted, lets_pass}

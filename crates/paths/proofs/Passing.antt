@@ -14,7 +14,7 @@ use Rattle.lists.proofs.Lists.{beyond}
 use Rattle.lists.proofs.Tabs.{length_tab}
 use Rattle.lists.proofs.Tests.{and_no}
 use Rattle.mesh.specs.Mesh.{over}
-use Rattle.paths.specs.declared.answer.PathsAnswer.TheVariants.{Refused, Tested}
+use Rattle.std.specs.Prelude.{Ok, Err}
 use Rattle.paths.specs.declared.intersect.Triangle.{Triangle}
 use Rattle.paths.specs.Intersect.{hits}
 use Rattle.paths.specs.Paths.{paths_in, ray_in, triangle_in, blocks, lowest, answer_of, answers_of, is_refused, paths_number, answers_after, PathsCall}
@@ -94,12 +94,12 @@ tested positions indices paths held mid left rays taken loaded p q =
 module _ (positions indices paths held : List ℕ) where
   pub tested_call : (mid left : List ℕ) (rays : List Float) → is_refused positions indices paths (length held) ≡ false → Loaded paths rays (paths_in paths)
       → mid ≡ updated (λ (j r : ℕ). 0) (paths_in paths) held → left ≡ run (turn_of positions indices rays (paths_in paths)) (length indices / 3) 0 mid
-      → PathsCall positions indices paths held left Tested
+      → PathsCall positions indices paths held left (Ok tt)
   unfolding paths_number
   tested_call mid left rays taken loaded p q =
       record { number = sym (ap (λ (b : Bool). cond b 12 0) taken); answers = tested positions indices paths held mid left rays taken loaded p q }
 
-  pub refused_call : is_refused positions indices paths (length held) ≡ true → PathsCall positions indices paths held held Refused
+  pub refused_call : is_refused positions indices paths (length held) ≡ true → PathsCall positions indices paths held held (Err (record { }))
   unfolding paths_number answers_after
   refused_call e = record {
     number = sym (ap (λ (b : Bool). cond b 12 0) e);

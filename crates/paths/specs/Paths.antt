@@ -1,12 +1,11 @@
 -- FORMAT 19: which triangle of a mesh blocks a path, the answers of a call, and what is refused.
-use Rattle.std.specs.Prelude.{ℕ, ◌+◌, ◌*◌, ◌/◌, ◌%◌, ◌<◌, ◌≡◌, Bool, not, ◌||◌, cond, List, eqb, leb, ltb, length, get_or, take, drop}
+use Rattle.std.specs.Prelude.{ℕ, ◌+◌, ◌*◌, ◌/◌, ◌%◌, ◌<◌, ◌≡◌, Bool, not, ◌||◌, cond, List, eqb, leb, ltb, length, get_or, take, drop, Result, Ok, Err, ⊤}
 use Rattle.math.specs.declared.vector.V3.{V3}
 use Rattle.math.specs.Vector.{vsub}
 use Rattle.lists.specs.Loops.{any, tab, first}
 use Rattle.mesh.specs.Words.{floats, point_words}
 use Rattle.mesh.specs.Mesh.{over}
-use Rattle.paths.specs.declared.answer.PathsAnswer.{PathsAnswer}
-use Rattle.paths.specs.declared.answer.PathsAnswer.TheVariants.{Refused, Tested}
+use Rattle.paths.specs.declared.answer.PathsRefusal.{PathsRefusal}
 use Rattle.paths.specs.declared.intersect.Ray.{Ray}
 use Rattle.paths.specs.declared.intersect.Triangle.{Triangle}
 use Rattle.paths.specs.Intersect.{hits}
@@ -71,10 +70,17 @@ is_refused positions indices paths room =
     || (not (eqb (length indices % 3) 0)
     || any (leb (length positions / 3)) indices))))
 
--- FORMAT 19.3: the number of each answer
+-- FORMAT 19.3: the number of the refusal
+abbrev pub refusal_number : ℕ
+refusal_number = 12
+
+-- FORMAT 19.3: an answer, and its number
+abbrev pub PathsAnswer : Type 0
+PathsAnswer = Result ⊤ PathsRefusal
+
 abbrev pub number_of : PathsAnswer → ℕ
-number_of Refused = 12
-number_of Tested = 0
+number_of (Err refusal) = refusal_number
+number_of (Ok tested) = 0
 
 -- FORMAT 19.3: the number that is to be answered
 unfoldable pub paths_number : List ℕ → List ℕ → List ℕ → ℕ → ℕ

@@ -1,19 +1,17 @@
 // FORMAT 19.3: what a call answers.
-ghost use Rattle.std.specs.Prelude.{◌≡◌};
-ghost use Rattle.paths.specs.Paths.{number_of};
+ghost use Rattle.paths.specs.Paths.{refusal_number};
 
+// The one refusal of this call.
 #[derive(Clone, Copy)]
-pub enum PathsAnswer {
-    Refused,
-    Tested,
-}
+pub struct PathsRefusal;
 
-// 12 for a refusal; 0 where nothing is refused.
-pub fn number_of(answer: PathsAnswer) -> u32
-    ensures { result ≡ number_of answer }
-{
-    match answer {
-        PathsAnswer::Refused => 12,
-        PathsAnswer::Tested => 0,
+pub type PathsAnswer = Result<(), PathsRefusal>;
+
+// Its number.
+impl From<PathsRefusal> for u32 {
+    ghost from_gives = { λ _ n. n ≡ refusal_number };
+
+    fn from(_refusal: PathsRefusal) -> u32 {
+        12
     }
 }

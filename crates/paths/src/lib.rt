@@ -9,5 +9,5 @@ mod refusal;
 mod triangles;
 mod whole;
 
-pub use answer::{PathsAnswer, number_of};
+pub use answer::{PathsAnswer, PathsRefusal};
 pub use whole::test_paths;

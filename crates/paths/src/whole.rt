@@ -1,7 +1,7 @@
 // FORMAT 19: the call.
 ghost use Rattle.paths.specs.Paths.{PathsCall};
 
-use crate::answer::PathsAnswer;
+use crate::answer::{PathsAnswer, PathsRefusal};
 use crate::pass::{clear, pass};
 use crate::rays::load;
 use crate::refusal::is_refused;
@@ -18,11 +18,11 @@ pub fn test_paths(
         answers.old answers.new result }
 {
     if is_refused(positions, indices, paths, answers.len()) {
-        return PathsAnswer::Refused;
+        return Err(PathsRefusal);
     }
     let mut rays: [f32; 384] = [0.0; 384];
     load(paths, &mut rays);
     clear(answers, paths.len() / 6);
     pass(positions, indices, &rays, paths.len() / 6, answers);
-    PathsAnswer::Tested
+    Ok(())
 }

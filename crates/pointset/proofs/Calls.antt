@@ -1,4 +1,5 @@
 -- FORMAT 17.10: the sizes of what is made, and what a call answers and leaves.
+use Rattle.block.proofs.Table.{number_some}
 use mathlib.Core.Path.{◌≡◌, refl, sym, ap, ◌∙◌}
 use mathlib.Core.Bool.{Bool, true, false, ◌||◌, cond, or-false}
 use mathlib.Core.List.{List, [], ◌∷◌, ◌++◌, map}
@@ -21,7 +22,7 @@ use Rattle.block.specs.Refusal.{row, first_of, number_of}
 use Rattle.lists.proofs.Tests.{or_none}
 use Rattle.mesh.specs.Words.{words3, words4, point_words}
 use Rattle.mesh.specs.Mesh.{Slices, slices_of, over}
-use Rattle.lent.specs.declared.answer.Answer.TheVariants.{Refused, Made}
+use Rattle.std.specs.Prelude.{Err, Ok}
 use Rattle.lent.specs.Answer.{refused}
 use Rattle.pointset.specs.declared.refusals.Lengths.{Lengths}
 use Rattle.parts.specs.Parted.{is_short_for}
@@ -90,25 +91,25 @@ module _ (points : List ℕ) (has alpha : Bool) (listed : List ℕ) where
     unfolding point_set_number point_set_rows first_of
     number_is = rw short_is refl
 
-    -- ---- what the code answers: b says whether colours are made, t whether `why` refuses nothing
+    -- ---- what the code answers: b says whether colours are made
 
-    module _ (why : Refusal) {b t : Bool} (eb : b ≡ makes_colours points has alpha listed) (ew : number_of why ≡ asks (points_in points) b) (et : t ≡ eqb (number_of why) 0) where
-      number_of_lem : number_of why ≡ point_set_number points has alpha listed (lent_to p c s)
-      number_of_lem = ew ∙ ap (asks (points_in points)) eb ∙ number_is
+    module _ {b : Bool} (eb : b ≡ makes_colours points has alpha listed) where
+      same_asks : asks (points_in points) b ≡ point_set_number points has alpha listed (lent_to p c s)
+      same_asks = ap (asks (points_in points)) eb ∙ number_is
 
-      pub refused_call : t ≡ false → PointSetCall points has alpha listed (lent_to p c s) (lent_to p c s) (Refused why)
-      refused_call f = go (point_set_number points has alpha listed (lent_to p c s)) refl
+      pub refused_call : (why : Refusal) → number_of why ≡ asks (points_in points) b → PointSetCall points has alpha listed (lent_to p c s) (lent_to p c s) (Err why)
+      refused_call why ew = go (point_set_number points has alpha listed (lent_to p c s)) refl
         where
-          go : (k : ℕ) → k ≡ point_set_number points has alpha listed (lent_to p c s) → PointSetCall points has alpha listed (lent_to p c s) (lent_to p c s) (Refused why)
-          go zero q = absurd (eqb-false _ _ (sym et ∙ f) (number_of_lem ∙ sym q))
-          go (suc k) q = record { answer = rw (← q) (ap refused (number_of_lem ∙ sym q)); slices = rw (← q) }
+          go : (k : ℕ) → k ≡ point_set_number points has alpha listed (lent_to p c s) → PointSetCall points has alpha listed (lent_to p c s) (lent_to p c s) (Err why)
+          go zero q = absurd (number_some why (ew ∙ same_asks ∙ sym q))
+          go (suc k) q = record { answer = rw (← q) (ap refused (ew ∙ same_asks ∙ sym q)); slices = rw (← q) }
 
-      module _ (f : t ≡ true) where
+      module _ (ew : 0 ≡ asks (points_in points) b) where
         none : point_set_number points has alpha listed (lent_to p c s) ≡ 0
-        none = sym number_of_lem ∙ eqb-true _ _ (sym et ∙ f)
+        none = sym (ew ∙ same_asks)
 
         rows : (ltb edition1.limit (points_in points) ≡ false) × (is_short (points_in points) b lengths ≡ false)
-        rows = no_rows _ _ (sym ew ∙ eqb-true _ _ (sym et ∙ f))
+        rows = no_rows _ _ (sym ew)
 
         few : points_in points ≤ 8192
         unfolding edition1
@@ -135,7 +136,7 @@ module _ (points : List ℕ) (has alpha : Bool) (listed : List ℕ) where
 
         pub made_call : {p' c' s' : List ℕ} → p' ≡ spliced p 0 (take (3 * points_in points) points)
             → c' ≡ spliced c 0 (flat (map words4 (cond b (tab (colour_at alpha listed) (points_in points) 0) []))) → s' ≡ spliced s 0 (tab (λ k. k) (points_in points) 0)
-            → PointSetCall points has alpha listed (lent_to p c s) (lent_to p' c' s') (Made (record { vertices = points_in points; indices = 0; solid = true; unlit = true; has_colors = b }))
+            → PointSetCall points has alpha listed (lent_to p c s) (lent_to p' c' s') (Ok (record { vertices = points_in points; indices = 0; solid = true; unlit = true; has_colors = b }))
         unfolding point_set_result slices_of point_set_mesh flat
         made_call {p'} {c'} {s'} ep ec es =
             let q : points_in points * 3 ≤ length points = omega arith in

@@ -9,7 +9,7 @@ use Rattle.block.specs.Value.{opaque_of}
 use Rattle.mesh.specs.Words.{point_words}
 use Rattle.mesh.specs.Mesh.{Mesh, Slices, slices_of}
 use Rattle.mesh.specs.Result.{Result}
-use Rattle.lent.specs.declared.answer.Answer.{Answer}
+use Rattle.lent.specs.Answer.{Answer}
 use Rattle.lent.specs.Answer.{saying, said, after_all}
 use Rattle.parts.specs.Parted.{is_short_for}
 

@@ -2,7 +2,7 @@
 ghost use Rattle.std.specs.Prelude.{◌≡◌, cond, [], ◌∷◌, ◌*◌, ◌/◌, ◌≤◌, ltb};
 ghost use Rattle.block.specs.declared.refusal.Refusal.TheVariants.{Corners, Buffer};
 ghost use Rattle.block.specs.Edition.{edition1};
-ghost use Rattle.block.specs.Refusal.{number_of, row, first_of};
+ghost use Rattle.block.specs.Refusal.{refused_as, row, first_of};
 ghost use Rattle.pointset.specs.PointSet.{makes_colours};
 ghost use Rattle.pointset.specs.Numbers.{is_short};
 
@@ -62,14 +62,14 @@ fn is_short(n: usize, made: bool, l: Lengths) -> bool
 }
 
 // Of n points, with colours or without: 7, and then 8.
-pub fn refusal_of(n: usize, made: bool, l: Lengths) -> Refusal
-    ensures { number_of result ≡ first_of (row Corners (ltb edition1.limit n) ∷ row Buffer (is_short n made l) ∷ []) }
+pub fn refusal_of(n: usize, made: bool, l: Lengths) -> Result<(), Refusal>
+    ensures { refused_as result ≡ first_of (row Corners (ltb edition1.limit n) ∷ row Buffer (is_short n made l) ∷ []) }
 {
     if n > LIMIT {
-        return Refusal::Corners;
+        return Err(Refusal::Corners);
     }
     if is_short(n, made, l) {
-        return Refusal::Buffer;
+        return Err(Refusal::Buffer);
     }
-    Refusal::Nothing
+    Ok(())
 }

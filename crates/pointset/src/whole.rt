@@ -3,7 +3,6 @@ ghost use Rattle.pointset.specs.PointSet.{PointSetCall, lent_to};
 
 use crate::copies::{copy_words, put_colours, put_sources};
 use crate::refusals::{Lengths, makes_colours, refusal_of};
-use block::is_taken;
 use lent::{Answer, Report};
 
 // The mesh of a PointSet, into the lent slices; or a refusal, and every lent element as it was.
@@ -22,7 +21,7 @@ pub fn point_set(
 {
     let n = points.len() / 3;
     let made = makes_colours(points, has_colors, alpha, listed);
-    let no = refusal_of(
+    refusal_of(
         n,
         made,
         Lengths {
@@ -30,14 +29,11 @@ pub fn point_set(
             colours: colours.len(),
             sources: sources.len(),
         },
-    );
-    if is_taken(no) {} else {
-        return Answer::Refused(no);
-    }
+    )?;
     copy_words(points, positions, 3 * n);
     put_colours(made, alpha, listed, colours, n);
     put_sources(sources, n);
-    Answer::Made(Report {
+    Ok(Report {
         vertices: n,
         indices: 0,
         solid: true,

@@ -2,7 +2,7 @@
 ghost use Rattle.std.specs.Prelude.{◌≤◌};
 
 use answer::parts_of;
-use block::{LIMIT, number_of, read_header};
+use block::{LIMIT, read_header};
 use geometry::Call;
 use lent::{Answer, Report};
 use text::Head;
@@ -77,8 +77,8 @@ fn put_answer(
     out: &mut [u8],
 ) -> usize {
     match answer {
-        Answer::Refused(no) => text::put_refusal(number_of(no), out),
-        Answer::Made(p) => {
+        Err(no) => text::put_refusal(u32::from(no), out),
+        Ok(p) => {
             let head = head_of(p);
             if head.vertices > LIMIT {
                 return 0;

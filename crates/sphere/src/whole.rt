@@ -6,7 +6,6 @@ ghost use Rattle.sphere.specs.Sphere.{sphere_part, sphere_of};
 
 use crate::bands::put_bands;
 use crate::rows::put_rows;
-use block::is_taken;
 use lent::Answer;
 use parts::{GeomCtx, PartLengths, PartSizes, dim, finite_ctx, held, part_refusal, part_report};
 
@@ -43,7 +42,7 @@ pub fn sphere(
     let k = held(stacks, 2);
     let c = finite_ctx(ctx);
     let z = sphere_sizes(n, k);
-    let no = part_refusal(
+    part_refusal(
         c,
         z,
         PartLengths {
@@ -53,11 +52,8 @@ pub fn sphere(
             indices: indices.len(),
             floats: pairs.len(),
         },
-    );
-    if is_taken(no) {} else {
-        return Answer::Refused(no);
-    }
+    )?;
     put_rows(c, r, n, k, pairs, positions, normals, textures);
     put_bands(indices, n, k);
-    Answer::Made(part_report(z))
+    Ok(part_report(z))
 }

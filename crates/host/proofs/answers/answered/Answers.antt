@@ -1,8 +1,8 @@
 use borrow.Author.Rules.{rules}
 use Rattle.host.proofs.answers.answered.Goals as goal
 
-pub returns-in-Refused : goal.returns-in-Refused
-returns-in-Refused c = (rw (c.in-Refused.is, c.number_of.ensures), rw c.in-Refused.is)
+pub returns-in-Err : goal.returns-in-Err
+returns-in-Err c = (rw (c.in-Err.is, c.from.ensures), rw c.in-Err.is)
 
-pub returns-in-Made : goal.returns-in-Made
-returns-in-Made c = (rw c.in-Made.is, rw (c.in-Made.is, c.put_report.ensures))
+pub returns-in-Ok : goal.returns-in-Ok
+returns-in-Ok c = (rw c.in-Ok.is, rw (c.in-Ok.is, c.put_report.ensures))

@@ -4,10 +4,10 @@ use Rattle.limits.specs.Shown.{full}
 use Rattle.limits.proofs.Showing.{shows_refused, shows_made}
 use Rattle.limits.proofs.full.convert_full.Goals as goal
 
-pub returns-in-Refused : goal.returns-in-Refused
+pub returns-in-Err : goal.returns-in-Err
 unfolding full edition1 white
-returns-in-Refused c = shows_refused c.convert.ensures c.in-Refused.is c.number_of.ensures
+returns-in-Err c = shows_refused c.convert.ensures c.in-Err.is c.from.ensures
 
-pub returns-in-Made : goal.returns-in-Made
+pub returns-in-Ok : goal.returns-in-Ok
 unfolding full edition1 white
-returns-in-Made c = shows_made c.convert.ensures c.in-Made.is
+returns-in-Ok c = shows_made c.convert.ensures c.in-Ok.is
