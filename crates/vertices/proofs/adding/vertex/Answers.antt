@@ -14,10 +14,10 @@ find-known-requires c =
     let P = c.requires in
     (roomy_le _ P.room.roomy (omega arith), P.words, laid_le _ P.room.laid (omega arith), P.chained, c.bucket_of-bucket.ensures.0, c.bucket_of-bucket.ensures.1)
 
-pub returns-in-At : goal.returns-in-At
-returns-in-At c =
+pub returns-in-Some : goal.returns-in-Some
+returns-in-Some c =
     let P = c.requires in
-    vertexed_old _ _ _ _ _ _ _ _ P.room.roomy P.chained (sym c.find-known.ensures ∙ c.in-At.is)
+    vertexed_old _ _ _ _ _ _ _ _ P.room.roomy P.chained (sym c.find-known.ensures ∙ c.in-Some.is)
 
 pub append-requires : goal.append-requires
 append-requires c =
