@@ -48,10 +48,10 @@ pub fn same_vertex(
     if v.0 != wide(sources[k]) {
         return false;
     }
-    if same_row(key, 0, normals, w.normal, k) {} else {
+    if !same_row(key, 0, normals, w.normal, k) {
         return false;
     }
-    if same_row(key, 3, colours, w.colour, k) {} else {
+    if !same_row(key, 3, colours, w.colour, k) {
         return false;
     }
     same_row(key, 7, textures, w.texture, k)

@@ -2,9 +2,6 @@ use native.Mathlib.Omega.{arith}
 use Rattle.normals.proofs.Making.{row_made}
 use Rattle.normals.proofs.facing.put_row.Goals as goal
 
-pub store_unit-requires : goal.store_unit-requires
-store_unit-requires c = omega (arith, c.store3.ensures.0.len)
-
 pub returns : goal.returns
 returns c =
     row_made _ _ _ _ _ _ c.store3.ensures.0 c.store3.ensures.1 c.requires.1 c.store_unit.ensures.0 c.store_unit.ensures.1

@@ -6,21 +6,6 @@ use Rattle.normals.specs.Rows.{normal_in}
 use Rattle.normals.proofs.Walks.{left_start, left_step, left_end, all_one, all_none}
 use Rattle.normals.proofs.points.sum_all.Goals as goal
 
-pub loop-g-init : goal.loop-g-init
-loop-g-init c = left_start sum_all
-
-pub overflow_mul-wide : goal.overflow_mul-wide
-overflow_mul-wide c =
-    let R = c.requires.0.room in omega (arith, all_low c.args.t.faces c.faces_at-faces.result.now c.faces_at-faces.ensures.low _ _ c.loop-g-test.true c.wide.ensures)
-
-pub overflow_add-t : goal.overflow_add-t
-overflow_add-t c =
-    let R = c.requires.0.room in omega (arith, all_low c.args.t.faces c.faces_at-faces.result.now c.faces_at-faces.ensures.low _ _ c.loop-g-test.true c.wide.ensures)
-
-pub load-requires : goal.load-requires
-load-requires c =
-    let R = c.requires.0.room in omega (arith, all_low c.args.t.faces c.faces_at-faces.result.now c.faces_at-faces.ensures.low _ _ c.loop-g-test.true c.wide.ensures)
-
 pub loop-g-preserved : goal.loop-g-preserved
 unfolding normal_in
 loop-g-preserved c =

@@ -5,36 +5,6 @@ use Rattle.mesh.specs.Normals.{sum_near}
 use Rattle.normals.proofs.Walks.{left_start, left_step, left_end, near_one_lem, near_nothing}
 use Rattle.normals.proofs.sums.sum_near.Goals as goal
 
-pub overflow_mul-t : goal.overflow_mul-t
-overflow_mul-t c = let R = c.requires.0.room in omega arith
-
-pub overflow_mul-own : goal.overflow_mul-own
-overflow_mul-own c = let R = c.requires.0.room in omega (arith, c.requires.2)
-
-pub overflow_add-t : goal.overflow_add-t
-overflow_add-t c = let R = c.requires.0.room in omega (arith, c.requires.2)
-
-pub get3-s-requires : goal.get3-s-requires
-get3-s-requires c = omega (arith, c.requires.2, c.requires.3.room)
-
-pub loop-x-init : goal.loop-x-init
-loop-x-init c = left_start (sum_near _ _ _)
-
-pub overflow_mul-t-in-loop-x : goal.overflow_mul-t-in-loop-x
-overflow_mul-t-in-loop-x c = let R = c.requires.0.room in omega arith
-
-pub overflow_mul-g : goal.overflow_mul-g
-overflow_mul-g c =
-    let R = c.requires.0.room in omega (arith, all_low c.args.t.faces c.faces_at-faces.result.now c.faces_at-faces.ensures.low _ _ c.loop-x-test.true c.wide-g.ensures, c.requires.3.room)
-
-pub overflow_add-t-in-loop-x : goal.overflow_add-t-in-loop-x
-overflow_add-t-in-loop-x c =
-    let R = c.requires.0.room in omega (arith, all_low c.args.t.faces c.faces_at-faces.result.now c.faces_at-faces.ensures.low _ _ c.loop-x-test.true c.wide-g.ensures, c.requires.3.room)
-
-pub near_step-s-requires : goal.near_step-s-requires
-near_step-s-requires c =
-    let R = c.requires.0.room in omega (arith, all_low c.args.t.faces c.faces_at-faces.result.now c.faces_at-faces.ensures.low _ _ c.loop-x-test.true c.wide-g.ensures, c.requires.3.room)
-
 pub loop-x-preserved : goal.loop-x-preserved
 loop-x-preserved c =
     let l = all_low c.args.t.faces c.faces_at-faces.result.now c.faces_at-faces.ensures.low _ _ c.loop-x-test.true c.wide-g.ensures in

@@ -4,12 +4,6 @@ use lib.ListN.{length-set}
 use Rattle.normals.proofs.Making.{unit_some, unit_none}
 use Rattle.normals.proofs.vectors.store_unit.Goals as goal
 
-pub store3-requires : goal.store3-requires
-store3-requires c = simp length-set (omega arith)
-
-pub shape_of-work-in-Of : goal.shape_of-work-in-Of
-shape_of-work-in-Of c = c.store3.ensures.0.len ∙ simp length-set refl
-
 pub returns-in-Of : goal.returns-in-Of
 returns-in-Of c =
     unit_some _ _ _ c.requires _ _ c.store3.ensures.0 c.store3.ensures.1 c.in-Of.is
