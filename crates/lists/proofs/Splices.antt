@@ -28,11 +28,6 @@ module _ {A : Type 0} where
   unfolding spliced
   splice_start l a = rw (add-zero, append-nil (take a l)) (sym (take-append-drop a l))
 
-  -- all replaced
-  pub splice_whole : (l p : List A) → length p ≡ length l → spliced l 0 p ≡ p
-  unfolding spliced
-  splice_whole l p e = ap (λ (r : List A). p ++ r) (drop_of_length-le l {i = 0 + length p} (omega arith)) ∙ append-nil p
-
   -- from the start of the list
   pub splice_front : (l p : List A) → spliced l 0 p ≡ p ++ drop (length p) l
   unfolding spliced

@@ -1,14 +1,12 @@
 -- Parts of words: compared and copied one word after another, and read as the words of a key. One fact over the number of words.
 use mathlib.Core.Path.{◌≡◌, refl, sym, ap}
-use mathlib.Core.Bool.{Bool, true, false, ◌&&◌}
+use mathlib.Core.Bool.{Bool, ◌&&◌}
 use mathlib.Core.List.{List, [], ◌∷◌}
-use Prim.Native.Nat.{ℕ, zero, suc, ◌+◌, ◌*◌, ◌-◌, ◌≤◌, ◌<◌}
+use Prim.Native.Nat.{ℕ, zero, suc, ◌+◌, ◌*◌, ◌≤◌, ◌<◌}
 use native.Mathlib.Nat.{le_of_suc-le-suc, not-suc-le-zero, suc_inj, suc-ne-zero, mul-suc, mul-le-mul_left}
-use native.Mathlib.Omega.{arith}
 use lib.Dec.{eqb}
 use lib.ListN.{length, get_or, take}
 use lib.Pointwise.{pointwise}
-use lib.Seq.{drop-cons}
 use Rattle.lists.specs.Lists.{same_words}
 use Rattle.lists.proofs.Lists.{T_true, same_words_self, drop_three}
 use Rattle.lists.specs.Parts.{seg}

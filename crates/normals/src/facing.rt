@@ -43,7 +43,7 @@ fn put_row(work: &mut [u32], a: usize, v: V3, k: Unit)
     store_unit(work, a + 3, k);
 }
 
-// The rows of the faces, four at a time, and how many they are.
+// The rows of the faces, four at a time since their roots are taken together, and how many they are.
 fn rows_by_fours(work: &mut [u32], t: Plan, ccw: bool) -> usize
     requires { Sound work.old t }
     ensures { (result ≤ t.faces) × Kept t.rows work.old work.new × Sound work.new t × Rowed work.old work.new t ccw result }

@@ -75,6 +75,7 @@ fn put_normal(work: &[u32], t: Plan, bound: f32, floats: &mut [f32], c: CornerNu
 }
 
 // The normals of the first corners under the cosine rule, four at a time, since their roots are taken together; and how many they are.
+// Not one with `rows_by_fours`: a corner may take the sum of one before it, so a four is not one closure called four times.
 fn near_normals(work: &[u32], t: Plan, bound: f32, floats: &mut [f32]) -> usize
     requires { Ready work.now t × Summed work.now t (Bound bound) floats.old × (3 * t.count ≤ length floats.old) }
     ensures { Begun floats.old floats.new work.now t (Bound bound) result }

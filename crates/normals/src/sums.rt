@@ -27,6 +27,7 @@ fn near_step(floats: &[f32], row: usize, g: usize, own: usize, u: V3, bound: f32
     s
 }
 
+// Not one with `sum_all`: they share the walk alone, which is one line.
 // The normal of face own, and then those of the faces at p, once for each use, that are near to its unit vector u.
 pub fn sum_near(
     work: &[u32],

@@ -1,7 +1,4 @@
-use native.Mathlib.Omega.{arith}
-use mathlib.Core.Path.{◌≡◌}
-use Rattle.lists.proofs.Keep.{kept_all}
-use Rattle.tables.proofs.Spreads.{spread_none, spread_next}
+use Rattle.tables.proofs.Spreads.{spread_next}
 use Rattle.normals.proofs.facing.owners.Goals as goal
 
 pub loop-g-preserved : goal.loop-g-preserved

@@ -1,4 +1,3 @@
-use Prim.Native.Nat.{◌-◌, ◌≤◌}
 use Rattle.lists.specs.Parts.{Kept}
 use Rattle.tables.specs.Soups.{Sound}
 use Rattle.normals.specs.Rows.{OwnedTo}

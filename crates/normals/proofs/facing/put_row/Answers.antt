@@ -1,4 +1,3 @@
-use native.Mathlib.Omega.{arith}
 use Rattle.normals.proofs.Making.{row_made}
 use Rattle.normals.proofs.facing.put_row.Goals as goal
 

@@ -1,7 +1,6 @@
 use mathlib.Core.Path.{◌≡◌}
-use Prim.Native.Nat.{◌+◌, ◌*◌, ◌/◌, ◌<◌}
+use Prim.Native.Nat.{◌+◌, ◌*◌, ◌<◌}
 use native.Mathlib.Omega.{arith}
-use Rattle.lists.proofs.Keep.{kept_all}
 use Rattle.normals.proofs.Making.{rows_four}
 use Rattle.normals.proofs.facing.rows_by_fours.Goals as goal
 

@@ -1,5 +1,3 @@
-use native.Mathlib.Omega.{arith}
-use mathlib.Core.Path.{◌≡◌, refl, ◌∙◌}
 use Rattle.normals.proofs.Making.{rows_next, row_sound}
 use Rattle.normals.proofs.facing.rows_from.Goals as goal
 

@@ -1,6 +1,3 @@
-use mathlib.Core.Path.{◌≡◌}
-use Prim.Native.Nat.{◌-◌, ◌≤◌}
-use lib.ListN.{length}
 use Rattle.tables.specs.Soups.{Sound}
 use Rattle.normals.specs.Rows.{Onward}
 use Rattle.normals.proofs.facing.rows_from.Given as goal

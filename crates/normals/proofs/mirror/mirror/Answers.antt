@@ -1,8 +1,7 @@
-use native.Mathlib.Omega.{arith}
-use mathlib.Core.Path.{◌≡◌, refl, ap, ◌∙◌}
+use mathlib.Core.Path.{refl, ap, ◌∙◌}
 use Rattle.mesh.specs.Normals.{or_else}
 use Rattle.normals.specs.Rows.{normal_in, unit_in}
-use Rattle.normals.proofs.Floats.{mirror_none, mirror_next}
+use Rattle.normals.proofs.Floats.{mirror_next}
 use Rattle.normals.proofs.mirror.mirror.Goals as goal
 
 pub loop-g-preserved : goal.loop-g-preserved

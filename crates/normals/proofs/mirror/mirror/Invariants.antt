@@ -1,7 +1,4 @@
-use mathlib.Core.Path.{◌≡◌}
-use Prim.Native.Nat.{◌-◌, ◌≤◌}
-use lib.ListN.{length}
-use Rattle.normals.specs.Rows.{no_unit, Mirrored}
+use Rattle.normals.specs.Rows.{Mirrored}
 use Rattle.normals.proofs.mirror.mirror.Given as goal
 
 abbrev pub invariant-loop-g : goal.invariant-loop-g

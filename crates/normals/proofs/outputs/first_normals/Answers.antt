@@ -1,4 +1,4 @@
-use Rattle.normals.proofs.Begun.{begun_none, summed_bound, begun_bound}
+use Rattle.normals.proofs.Begun.{begun_none}
 use Rattle.normals.proofs.outputs.first_normals.Goals as goal
 
 pub returns-in-Own : goal.returns-in-Own

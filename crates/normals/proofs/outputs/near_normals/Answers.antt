@@ -1,7 +1,6 @@
 use native.Mathlib.Omega.{arith}
-use mathlib.Core.Path.{◌≡◌, refl, ap, ◌∙◌}
-use Prim.Native.Nat.{◌+◌, ◌*◌, ◌/◌}
-use Rattle.math.specs.Vector.{unit_of}
+use mathlib.Core.Path.{◌≡◌, refl}
+use Prim.Native.Nat.{◌+◌, ◌*◌}
 use Rattle.normals.proofs.Summing.{rows_read}
 use Rattle.normals.proofs.Begun.{begun_none, begun_four}
 use Rattle.normals.proofs.outputs.near_normals.Goals as goal

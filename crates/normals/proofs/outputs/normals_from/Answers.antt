@@ -1,6 +1,5 @@
 use native.Mathlib.Omega.{arith}
-use mathlib.Core.Path.{◌≡◌, refl, ◌∙◌}
-use Rattle.normals.proofs.Floats.{summed_put, vector_size}
+use Rattle.normals.proofs.Floats.{summed_put}
 use Rattle.normals.proofs.Begun.{begun_next}
 use Rattle.normals.proofs.Soups.{corner_is}
 use Rattle.normals.proofs.outputs.normals_from.Goals as goal

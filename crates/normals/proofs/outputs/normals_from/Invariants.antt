@@ -1,6 +1,3 @@
-use mathlib.Core.Path.{◌≡◌}
-use Prim.Native.Nat.{◌-◌, ◌≤◌}
-use lib.ListN.{length}
 use Rattle.normals.specs.Rows.{Summed}
 use Rattle.normals.specs.Written.{Continued}
 use Rattle.normals.proofs.outputs.normals_from.Given as goal

@@ -1,4 +1,3 @@
-use native.Mathlib.Omega.{arith}
 use mathlib.Core.Path.{◌∙◌}
 use Prim.Native.Nat.{◌<◌}
 use Rattle.normals.specs.Rows.{normal_in, unit_in}

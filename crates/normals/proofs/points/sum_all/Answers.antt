@@ -1,9 +1,7 @@
-use native.Mathlib.Omega.{arith}
 use mathlib.Core.Path.{refl, ap, ◌∙◌}
-use Rattle.lists.proofs.Lists.{all_low}
 use Rattle.mesh.specs.Normals.{sum_all}
 use Rattle.normals.specs.Rows.{normal_in}
-use Rattle.normals.proofs.Walks.{left_start, left_step, left_end, all_one, all_none}
+use Rattle.normals.proofs.Walks.{left_step, left_end, all_one, all_none}
 use Rattle.normals.proofs.points.sum_all.Goals as goal
 
 pub loop-g-preserved : goal.loop-g-preserved

@@ -1,7 +1,4 @@
-use native.Mathlib.Omega.{arith}
-use mathlib.Core.Path.{◌≡◌}
-use Rattle.lists.proofs.Keep.{kept_all}
-use Rattle.normals.proofs.Summing.{ready_kept, sums_none, sums_next}
+use Rattle.normals.proofs.Summing.{ready_kept, sums_next}
 use Rattle.normals.proofs.points.sum_points.Goals as goal
 
 pub sum_all-s-requires : goal.sum_all-s-requires

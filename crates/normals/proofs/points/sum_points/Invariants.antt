@@ -1,4 +1,3 @@
-use Prim.Native.Nat.{◌-◌, ◌≤◌}
 use Rattle.lists.specs.Parts.{Kept}
 use Rattle.normals.specs.Rows.{SummedTo}
 use Rattle.normals.proofs.points.sum_points.Given as goal

@@ -1,4 +1,3 @@
-use native.Mathlib.Omega.{arith}
 use mathlib.Core.Path.{◌∙◌}
 use Rattle.normals.specs.Rows.{unit_in}
 use Rattle.normals.proofs.Arms.{normal_made}

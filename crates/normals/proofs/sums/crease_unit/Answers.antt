@@ -1,4 +1,3 @@
-use native.Mathlib.Omega.{arith}
 use mathlib.Core.Path.{refl}
 use Rattle.normals.specs.Rows.{sum_in}
 use Rattle.normals.proofs.Arms.{unit_own, unit_every, unit_bound, unit_bound_none}

@@ -1,4 +1,3 @@
-use native.Mathlib.Omega.{arith}
 use mathlib.Core.Path.{ap, ◌∙◌}
 use Rattle.math.specs.declared.vector.Unit.{Unit}
 use Rattle.math.specs.Vector.{y_axis}

@@ -1,8 +1,7 @@
-use native.Mathlib.Omega.{arith}
 use mathlib.Core.Path.{ap, ◌∙◌}
 use Rattle.lists.proofs.Lists.{all_low}
 use Rattle.mesh.specs.Normals.{sum_near}
-use Rattle.normals.proofs.Walks.{left_start, left_step, left_end, near_one_lem, near_nothing}
+use Rattle.normals.proofs.Walks.{left_step, left_end, near_one_lem, near_nothing}
 use Rattle.normals.proofs.sums.sum_near.Goals as goal
 
 pub loop-x-preserved : goal.loop-x-preserved

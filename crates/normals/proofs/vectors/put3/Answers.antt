@@ -1,5 +1,3 @@
-use native.Mathlib.Omega.{arith}
-use lib.ListN.{length-set}
 use Rattle.lists.proofs.Splices.{put_three}
 use Rattle.normals.proofs.vectors.put3.Goals as goal
 

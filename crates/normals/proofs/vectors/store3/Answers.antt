@@ -1,5 +1,3 @@
-use native.Mathlib.Omega.{arith}
-use lib.ListN.{length-set}
 use Rattle.normals.proofs.Making.{stored}
 use borrow.Author.Rules.{rules}
 use Rattle.normals.proofs.vectors.store3.Goals as goal

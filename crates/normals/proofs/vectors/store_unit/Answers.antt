@@ -1,6 +1,3 @@
-use native.Mathlib.Omega.{arith}
-use mathlib.Core.Path.{refl, ◌∙◌}
-use lib.ListN.{length-set}
 use Rattle.normals.proofs.Making.{unit_some, unit_none}
 use Rattle.normals.proofs.vectors.store_unit.Goals as goal
 
