@@ -72,13 +72,12 @@ pub fn all_vertices<'a>(
 {
     fill(work, t.heads, t.buckets, 0);
     let mut n = VertexNumber(0);
-    let mut c = CornerNumber(0);
-    while c.0 < t.count {
+    for i in 0..t.count {
+        let c = CornerNumber(i);
         let key = key_of(block, coord, a, floats, work, t, c);
         n = number_corner(
             sources, positions, normals, colours, textures, work, w, t, n, c, &key,
         );
-        c = CornerNumber(c.0 + 1);
     }
     n
 }

@@ -2,19 +2,19 @@
 use mathlib.Core.Path.{◌≡◌, refl, sym, ap, ◌∙◌, subst}
 use mathlib.Core.List.{List, [], ◌∷◌, ◌++◌, map, map-append, append_assoc, append-nil}
 use Prim.Native.Nat.{ℕ, zero, suc, ◌+◌, ◌-◌, ◌*◌, ◌≤◌, ◌<◌}
-use native.Mathlib.Nat.{zero-add, add-zero, suc-add, add-suc, mul-suc, mul_comm}
+use native.Mathlib.Nat.{add-zero, suc-add, add-suc, mul-suc, mul_comm}
 use native.Mathlib.Numerals.{add-one}
 use native.Mathlib.Omega.{arith}
-use lib.ListN.{length, get_or, set, take, drop, replicate, length-append, length-set}
+use lib.ListN.{length, get_or, set, take, drop, length-append, length-set}
 use lib.Seq.{take_all, drop-drop}
 use Rattle.lists.specs.Loops.{tab}
 use Rattle.lists.proofs.Numbers.{piece_room}
-use Rattle.lists.proofs.Tabs.{length_tab, tab_at, tab_add, tab_snoc, tab_replicate}
+use Rattle.lists.proofs.Tabs.{length_tab, tab_at, tab_add, tab_snoc}
 use Rattle.lists.specs.Lists.{join_n, flat}
 use Rattle.lists.proofs.Lists.{All_by, flat_at, middle}
 use Rattle.lists.proofs.Totals.{flat_total, total_tab}
 use Rattle.lists.specs.Parts.{spliced, Kept, Added}
-use Rattle.lists.proofs.Splices.{splice_start, splice_more, splice_whole, set_is, spliced_front, put_size, put_part}
+use Rattle.lists.proofs.Splices.{splice_start, splice_more, set_is, spliced_front, put_size, put_part}
 
 module _ {A : Type 0} where
   pub flat_append : (x y : List (List A)) → flat (x ++ y) ≡ flat x ++ flat y
@@ -235,15 +235,6 @@ module _ {A : Type 0} {f : ℕ → A} {n : ℕ} {l : List A} {k : ℕ} where
       P.is ∙ ap (λ (j : ℕ). spliced l k (tab f j 0)) e
 
 -- ---- a whole list, each element v
-
-module _ {A : Type 0} (v : A) {l : List A} {i : ℕ} {made : List A} (P : Singles (λ j. v) (length l) l 0 i made) where
-  pub same_more : i < length made → Singles (λ j. v) (length l) l 0 (i + 1) (set made i v)
-  same_more h = rw (zero-add i) at (singles_more v (omega arith) P (let s = P.size in omega arith) refl)
-
-  pub same_all : length made ≤ i → made ≡ replicate (length l) v
-  same_all h =
-      singles_all P (let s = P.size in omega arith) ∙ splice_whole l (tab (λ j. v) (length l) 0) (length_tab (λ j. v) (length l) 0)
-      ∙ tab_replicate v (length l) 0
 
 -- ---- what was added, and then more
 

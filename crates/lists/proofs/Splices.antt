@@ -8,6 +8,7 @@ use native.Mathlib.Numerals.{add-one}
 use native.Mathlib.Omega.{arith}
 use lib.ListN.{length, get_or, set, take, drop, replicate, length-append, length-take, length-drop, drop_of_length-le, length-replicate, get_or-replicate, take-append-drop}
 use lib.Seq.{take_at, drop_at, drop-append-add, drop-drop, length-take-le, sets, sets-eq, get_or-take, get_or-drop, take_all}
+use borrow.Rule.Slice.PartMut.{put_mid}
 use Rattle.lists.specs.Loops.{tab}
 use Rattle.lists.specs.Parts.{seg, spliced, Kept, Out, TableOf}
 use Rattle.lists.proofs.Tabs.{length_tab, tab_at}
@@ -26,11 +27,6 @@ module _ {A : Type 0} where
   pub splice_start : (l : List A) (a : ℕ) → l ≡ spliced l a []
   unfolding spliced
   splice_start l a = rw (add-zero, append-nil (take a l)) (sym (take-append-drop a l))
-
-  -- all replaced
-  pub splice_whole : (l p : List A) → length p ≡ length l → spliced l 0 p ≡ p
-  unfolding spliced
-  splice_whole l p e = ap (λ (r : List A). p ++ r) (drop_of_length-le l {i = 0 + length p} (omega arith)) ∙ append-nil p
 
   -- from the start of the list
   pub splice_front : (l p : List A) → spliced l 0 p ≡ p ++ drop (length p) l
@@ -53,6 +49,13 @@ module _ {A : Type 0} where
   past : (l : List A) (a : ℕ) (p : List A) → length l ≤ a → spliced l a p ≡ l ++ p
   unfolding spliced
   past l a p h = rw (take_all a l h, drop_of_length-le l {i = a + length p} (omega arith)) (append-nil (l ++ p))
+
+  -- after a write to `s[a..e]`: k is e - a, and q is what the part holds now
+  pub mid_spliced : (a k : ℕ) (l : List A) {q p : List A} → q ≡ p → length p ≡ k → put_mid a k l q ≡ spliced l a p
+  unfolding spliced
+  mid_spliced a k l {q} {p} e s =
+      let d : drop k (drop a l) ≡ drop (a + length p) l = drop-drop k a l ∙ ap (λ (n : ℕ). drop (a + n) l) (sym s) in
+      ap₂ (λ (x y : List A). take a l ++ (x ++ y)) e d ∙ sym (append_assoc (take a l) p (drop (a + length p) l))
 
   pub splice_join : (l : List A) (a : ℕ) (p q : List A) → spliced l a (p ++ q) ≡ spliced (spliced l a p) (a + length p) q
   splice_join l a p q =

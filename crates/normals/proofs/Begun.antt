@@ -51,14 +51,6 @@ sum_again w t rule c d h e =
     let eo = sym (eqb-true (owner_in w t c) (owner_in w t d) (and_right G O h)) in
     e ∙ λ i. crease_sum rule (eo i) (normal_in w t (eo i)) (hits_at w t (eg i))
 
--- ---- a rule that is known to be the cosine rule
-
-pub summed_bound : {w : List ℕ} {t : Plan} {rule : CreaseRule} {b : Float} {d : List Float} → rule ≡ Bound b → Summed w t rule d → Summed w t (Bound b) d
-summed_bound {w} {t} {rule} {b} {d} e S = subst (λ (r : CreaseRule). Summed w t r d) e S
-
-pub begun_bound : {d e : List Float} {w : List ℕ} {t : Plan} {rule : CreaseRule} {b : Float} {n : ℕ} → rule ≡ Bound b → Begun d e w t (Bound b) n → Begun d e w t rule n
-begun_bound {d} {e} {w} {t} {rule} {b} {n} q B = subst (λ (r : CreaseRule). Begun d e w t r n) (sym q) B
-
 -- ---- a turn of the loops
 
 module _ {w : List ℕ} {t : Plan} {rule : CreaseRule} (d : List Float) (l : 3 * t.count ≤ length d) where

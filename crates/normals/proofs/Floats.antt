@@ -4,7 +4,7 @@ use mathlib.Core.Logic.{◌⊎◌, inl, inr, ⊎_elim}
 use mathlib.Core.Bool.{Bool, false, cond}
 use mathlib.Core.List.{List}
 use Prim.Native.Nat.{ℕ, ◌+◌, ◌*◌, ◌≤◌, ◌<◌}
-use native.Mathlib.Nat.{not-suc-le-zero, add-zero}
+use native.Mathlib.Nat.{add-zero}
 use native.Mathlib.Omega.{arith}
 use lib.Dec.{eqb}
 use lib.ListN.{length, get_or}
@@ -66,9 +66,6 @@ module _ (d : List Float) (a : ℕ) (v : V3) {e : List Float} (q : e ≡ spliced
   vector_size = put_size d a (three v) q refl h
 
 -- ---- the rows
-
-pub mirror_none : {d : List Float} {w : List ℕ} {t : Plan} → 3 * t.count + 6 * t.faces ≤ length d → Mirrored d w t 0
-mirror_none r = record { room = r; normal = λ g b. absurd (not-suc-le-zero b); unit = λ g b. absurd (not-suc-le-zero b) }
 
 -- a turn of the loop
 pub mirror_next : (d : List Float) {d₁ d₂ : List Float} {w : List ℕ} {t : Plan} (g a : ℕ) (n u : V3) (k : (Option V3)) → Mirrored d w t g → a ≡ 3 * t.count + 6 * g → g < t.faces

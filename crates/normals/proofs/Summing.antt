@@ -4,7 +4,6 @@ use mathlib.Core.Logic.{⊎_elim}
 use mathlib.Core.Bool.{Bool, true, false, cond, true≢false}
 use mathlib.Core.List.{List, [], ◌∷◌, map}
 use Prim.Native.Nat.{ℕ, suc, ◌+◌, ◌*◌, ◌≤◌, ◌<◌}
-use native.Mathlib.Nat.{not-suc-le-zero}
 use native.Mathlib.Omega.{arith}
 use lib.Dec.{eqb}
 use lib.ListN.{length}
@@ -93,9 +92,6 @@ module _ {v w : List ℕ} {t : Plan} (K : Kept t.sums v w) (R : Ready v t) where
     every = λ f. record { at = λ p b. S.at p (omega arith) ∙ ap (λ (hs : List Hit). unit_of (sum_all (v3 zero_f zero_f zero_f) hs)) (sym (hits_same p)) };
     bound = λ f. absurd (true≢false (sym f ∙ ap is_bound e));
   }
-
-pub sums_none : {v w : List ℕ} {t : Plan} → SummedTo v w t 0
-sums_none = record { at = λ p b. absurd (not-suc-le-zero b) }
 
 -- what the other rules ask for
 pub sums_own : {w : List ℕ} {t : Plan} {d : List Float} (rule : CreaseRule) → rule ≡ Own → Summed w t rule d

@@ -34,9 +34,6 @@ module _ {w : List ℕ} {t : Plan} (R : Ready w t) where
       let l = length_gathers in
       below_all t.spots (gathers_in w t) (λ j b. rw (tab_at (gather_in w t) t.count j 0 (omega arith)) (R.gathers j (omega arith))) ∙ l
 
-  pub start_low : (p : ℕ) → p < t.spots → get_or w (t.heads + p) 0 ≤ t.count
-  start_low p h = let l = length_gathers in omega (arith, R.grouped.starts p h, below_le p (gathers_in w t))
-
   pub last_end : (p : ℕ) → p < t.spots → t.spots ≤ p + 1 → t.nexts + t.count ≡ t.nexts + below (suc p) (gathers_in w t)
   last_end p h k = let e : t.spots ≡ suc p = omega arith in ap (λ (n : ℕ). t.nexts + n) (sym all_below_lem ∙ ap (λ (n : ℕ). below n (gathers_in w t)) e)
 

@@ -14,11 +14,9 @@ pub fn owners(work: &mut [u32], t: Plan)
     requires { Sound work.old t }
     ensures { Kept t.owners work.old work.new × OwnedTo work.old work.new t t.faces }
 {
-    let mut g = 0;
-    while g < t.faces {
+    for g in 0..t.faces {
         let e = stretch_of(work, t, g);
         fill(work, t.owners + e.from.0, e.to.0 - e.from.0, narrow(g));
-        g += 1;
     }
 }
 
@@ -45,13 +43,14 @@ fn put_row(work: &mut [u32], a: usize, v: V3, k: Option<V3>)
     store_unit(work, a + 3, k);
 }
 
-// The rows of the faces, four at a time, and how many they are.
+// The rows of the faces, four at a time since their roots are taken together, and how many they are.
 fn rows_by_fours(work: &mut [u32], t: Plan, ccw: bool) -> usize
     requires { Sound work.old t }
     ensures { (result ≤ t.faces) × Kept t.rows work.old work.new × Sound work.new t × Rowed work.old work.new t ccw result }
 {
-    let mut g = 0;
-    while g + 3 < t.faces {
+    let fours = t.faces / 4;
+    for i in 0..fours {
+        let g = 4 * i;
         let p = t.rows + 7 * g;
         let q = t.rows + 7 * (g + 1);
         let r = t.rows + 7 * (g + 2);
@@ -61,17 +60,12 @@ fn rows_by_fours(work: &mut [u32], t: Plan, ccw: bool) -> usize
         let c = face_normal(work, t, ccw, g + 2);
         let d = face_normal(work, t, ccw, g + 3);
         let k = math::normalize_four(a, b, c, d);
-        let ua = k.a;
-        let ub = k.b;
-        let uc = k.c;
-        let ud = k.d;
-        put_row(work, p, a, ua);
-        put_row(work, q, b, ub);
-        put_row(work, r, c, uc);
-        put_row(work, s, d, ud);
-        g += 4;
+        put_row(work, p, a, k.a);
+        put_row(work, q, b, k.b);
+        put_row(work, r, c, k.c);
+        put_row(work, s, d, k.d);
     }
-    g
+    4 * fours
 }
 
 // The rows from face g on.
@@ -79,12 +73,10 @@ fn rows_from(work: &mut [u32], t: Plan, ccw: bool, g: usize)
     requires { Sound work.old t × (g ≤ t.faces) }
     ensures { Onward work.old work.new t ccw g t.faces }
 {
-    let mut k = g;
-    while k < t.faces {
+    for k in g..t.faces {
         let n = face_normal(work, t, ccw, k);
         let u = math::normalize(n);
         put_row(work, t.rows + 7 * k, n, u);
-        k += 1;
     }
 }
 

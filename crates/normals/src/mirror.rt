@@ -24,12 +24,10 @@ pub fn mirror(work: &[u32], t: Plan, floats: &mut [f32])
     ensures { Mirrored floats.new work.now t t.faces }
 {
     let none = no_unit();
-    let mut g = 0;
-    while g < t.faces {
+    for g in 0..t.faces {
         let row = t.rows + 7 * g;
         let at = 3 * t.count + 6 * g;
         put3(floats, at, load(work, row));
         put3(floats, at + 3, or_else(load_unit(work, row + 3), none));
-        g += 1;
     }
 }

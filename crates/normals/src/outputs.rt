@@ -36,10 +36,8 @@ fn is_again(work: &[u32], t: Plan, c: CornerNumber, d: CornerNumber) -> bool
     requires { Room (length work.now) t × (c.0 < t.count) × (d.0 < t.count) }
     ensures { result ≡ again work.now t c.0 d.0 }
 {
-    if gather_of(work, t, c).0 == gather_of(work, t, d).0 {
-        return owner_of(work, t, c) == owner_of(work, t, d);
-    }
-    false
+    gather_of(work, t, c).0 == gather_of(work, t, d).0
+        && owner_of(work, t, c) == owner_of(work, t, d)
 }
 
 // The same, where the sums at two corners are known, x at a and y at b: a face that uses a point again has the same sum there.
@@ -77,12 +75,14 @@ fn put_normal(work: &[u32], t: Plan, bound: f32, floats: &mut [f32], c: CornerNu
 }
 
 // The normals of the first corners under the cosine rule, four at a time, since their roots are taken together; and how many they are.
+// Not one with `rows_by_fours`: a corner may take the sum of one before it, so a four is not one closure called four times.
 fn near_normals(work: &[u32], t: Plan, bound: f32, floats: &mut [f32]) -> usize
     requires { Ready work.now t × Summed work.now t (Bound bound) floats.old × (3 * t.count ≤ length floats.old) }
     ensures { Begun floats.old floats.new work.now t (Bound bound) result }
 {
-    let mut c = 0;
-    while c + 3 < t.count {
+    let fours = t.count / 4;
+    for q in 0..fours {
+        let c = 4 * q;
         let i = CornerNumber(c);
         let j = CornerNumber(c + 1);
         let l = CornerNumber(c + 2);
@@ -92,17 +92,12 @@ fn near_normals(work: &[u32], t: Plan, bound: f32, floats: &mut [f32]) -> usize
         let z = sum_after(work, t, floats, l, bound, i, x, j, y);
         let w = sum_after(work, t, floats, m, bound, j, y, l, z);
         let k = math::normalize_four(x, y, z, w);
-        let ua = k.a;
-        let ub = k.b;
-        let uc = k.c;
-        let ud = k.d;
-        put_normal(work, t, bound, floats, i, ua);
-        put_normal(work, t, bound, floats, j, ub);
-        put_normal(work, t, bound, floats, l, uc);
-        put_normal(work, t, bound, floats, m, ud);
-        c += 4;
+        put_normal(work, t, bound, floats, i, k.a);
+        put_normal(work, t, bound, floats, j, k.b);
+        put_normal(work, t, bound, floats, l, k.c);
+        put_normal(work, t, bound, floats, m, k.d);
     }
-    c
+    4 * fours
 }
 
 // The other rules take no root at a corner, and begin with none.
@@ -111,15 +106,8 @@ fn first_normals(work: &[u32], t: Plan, rule: CreaseRule, floats: &mut [f32]) ->
     ensures { Begun floats.old floats.new work.now t rule result }
 {
     match rule {
-        CreaseRule::Own => {
-            return 0;
-        }
-        CreaseRule::Every => {
-            return 0;
-        }
-        CreaseRule::Bound(b) => {
-            return near_normals(work, t, b, floats);
-        }
+        CreaseRule::Own | CreaseRule::Every => 0,
+        CreaseRule::Bound(b) => near_normals(work, t, b, floats),
     }
 }
 
@@ -128,13 +116,11 @@ fn normals_from(work: &[u32], t: Plan, rule: CreaseRule, floats: &mut [f32], c: 
     requires { Ready work.now t × Summed work.now t rule floats.old × (3 * t.count ≤ length floats.old) × (c ≤ t.count) }
     ensures { Continued floats.old floats.new work.now t rule c t.count }
 {
-    let mut k = c;
-    while k < t.count {
+    for k in c..t.count {
         let p = gather_of(work, t, CornerNumber(k));
         let own = owner_of(work, t, CornerNumber(k));
         let v = corner_normal(work, t, floats, p, own, rule);
         put3(floats, 3 * k, v);
-        k += 1;
     }
 }
 

@@ -1,47 +1,33 @@
 // FORMAT 10.2, generate_normals: what a crease rule asks for before the corners' normals. The sum of every face depends on the number alone, so it is
 // made once for each: made for each corner, it would be a square where many corners meet.
-ghost use Rattle.std.specs.Prelude.{◌≡◌, map, ℕ, ◌+◌, ◌*◌, ◌≤◌, ◌<◌, length};
+ghost use Rattle.std.specs.Prelude.{◌≡◌, ◌+◌, ◌*◌, ◌≤◌, ◌<◌, length};
 ghost use Rattle.math.specs.Vector.{v3, zero_f};
-ghost use Rattle.lists.specs.Loops.{All};
 ghost use Rattle.lists.specs.Parts.{Kept};
 ghost use Rattle.mesh.specs.Normals.{sum_all};
-ghost use Rattle.tables.specs.Layout.{Room};
-ghost use Rattle.normals.specs.Rows.{hit_of, hits_at, Ready, SummedTo, Summed};
+ghost use Rattle.normals.specs.Rows.{hits_at, Ready, SummedTo, Summed};
 
-use crate::groups::{end_at, start_at};
+use crate::groups::faces_at;
 use crate::mirror::mirror;
 use crate::vectors::{load, store_unit};
 use block::{CreaseRule, PointNumber};
 use math::V3;
 use tables::{Plan, wide};
 
-// The facing normals of some faces, from (0, 0, 0).
-fn sum_faces(work: &[u32], t: Plan, faces: &[u32]) -> V3
-    requires { Room (length work.now) t × All (λ (g : ℕ). g < t.faces) faces.now }
-    ensures { result ≡ sum_all (v3 zero_f zero_f zero_f) (map (hit_of work.now t) faces.now) }
+// The facing normals of the faces at p, from (0, 0, 0), each once for each use.
+fn sum_all(work: &[u32], t: Plan, p: PointNumber) -> V3
+    requires { Ready work.now t × (p.0 < t.spots) }
+    ensures { result ≡ sum_all (v3 zero_f zero_f zero_f) (hits_at work.now t p.0) }
 {
+    let faces = faces_at(work, t, p);
     let mut s = V3 {
         x: 0.0,
         y: 0.0,
         z: 0.0,
     };
-    let mut k = 0;
-    while k < faces.len() {
-        let g = wide(faces[k]);
-        s = math::add(s, load(work, t.rows + 7 * g));
-        k += 1;
+    for g in faces {
+        s = math::add(s, load(work, t.rows + 7 * wide(*g)));
     }
     s
-}
-
-// Every face at p, once for each use.
-fn sum_all(work: &[u32], t: Plan, p: PointNumber) -> V3
-    requires { Ready work.now t × (p.0 < t.spots) }
-    ensures { result ≡ sum_all (v3 zero_f zero_f zero_f) (hits_at work.now t p.0) }
-{
-    let from = start_at(work, t, p);
-    let to = end_at(work, t, p);
-    sum_faces(work, t, &work[from..to])
 }
 
 // The unit vector of that sum, for each number.
@@ -49,11 +35,9 @@ fn sum_points(work: &mut [u32], t: Plan)
     requires { Ready work.old t }
     ensures { Kept t.sums work.old work.new × SummedTo work.old work.new t t.spots }
 {
-    let mut p = 0;
-    while p < t.spots {
+    for p in 0..t.spots {
         let s = sum_all(work, t, PointNumber(p));
         store_unit(work, t.sums + 4 * p, math::normalize(s));
-        p += 1;
     }
 }
 
@@ -63,16 +47,8 @@ pub fn share(work: &mut [u32], t: Plan, rule: CreaseRule, floats: &mut [f32])
     ensures { Kept t.sums work.old work.new × Summed work.new t rule floats.new }
 {
     match rule {
-        CreaseRule::Own => {
-            return;
-        }
-        CreaseRule::Every => {
-            sum_points(work, t);
-            return;
-        }
-        CreaseRule::Bound(_b) => {
-            mirror(work, t, floats);
-            return;
-        }
+        CreaseRule::Own => {}
+        CreaseRule::Every => sum_points(work, t),
+        CreaseRule::Bound(_) => mirror(work, t, floats),
     }
 }

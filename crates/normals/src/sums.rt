@@ -1,13 +1,12 @@
 // FORMAT 10.2, generate_normals: the unit vector of the sum of facing normals at a corner by the crease rule, and the corner's normal.
-ghost use Rattle.std.specs.Prelude.{◌≡◌, map, ℕ, ◌+◌, ◌≤◌, ◌<◌, length};
+ghost use Rattle.std.specs.Prelude.{◌≡◌, ◌+◌, ◌≤◌, ◌<◌, length};
 ghost use Rattle.std.specs.Prelude.{Some};
 ghost use Rattle.math.specs.Vector.{y_axis, unit_of};
-ghost use Rattle.lists.specs.Loops.{All};
 ghost use Rattle.mesh.specs.Normals.{near_by, sum_near, crease_sum, or_else};
-ghost use Rattle.normals.specs.Rows.{vector, normal_in, hit_of, hits_at, Ready, Mirrored, Summed};
+ghost use Rattle.normals.specs.Rows.{vector, normal_in, hits_at, Ready, Mirrored, Summed};
 ghost use Rattle.normals.specs.Written.{normal_at};
 
-use crate::groups::{end_at, start_at};
+use crate::groups::faces_at;
 use crate::vectors::{get3, load_unit, or_else};
 use block::{CreaseRule, PointNumber};
 use math::V3;
@@ -28,30 +27,8 @@ fn near_step(floats: &[f32], row: usize, g: usize, own: usize, u: V3, bound: f32
     s
 }
 
-// The normal of face own, and then those of some faces that are near to its unit vector u.
-fn near_faces(
-    work: &[u32],
-    t: Plan,
-    floats: &[f32],
-    faces: &[u32],
-    own: usize,
-    u: V3,
-    bound: f32,
-) -> V3
-    requires { Ready work.now t × All (λ (g : ℕ). g < t.faces) faces.now × (own < t.faces) × Mirrored floats.now work.now t t.faces }
-    ensures { result ≡ sum_near bound own u (normal_in work.now t own) (map (hit_of work.now t) faces.now) }
-{
-    let mut s = get3(floats, 3 * t.count + 6 * own);
-    let mut k = 0;
-    while k < faces.len() {
-        let g = wide(faces[k]);
-        s = near_step(floats, 3 * t.count + 6 * g, g, own, u, bound, s);
-        k += 1;
-    }
-    s
-}
-
-// The faces at p, once for each use.
+// Not one with `sum_all`: they share the walk alone, which is one line.
+// The normal of face own, and then those of the faces at p, once for each use, that are near to its unit vector u.
 pub fn sum_near(
     work: &[u32],
     t: Plan,
@@ -64,9 +41,13 @@ pub fn sum_near(
     requires { Ready work.now t × (p.0 < t.spots) × (own < t.faces) × Mirrored floats.now work.now t t.faces }
     ensures { result ≡ sum_near bound own u (normal_in work.now t own) (hits_at work.now t p.0) }
 {
-    let from = start_at(work, t, p);
-    let to = end_at(work, t, p);
-    near_faces(work, t, floats, &work[from..to], own, u, bound)
+    let faces = faces_at(work, t, p);
+    let mut s = get3(floats, 3 * t.count + 6 * own);
+    for x in faces {
+        let g = wide(*x);
+        s = near_step(floats, 3 * t.count + 6 * g, g, own, u, bound, s);
+    }
+    s
 }
 
 // The unit vector at a corner of face own, whose own one is k, that is gathered under p. Only the cosine rule takes a root here: that of every face is made

@@ -7,6 +7,7 @@ ghost use Rattle.normals.specs.Written.{three};
 
 use math::V3;
 
+// Not one with `get3`, nor `store3` with `put3`: words hold the bits of a float, so it would take a trait with its laws for three lines.
 pub fn load(work: &[u32], a: usize) -> V3
     requires { a + 3 ≤ length work.now }
     ensures { result ≡ at3 work.now a }

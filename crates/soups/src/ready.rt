@@ -12,12 +12,10 @@ fn spread_numbers(work: &mut [u32], t: Plan)
     requires { Sound work.old t }
     ensures { Kept t.owners work.old work.new × Spread work.old work.new t (number_in work.old t) t.faces }
 {
-    let mut g = 0;
-    while g < t.faces {
+    for g in 0..t.faces {
         let e = stretch_of(work, t, g);
         let number = work[t.numbers + g];
         fill(work, t.owners + e.from.0, e.to.0 - e.from.0, number);
-        g += 1;
     }
 }
 

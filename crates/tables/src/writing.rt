@@ -17,31 +17,19 @@ pub fn fill(work: &mut [u32], a: usize, n: usize, v: u32)
     requires { a + n ≤ length work.old }
     ensures { work.new ≡ spliced work.old a (replicate n v) }
 {
-    let mut i = 0;
-    while i < n {
-        work[a + i] = v;
-        i += 1;
-    }
+    work[a..a + n].fill(v);
 }
 
 // Every word is 0.
 pub fn clear_words(work: &mut [u32])
     ensures { work.new ≡ replicate (length work.old) 0 }
 {
-    let mut i = 0;
-    while i < work.len() {
-        work[i] = 0;
-        i += 1;
-    }
+    work.fill(0);
 }
 
 // Every float is 0.0.
 pub fn clear_floats(floats: &mut [f32])
     ensures { floats.new ≡ replicate (length floats.old) (of_bits binary32 0) }
 {
-    let mut i = 0;
-    while i < floats.len() {
-        floats[i] = 0.0;
-        i += 1;
-    }
+    floats.fill(0.0);
 }

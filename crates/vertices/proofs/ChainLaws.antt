@@ -11,14 +11,13 @@ use borrow.Author.Tests.{eqb-true, eqb-false, eq-eqb, ne_eqb}
 use lib.Dec.{eqb}
 use lib.ListN.{length, get_or, set, length-set}
 use lib.Seq.{get_or-set_same, get_or-set_other}
+use Rattle.std.specs.Prelude.{Option, Some, None}
 use Rattle.block.specs.declared.number.VertexNumber.{VertexNumber}
 use Rattle.mesh.specs.Vertices.{Key, same_key}
 use Rattle.lists.proofs.Tests.{cases}
 use Rattle.lists.proofs.Numbers.{lt_of_ne}
 use Rattle.vertices.specs.declared.places.Widths.{Widths}
 use Rattle.vertices.specs.declared.places.Chains.{Chains}
-use Rattle.vertices.specs.declared.search.Known.{Known}
-use Rattle.vertices.specs.declared.search.Known.TheVariants.{At, Nowhere}
 use Rattle.vertices.specs.Places.{Store, Laid}
 use Rattle.vertices.specs.Hash.{bucket_of}
 use Rattle.vertices.specs.Search.{known_by, seek, key_at, place_of, bucket_at, last_at, Chained}
@@ -28,25 +27,25 @@ use Rattle.vertices.proofs.Keys.{other_by}
 
 -- ---- the words of a chain
 
-pub known_none : (word : ℕ) → word ≤ 0 → Nowhere ≡ known_by word
+pub known_none : (word : ℕ) → word ≤ 0 → None ≡ known_by word
 unfolding known_by
 known_none word h = let e : word ≡ 0 = omega arith in rw e
 
-known_next : (n : ℕ) → known_by (n + 1) ≡ At (record { 0 = n })
+known_next : (n : ℕ) → known_by (n + 1) ≡ Some (record { 0 = n })
 unfolding known_by
 known_next n = rw (add-one)
 
-pub known_at : (word x : ℕ) → x ≡ word → 0 < word → At (record { 0 = x - 1 }) ≡ known_by word
+pub known_at : (word x : ℕ) → x ≡ word → 0 < word → Some (record { 0 = x - 1 }) ≡ known_by word
 known_at word x e h = let q : x - 1 + 1 ≡ word = omega arith in rw (← q) (sym (known_next (x - 1)))
 
 -- ---- the vertex of a key, and the last in a bucket
 
 module _ (w : Widths) (s : Store) (k : Key) where
-  place_none : place_of w s 0 k ≡ Nowhere
+  place_none : place_of w s 0 k ≡ None
   unfolding place_of
   place_none = seek_none (λ i. same_key k (key_at w s i))
 
-  place_yes : (i : VertexNumber) → same_key k (key_at w s i.0) ≡ true → place_of w s (suc i.0) k ≡ At i
+  place_yes : (i : VertexNumber) → same_key k (key_at w s i.0) ≡ true → place_of w s (suc i.0) k ≡ Some i
   unfolding place_of
   place_yes i e = found (λ i. same_key k (key_at w s i)) i.0 e
 
@@ -65,46 +64,46 @@ last_le : (f : ℕ → ℕ) (n b : ℕ) → up_to (last_at f n b) ≤ n
 unfolding last_at
 last_le f n b = seek_le (λ i. eqb b (f i)) n
 
-last_is : (f : ℕ → ℕ) (n b : ℕ) (i : VertexNumber) → last_at f n b ≡ At i → f i.0 ≡ b
+last_is : (f : ℕ → ℕ) (n b : ℕ) (i : VertexNumber) → last_at f n b ≡ Some i → f i.0 ≡ b
 unfolding last_at
 last_is f n b i e = sym (eqb-true b _ (seek_hit (λ i. eqb b (f i)) n i e))
 
 -- ---- the search
 
 -- x is where the search along the chain of the key's bucket has come to: of the n vertices none that was left counts
-pub record Met (w : Widths) (t : Chains) (s : Store) (k : Key) (n : ℕ) (x : Known) : Type 0 where
+pub record Met (w : Widths) (t : Chains) (s : Store) (k : Key) (n : ℕ) (x : Option VertexNumber) : Type 0 where
   pub le : up_to x ≤ n
   pub same : place_of w s n k ≡ place_of w s (up_to x) k
-  pub here : (i : VertexNumber) → x ≡ At i → bucket_at w t s i.0 ≡ bucket_of t.buckets k
+  pub here : (i : VertexNumber) → x ≡ Some i → bucket_at w t s i.0 ≡ bucket_of t.buckets k
 
-module _ {w : Widths} {t : Chains} {s : Store} {k : Key} {n : ℕ} {x : Known} (M : Met w t s k n x) where
+module _ {w : Widths} {t : Chains} {s : Store} {k : Key} {n : ℕ} {x : Option VertexNumber} (M : Met w t s k n x) where
   -- the end of the chain
-  pub met_end : x ≡ Nowhere → Nowhere ≡ place_of w s n k
+  pub met_end : x ≡ None → None ≡ place_of w s n k
   unfolding up_to
-  met_end e = sym (M.same ∙ ap (λ (y : Known). place_of w s (up_to y) k) e ∙ place_none w s k)
+  met_end e = sym (M.same ∙ ap (λ (y : Option VertexNumber). place_of w s (up_to y) k) e ∙ place_none w s k)
 
-  module _ (i : VertexNumber) (e : x ≡ At i) where
+  module _ (i : VertexNumber) (e : x ≡ Some i) where
     pub met_below : i.0 < n
     unfolding up_to
-    met_below = subst (λ (y : Known). up_to y ≤ n) e M.le
+    met_below = subst (λ (y : Option VertexNumber). up_to y ≤ n) e M.le
 
     met_here : place_of w s n k ≡ place_of w s (suc i.0) k
     unfolding up_to
-    met_here = M.same ∙ ap (λ (y : Known). place_of w s (up_to y) k) e
+    met_here = M.same ∙ ap (λ (y : Option VertexNumber). place_of w s (up_to y) k) e
 
-    pub met_found : same_key k (key_at w s i.0) ≡ true → At i ≡ place_of w s n k
+    pub met_found : same_key k (key_at w s i.0) ≡ true → Some i ≡ place_of w s n k
     met_found h = sym (met_here ∙ place_yes w s k i h)
 
 module _ (w : Widths) (s : Store) (k : Key) (t : Chains) (m : List ℕ) (n : ℕ) (c : Chained t (bucket_at w t s) m n) where
-  met_last : (j : ℕ) (x : Known) → x ≡ last_at (bucket_at w t s) j (bucket_of t.buckets k) → Met w t s k j x
+  met_last : (j : ℕ) (x : Option VertexNumber) → x ≡ last_at (bucket_at w t s) j (bucket_of t.buckets k) → Met w t s k j x
   met_last j x e =
       let b = bucket_of t.buckets k in
       rw e (record { le = last_le (bucket_at w t s) j b; same = place_skip w s k t j; here = last_is (bucket_at w t s) j b })
 
-  pub met_start : (x : Known) (b : ℕ) → x ≡ known_by (get_or m (t.heads + b) 0) → b ≡ bucket_of t.buckets k → b < t.buckets → Met w t s k n x
+  pub met_start : (x : Option VertexNumber) (b : ℕ) → x ≡ known_by (get_or m (t.heads + b) 0) → b ≡ bucket_of t.buckets k → b < t.buckets → Met w t s k n x
   met_start x b e q h = met_last n x (e ∙ c.heads b h ∙ ap (last_at (bucket_at w t s) n) q)
 
-  pub met_step : (x y : Known) (i : VertexNumber) → y ≡ known_by (get_or m (t.nexts + i.0) 0) → Met w t s k n x → x ≡ At i → same_key k (key_at w s i.0) ≡ false
+  pub met_step : (x y : Option VertexNumber) (i : VertexNumber) → y ≡ known_by (get_or m (t.nexts + i.0) 0) → Met w t s k n x → x ≡ Some i → same_key k (key_at w s i.0) ≡ false
       → (up_to y < up_to x) × Met w t s k n y
   unfolding up_to
   met_step x y i q r h e =
@@ -121,7 +120,7 @@ module _ (f g : ℕ → ℕ) (n b : ℕ) (old : (i : ℕ) → i < n → g i ≡ 
   unfolding last_at
   last_old j u h = seek_cong (λ i. eqb u (g i)) (λ i. eqb u (f i)) j (λ i l. ap (eqb u) (old i (omega arith)))
 
-  last_new : last_at g (n + 1) b ≡ At (record { 0 = n })
+  last_new : last_at g (n + 1) b ≡ Some (record { 0 = n })
   unfolding last_at seek
   last_new = rw (add-one, new, eq-eqb b b refl)
 

@@ -10,6 +10,7 @@ use borrow.Author.Tests.{eq-eqb, ne_eqb}
 use lib.Dec.{T}
 use lib.ListN.{length, get_or, set, take, drop, length-append, length-set, get_or-append}
 use lib.Seq.{sets, get_or-append_seam, take-set-le}
+use Rattle.std.specs.Prelude.{Option, Some, None}
 use Rattle.block.specs.declared.number.VertexNumber.{VertexNumber}
 use Rattle.lists.specs.Lists.{has, place, meet, firsts}
 use Rattle.mesh.specs.Vertices.{Key, same_key}
@@ -17,8 +18,6 @@ use Rattle.lists.proofs.Lists.{All_append, All_get_or, T_true, has_get_d, firsts
 use Rattle.mesh.proofs.Keys.{same_key_sound, same_key_self}
 use Rattle.vertices.specs.declared.places.Widths.{Widths}
 use Rattle.vertices.specs.declared.places.Chains.{Chains}
-use Rattle.vertices.specs.declared.search.Known.{Known}
-use Rattle.vertices.specs.declared.search.Known.TheVariants.{At, Nowhere}
 use Rattle.lists.specs.Parts.{seg}
 use Rattle.vertices.specs.Places.{Store, Roomy, Laid, Room}
 use Rattle.vertices.specs.Search.{two, three, four, key_at, corner_key, place_of, bucket_at, Chained}
@@ -39,9 +38,9 @@ has_none k d (x ∷ ks) h =
     rw a (has_none k d ks (λ i b. h (suc i) (suc-le-suc b)))
 
 -- a vertex that the search finds is one of the n
-place_below : (w : Widths) (s : Store) (n : ℕ) (k : Key) (i : VertexNumber) → place_of w s n k ≡ At i → i.0 < n
+place_below : (w : Widths) (s : Store) (n : ℕ) (k : Key) (i : VertexNumber) → place_of w s n k ≡ Some i → i.0 < n
 unfolding place_of up_to
-place_below w s n k i f = subst (λ (x : Known). up_to x ≤ n) f (seek_le (λ i. same_key k (key_at w s i)) n)
+place_below w s n k i f = subst (λ (x : Option VertexNumber). up_to x ≤ n) f (seek_le (λ i. same_key k (key_at w s i)) n)
 
 module _ (w : Widths) (pts : List ℕ) (z : Store) (x₀ : List ℕ) (s : Store) (x : List ℕ) (ks : List Key) (H : Holds w pts z x₀ s x ks)
     (W : (w.normal ≤ 3) × (w.colour ≤ 4) × (w.texture ≤ 2)) where
@@ -56,7 +55,7 @@ module _ (w : Widths) (pts : List ℕ) (z : Store) (x₀ : List ℕ) (s : Store)
       ∙ All_get_or (λ (k : Key). trimmed w k ≡ k) ks H.trim d i l
 
   module _ (k : Key) (n : ℕ) (e : length ks ≡ n) where
-    pub held_old : (i : VertexNumber) → place_of w s n k ≡ At i → (has same_key k ks ≡ true) × (place same_key k ks ≡ i.0)
+    pub held_old : (i : VertexNumber) → place_of w s n k ≡ Some i → (has same_key k ks ≡ true) × (place same_key k ks ≡ i.0)
     unfolding place_of
     held_old i f =
         let q : ℕ → Bool = λ i. same_key k (key_at w s i) in
@@ -66,7 +65,7 @@ module _ (w : Widths) (pts : List ℕ) (z : Store) (x₀ : List ℕ) (s : Store)
           ap (λ (c : Key). place same_key c ks) y ∙ H.distinct i.0 k l,
         )
 
-    pub held_new : place_of w s n k ≡ Nowhere → has same_key k ks ≡ false
+    pub held_new : place_of w s n k ≡ None → has same_key k ks ≡ false
     unfolding place_of
     held_new f =
         let q : ℕ → Bool = λ i. same_key k (key_at w s i) in
@@ -117,7 +116,7 @@ pub laid_le : {t : Chains} {len n : ℕ} (m : ℕ) → Laid t len n → m ≤ n 
 laid_le {t} {len} {n} m L h = record { some = L.some; points = L.points; buckets = L.buckets; heads = L.heads; nexts = omega (arith, L.nexts) }
 
 pub vertexed_old : (w : Widths) (t : Chains) (n : ℕ) (k : Key) (s : Store) (x m : List ℕ) (i : VertexNumber) → Roomy w s (n + 1)
-    → Chained t (bucket_at w t s) m n → place_of w s n k ≡ At i → Vertexed w t n k s x m s x m i.0
+    → Chained t (bucket_at w t s) m n → place_of w s n k ≡ Some i → Vertexed w t n k s x m s x m i.0
 vertexed_old w t n k s x m i R C f =
     record {
       number = λ z x₀ ks H e. let a = held_old w (points_in t m) z x₀ s x ks H R.widths k n e i f in
@@ -159,7 +158,7 @@ module _ (w : Widths) (t : Chains) (n v b : ℕ) (l : List ℕ) (s : Store) (x m
       }
 
   -- where the key is new
-  module _ (f : place_of w s n (corner_key w v l) ≡ Nowhere) where
+  module _ (f : place_of w s n (corner_key w v l) ≡ None) where
     met_new : (z : Store) (x₀ : List ℕ) (ks : List Key) → Holds w (points_in t m) z x₀ s x ks → length ks ≡ n → meet same_key ks k ≡ ks ++ (k ∷ [])
     unfolding k
     met_new z x₀ ks H e = meet_new same_key k ks (held_new w (points_in t m) z x₀ s x ks H W k n e f)

@@ -1,13 +1,12 @@
 -- FORMAT 11: the keys of vertices and of a corner as the slices hold them, the number of a key among the vertices, and the chains of the search.
-use Rattle.std.specs.Prelude.{◌≡◌, Bool, cond, List, ℕ, zero, suc, ◌+◌, ◌*◌, ◌<◌, eqb, get_or}
+use Rattle.std.specs.Prelude.{◌≡◌, Bool, cond, List, Option, Some, None, ℕ, zero, suc, ◌+◌, ◌*◌, ◌<◌, eqb, get_or}
 use Rattle.bits.specs.declared.Words2.{Words2}
 use Rattle.bits.specs.declared.Words3.{Words3}
 use Rattle.bits.specs.declared.Words4.{Words4}
+use Rattle.block.specs.declared.number.VertexNumber.{VertexNumber}
 use Rattle.mesh.specs.Vertices.{Key, same_key}
 use Rattle.vertices.specs.declared.places.Widths.{Widths}
 use Rattle.vertices.specs.declared.places.Chains.{Chains}
-use Rattle.vertices.specs.declared.search.Known.{Known}
-use Rattle.vertices.specs.declared.search.Known.TheVariants.{At, Nowhere}
 use Rattle.lists.specs.Parts.{seg}
 use Rattle.vertices.specs.Places.{Store}
 use Rattle.vertices.specs.Hash.{bucket_of}
@@ -38,17 +37,17 @@ corner_key w v l =
     record { point = v; normal = three (seg l 0 w.normal); colour = four (seg l 3 w.colour); texture = two (seg l 7 w.texture) }
 
 -- the vertex that a word of a chain names: one more than its number, 0 for none
-unfoldable pub known_by : ℕ → Known
-known_by zero = Nowhere
-known_by (suc i) = At (record { 0 = i })
+unfoldable pub known_by : ℕ → Option VertexNumber
+known_by zero = None
+known_by (suc i) = Some (record { 0 = i })
 
 -- the greatest number below n that passes the test
-unfoldable pub seek : (ℕ → Bool) → ℕ → Known
-seek p zero = Nowhere
-seek p (suc n) = let r = seek p n in cond (p n) (At (record { 0 = n })) r
+unfoldable pub seek : (ℕ → Bool) → ℕ → Option VertexNumber
+seek p zero = None
+seek p (suc n) = let r = seek p n in cond (p n) (Some (record { 0 = n })) r
 
 -- FORMAT 11: the vertex among the first n that has key k
-unfoldable pub place_of : Widths → Store → ℕ → Key → Known
+unfoldable pub place_of : Widths → Store → ℕ → Key → Option VertexNumber
 place_of w s n k = seek (λ i. same_key k (key_at w s i)) n
 
 -- the bucket of vertex i
@@ -56,7 +55,7 @@ unfoldable pub bucket_at : Widths → Chains → Store → ℕ → ℕ
 bucket_at w t s i = bucket_of t.buckets (key_at w s i)
 
 -- the last of the first n vertices that is in bucket b, where vertex i is in bucket f i
-unfoldable pub last_at : (ℕ → ℕ) → ℕ → ℕ → Known
+unfoldable pub last_at : (ℕ → ℕ) → ℕ → ℕ → Option VertexNumber
 last_at f n b = seek (λ i. eqb b (f i)) n
 
 -- of each bucket the last of the n vertices in it, and of each vertex the last before it in the same bucket

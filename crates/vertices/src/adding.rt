@@ -8,7 +8,7 @@ ghost use Rattle.vertices.specs.Adding.{linked, Appended, Ready, Vertexed, count
 use crate::hash::bucket_of;
 use crate::parts::put_row;
 use crate::places::{Bucket, Chains, Widths};
-use crate::search::{Known, find, word_of};
+use crate::search::{find, word_of};
 use block::{PointNumber, VertexNumber};
 use tables::narrow;
 
@@ -77,7 +77,7 @@ pub fn vertex(
     let known = find(
         sources, normals, colours, textures, w, n, point, bucket, key, work, t,
     );
-    if let Known::At(i) = known {
+    if let Some(i) = known {
         return i;
     }
     append(

@@ -4,27 +4,12 @@ ghost use Rattle.std.proofs.lemmas.List.Edits.{sets};
 ghost use Rattle.lists.specs.Lists.{same_words};
 ghost use Rattle.lists.specs.Parts.{seg};
 
-// Whether the n words of a from i are those of b from j (FORMAT 11).
-pub fn same_words(a: &[u32], i: usize, b: &[u32], j: usize, n: usize) -> bool
-    requires { (i + n ≤ length a.now) × (j + n ≤ length b.now) }
-    ensures { result ≡ same_words (seg a.now i n) (seg b.now j n) }
-{
-    let mut t = 0;
-    while t < n {
-        if a[i + t] != b[j + t] {
-            return false;
-        }
-        t += 1;
-    }
-    true
-}
-
-// Whether the w words of key from j are row i of l.
+// Whether the w words of key from j are row i of l (FORMAT 11).
 pub fn same_row(key: &[u32], j: usize, l: &[u32], w: usize, i: usize) -> bool
     requires { (j + w ≤ length key.now) × (w * i + w ≤ length l.now) }
     ensures { result ≡ same_words (seg key.now j w) (seg l.now (w * i) w) }
 {
-    same_words(key, j, l, w * i, w)
+    key[j..j + w] == l[w * i..w * i + w]
 }
 
 fn put_three(dst: &mut [u32], at: usize, x: u32, y: u32, z: u32)
@@ -36,7 +21,7 @@ fn put_three(dst: &mut [u32], at: usize, x: u32, y: u32, z: u32)
     dst[at + 2] = z;
 }
 
-// The n words of src from j, into dst from at. Three, as positions and normals have, go one by one: the loop becomes a call that copies.
+// The n words of src from j, into dst from at. Three, as positions and normals have, go one by one: a copy of any number is a call.
 pub fn put_words(dst: &mut [u32], at: usize, src: &[u32], j: usize, n: usize)
     requires { (at + n ≤ length dst.old) × (j + n ≤ length src.now) }
     ensures { dst.new ≡ sets dst.old at (seg src.now j n) }
@@ -45,11 +30,7 @@ pub fn put_words(dst: &mut [u32], at: usize, src: &[u32], j: usize, n: usize)
         put_three(dst, at, src[j], src[j + 1], src[j + 2]);
         return;
     }
-    let mut t = 0;
-    while t < n {
-        dst[at + t] = src[j + t];
-        t += 1;
-    }
+    dst[at..at + n].copy_from_slice(&src[j..j + n]);
 }
 
 // Row i of dst, of w words, takes the words of src from j.

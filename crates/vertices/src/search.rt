@@ -11,21 +11,14 @@ use crate::places::{Bucket, Chains, Widths};
 use block::{PointNumber, VertexNumber};
 use tables::{narrow, wide};
 
-// The vertex that a search comes to, if there is one.
-#[derive(Clone, Copy)]
-pub enum Known {
-    At(VertexNumber),
-    Nowhere,
-}
-
 // The vertex that a word of a chain names: the word is one more than its number, 0 for none.
-fn known_by(word: u32) -> Known
+fn known_by(word: u32) -> Option<VertexNumber>
     ensures { result ≡ known_by word }
 {
     if 0 < word {
-        return Known::At(VertexNumber(wide(word) - 1));
+        return Some(VertexNumber(wide(word) - 1));
     }
-    Known::Nowhere
+    None
 }
 
 // The word that names vertex i.
@@ -55,16 +48,16 @@ pub fn same_vertex(
     if v.0 != wide(sources[k]) {
         return false;
     }
-    if same_row(key, 0, normals, w.normal, k) {} else {
+    if !same_row(key, 0, normals, w.normal, k) {
         return false;
     }
-    if same_row(key, 3, colours, w.colour, k) {} else {
+    if !same_row(key, 3, colours, w.colour, k) {
         return false;
     }
     same_row(key, 7, textures, w.texture, k)
 }
 
-// The vertex among the first n that has the point v and the words key. Only the chain of the vertices in the key's bucket is
+// The vertex, if there is one, among the first n that has the point v and the words key. Only the chain of the vertices in the key's bucket is
 // looked at: the last of them is in its head, the one before vertex i in the next of i.
 pub fn find(
     sources: &[u32],
@@ -78,7 +71,7 @@ pub fn find(
     key: &[u32],
     work: &[u32],
     t: Chains,
-) -> Known
+) -> Option<VertexNumber>
     requires { Roomy w (record { sources = sources.now; normals = normals.now; colours = colours.now; textures = textures.now }) n.0
         × (9 ≤ length key.now) × Laid t (length work.now) n.0
         × Chained t (bucket_at w t (record { sources = sources.now; normals = normals.now; colours = colours.now; textures = textures.now })) work.now n.0
@@ -87,11 +80,12 @@ pub fn find(
         (corner_key w v.0 key.now) }
 {
     let mut x = known_by(work[t.heads + bucket.0]);
-    while let Known::At(i) = x {
+    // A while: the next vertex is where the chain leads, so no range counts it.
+    while let Some(i) = x {
         if same_vertex(sources, normals, colours, textures, w, i, v, key) {
             return x;
         }
         x = known_by(work[t.nexts + i.0]);
     }
-    Known::Nowhere
+    None
 }

@@ -1,9 +1,5 @@
-use native.Mathlib.Omega.{arith}
 use Rattle.normals.proofs.Making.{row_made}
 use Rattle.normals.proofs.facing.put_row.Goals as goal
-
-pub store_unit-requires : goal.store_unit-requires
-store_unit-requires c = omega (arith, c.store3.ensures.0.len)
 
 pub returns : goal.returns
 returns c =

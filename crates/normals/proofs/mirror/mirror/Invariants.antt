@@ -1,11 +1,5 @@
-use mathlib.Core.Path.{◌≡◌}
-use Prim.Native.Nat.{◌-◌, ◌≤◌}
-use lib.ListN.{length}
-use Rattle.normals.specs.Rows.{no_unit, Mirrored}
+use Rattle.normals.specs.Rows.{Mirrored}
 use Rattle.normals.proofs.mirror.mirror.Given as goal
 
 abbrev pub invariant-loop-g : goal.invariant-loop-g
-invariant-loop-g l = (l.g ≤ l.t.faces) × Mirrored l.floats l.work l.t l.g × (l.none ≡ no_unit) × (length l.floats ≡ length l.initial.floats)
-
-abbrev pub decreases-loop-g : goal.decreases-loop-g
-decreases-loop-g l = l.t.faces - l.g
+invariant-loop-g l = Mirrored l.floats l.work l.t l.g

@@ -1,12 +1,6 @@
-use mathlib.Core.Path.{◌≡◌}
-use Prim.Native.Nat.{◌-◌, ◌≤◌}
-use lib.ListN.{length}
 use Rattle.normals.specs.Rows.{Summed}
 use Rattle.normals.specs.Written.{Continued}
 use Rattle.normals.proofs.outputs.normals_from.Given as goal
 
 abbrev pub invariant-loop-k : goal.invariant-loop-k
-invariant-loop-k l = (l.k ≤ l.t.count) × (length l.floats ≡ length l.initial.floats) × Summed l.work l.t l.rule l.floats × Continued l.initial.floats l.floats l.work l.t l.rule l.c l.k
-
-abbrev pub decreases-loop-k : goal.decreases-loop-k
-decreases-loop-k l = l.t.count - l.k
+invariant-loop-k l = Summed l.work l.t l.rule l.floats × Continued l.initial.floats l.floats l.work l.t l.rule l.c l.k

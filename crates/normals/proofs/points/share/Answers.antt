@@ -6,16 +6,9 @@ use Rattle.normals.proofs.points.share.Goals as goal
 pub returns-in-Own : goal.returns-in-Own
 returns-in-Own c = (kept_all, sums_own _ c.in-Own.is)
 
-pub sum_points-requires : goal.sum_points-requires
-sum_points-requires c = c.requires.0
-
 pub returns-in-Every : goal.returns-in-Every
 returns-in-Every c =
     (c.sum_points.ensures.0, sums_all c.sum_points.ensures.0 c.requires.0 _ _ _ c.in-Every.is (omega arith) c.sum_points.ensures.1)
-
-pub mirror-requires : goal.mirror-requires
-mirror-requires c =
-    (c.requires.0.room, c.requires.1)
 
 pub returns-in-Bound : goal.returns-in-Bound
 returns-in-Bound c = (kept_all, sums_bound _ _ c.in-Bound.is c.mirror.ensures)

@@ -1,10 +1,6 @@
-use Prim.Native.Nat.{◌-◌, ◌≤◌}
 use Rattle.lists.specs.Parts.{Kept}
 use Rattle.normals.specs.Rows.{SummedTo}
 use Rattle.normals.proofs.points.sum_points.Given as goal
 
 abbrev pub invariant-loop-p : goal.invariant-loop-p
-invariant-loop-p l = (l.p ≤ l.t.spots) × Kept l.t.sums l.initial.work l.work × SummedTo l.initial.work l.work l.t l.p
-
-abbrev pub decreases-loop-p : goal.decreases-loop-p
-decreases-loop-p l = l.t.spots - l.p
+invariant-loop-p l = Kept l.t.sums l.initial.work l.work × SummedTo l.initial.work l.work l.t l.p

@@ -1,4 +1,3 @@
-use native.Mathlib.Omega.{arith}
 use mathlib.Core.Path.{refl}
 use Rattle.normals.specs.Rows.{sum_in}
 use Rattle.normals.proofs.Arms.{unit_own, unit_every, unit_bound, unit_bound_none}
@@ -7,15 +6,6 @@ use Rattle.normals.proofs.sums.crease_unit.Goals as goal
 
 pub returns-in-Own : goal.returns-in-Own
 returns-in-Own c = unit_own _ _ _ _ _ c.in-Own.is c.requires.4
-
-pub overflow_mul-p : goal.overflow_mul-p
-overflow_mul-p c = let R = c.requires.0.room in omega (arith, c.requires.2)
-
-pub overflow_add-t : goal.overflow_add-t
-overflow_add-t c = let R = c.requires.0.room in omega (arith, c.requires.2)
-
-pub load_unit-requires : goal.load_unit-requires
-load_unit-requires c = let R = c.requires.0.room in omega (arith, c.requires.2)
 
 pub returns-in-Every : goal.returns-in-Every
 unfolding sum_in

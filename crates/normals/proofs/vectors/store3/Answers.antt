@@ -1,14 +1,6 @@
-use native.Mathlib.Omega.{arith}
-use lib.ListN.{length-set}
 use Rattle.normals.proofs.Making.{stored}
 use borrow.Author.Rules.{rules}
 use Rattle.normals.proofs.vectors.store3.Goals as goal
-
-pub bounds-work-a-2 : goal.bounds-work-a-2
-bounds-work-a-2 c = simp length-set (omega arith)
-
-pub bounds-work-a-3 : goal.bounds-work-a-3
-bounds-work-a-3 c = simp length-set (omega arith)
 
 pub returns : goal.returns
 returns c = stored _ _ _ _ _ _ c.requires (search rules) (search rules) (search rules) c.bits_of.ensures c.bits_of-2.ensures c.bits_of-3.ensures

@@ -1,14 +1,5 @@
-use native.Mathlib.Omega.{arith}
-use mathlib.Core.Path.{refl, ◌∙◌}
-use lib.ListN.{length-set}
 use Rattle.normals.proofs.Making.{unit_some, unit_none}
 use Rattle.normals.proofs.vectors.store_unit.Goals as goal
-
-pub store3-requires : goal.store3-requires
-store3-requires c = simp length-set (omega arith)
-
-pub shape_of-work-in-Some : goal.shape_of-work-in-Some
-shape_of-work-in-Some c = c.store3.ensures.0.len ∙ simp length-set refl
 
 pub returns-in-Some : goal.returns-in-Some
 returns-in-Some c =

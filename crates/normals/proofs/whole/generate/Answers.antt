@@ -6,9 +6,6 @@ use Rattle.normals.proofs.Soups.{generated_all}
 use Rattle.normals.proofs.Summing.{made_kept}
 use Rattle.normals.proofs.whole.generate.Goals as goal
 
-pub share-requires : goal.share-requires
-share-requires c = (c.prepare.ensures.ready, c.requires.1)
-
 pub corner_normals-requires : goal.corner_normals-requires
 corner_normals-requires c =
     let M = made_kept c.prepare.ensures c.share.ensures.0 in

@@ -1,9 +1,6 @@
 use Rattle.normals.proofs.Making.{made, after_owners, after_rows}
 use Rattle.normals.proofs.whole.prepare.Goals as goal
 
-pub owners-requires : goal.owners-requires
-owners-requires c = c.requires
-
 pub rows-requires : goal.rows-requires
 rows-requires c = after_owners c.requires c.owners.ensures.0
 

@@ -1,13 +1,11 @@
-use mathlib.Core.Path.{ap, ◌∙◌}
-use mathlib.Core.Bool.{Bool, cond}
+use Rattle.std.proofs.Common.{rules}
 use Rattle.soups.specs.Attributes.{face_widths}
 use Rattle.soups.proofs.attributes.face_widths.Goals as goal
 
-pub returns : goal.returns
+pub returns-then-h-3 : goal.returns-then-h-3
 unfolding face_widths
-returns c =
-    λ i. record {
-      normal = 3;
-      colour = c.width_if.ensures i;
-      texture = (c.width_if-2.ensures ∙ ap (λ (b : Bool). cond b 2 0) c.is_textured.ensures) i;
-    }
+returns-then-h-3 c = search rules
+
+pub returns-else-h-3 : goal.returns-else-h-3
+unfolding face_widths
+returns-else-h-3 c = search rules

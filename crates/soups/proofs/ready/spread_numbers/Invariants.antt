@@ -1,10 +1,6 @@
-use Prim.Native.Nat.{◌-◌, ◌≤◌}
 use Rattle.lists.specs.Parts.{Kept}
 use Rattle.tables.specs.Soups.{number_in, Sound, Spread}
 use Rattle.soups.proofs.ready.spread_numbers.Given as goal
 
 abbrev pub invariant-loop-g : goal.invariant-loop-g
-invariant-loop-g l = (l.g ≤ l.t.faces) × Kept l.t.owners l.initial.work l.work × Sound l.work l.t × Spread l.initial.work l.work l.t (number_in l.initial.work l.t) l.g
-
-abbrev pub decreases-loop-g : goal.decreases-loop-g
-decreases-loop-g l = l.t.faces - l.g
+invariant-loop-g l = Kept l.t.owners l.initial.work l.work × Sound l.work l.t × Spread l.initial.work l.work l.t (number_in l.initial.work l.t) l.g

@@ -4,24 +4,10 @@ use Rattle.vertices.proofs.Keys.{roomy_le}
 use Rattle.vertices.proofs.Held.{laid_le, vertexed_old, vertexed_new}
 use Rattle.vertices.proofs.adding.vertex.Goals as goal
 
-pub bucket_of-bucket-requires : goal.bucket_of-bucket-requires
-bucket_of-bucket-requires c =
+pub returns-in-Some : goal.returns-in-Some
+returns-in-Some c =
     let P = c.requires in
-    (P.words, omega (arith, P.point, P.room.laid), P.room.laid.buckets)
-
-pub find-known-requires : goal.find-known-requires
-find-known-requires c =
-    let P = c.requires in
-    (roomy_le _ P.room.roomy (omega arith), P.words, laid_le _ P.room.laid (omega arith), P.chained, c.bucket_of-bucket.ensures.0, c.bucket_of-bucket.ensures.1)
-
-pub returns-in-At : goal.returns-in-At
-returns-in-At c =
-    let P = c.requires in
-    vertexed_old _ _ _ _ _ _ _ _ P.room.roomy P.chained (sym c.find-known.ensures ∙ c.in-At.is)
-
-pub append-requires : goal.append-requires
-append-requires c =
-    let P = c.requires in (P.room, P.point, c.bucket_of-bucket.ensures.1, P.words)
+    vertexed_old _ _ _ _ _ _ _ _ P.room.roomy P.chained (sym c.find-known.ensures ∙ c.in-Some.is)
 
 pub returns : goal.returns
 returns c =

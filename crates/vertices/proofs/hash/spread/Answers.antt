@@ -4,9 +4,6 @@ use Rattle.vertices.specs.Hash.{spread_of}
 use Rattle.vertices.proofs.Buckets.{halves_fit}
 use Rattle.vertices.proofs.hash.spread.Goals as goal
 
-pub overflow_mul-result : goal.overflow_mul-result
-overflow_mul-result c = omega (arith, halves_fit _ c.ranges.sum.fits)
-
 pub returns : goal.returns
 unfolding spread_of
 returns c = (refl, omega arith)

@@ -8,17 +8,17 @@ returns-then-v-wide c =
     let P = c.requires in
     sym (same_key_lem _ _ _ _ _ P.0 P.1 ∙ rw (← c.wide.ensures, ne_eqb _ _ c.if-v-wide.true))
 
-pub returns-else-same_row : goal.returns-else-same_row
-returns-else-same_row c =
+pub returns-then-not-same_row : goal.returns-then-not-same_row
+returns-then-not-same_row c =
     let P = c.requires in
-    sym (same_key_lem _ _ _ _ _ P.0 P.1 ∙ rw (← c.wide.ensures, eq-eqb _ _ c.if-v-wide.false, ← c.same_row.ensures, c.if-same_row.false))
+    sym (same_key_lem _ _ _ _ _ P.0 P.1 ∙ rw (← c.wide.ensures, eq-eqb _ _ c.if-v-wide.false, ← c.same_row.ensures, c.if-not-same_row.true))
 
-pub returns-else-same_row-2 : goal.returns-else-same_row-2
-returns-else-same_row-2 c =
+pub returns-then-not-same_row-2 : goal.returns-then-not-same_row-2
+returns-then-not-same_row-2 c =
     let P = c.requires in
-    sym (same_key_lem _ _ _ _ _ P.0 P.1 ∙ rw (← c.wide.ensures, eq-eqb _ _ c.if-v-wide.false, ← c.same_row.ensures, c.if-same_row.true, ← c.same_row-2.ensures, c.if-same_row-2.false))
+    sym (same_key_lem _ _ _ _ _ P.0 P.1 ∙ rw (← c.wide.ensures, eq-eqb _ _ c.if-v-wide.false, ← c.same_row.ensures, c.if-not-same_row.false, ← c.same_row-2.ensures, c.if-not-same_row-2.true))
 
 pub returns : goal.returns
 returns c =
     let P = c.requires in
-    sym (same_key_lem _ _ _ _ _ P.0 P.1 ∙ rw (← c.wide.ensures, eq-eqb _ _ c.if-v-wide.false, ← c.same_row.ensures, c.if-same_row.true, ← c.same_row-2.ensures, c.if-same_row-2.true) (sym c.same_row-3.ensures))
+    sym (same_key_lem _ _ _ _ _ P.0 P.1 ∙ rw (← c.wide.ensures, eq-eqb _ _ c.if-v-wide.false, ← c.same_row.ensures, c.if-not-same_row.false, ← c.same_row-2.ensures, c.if-not-same_row-2.false) (sym c.same_row-3.ensures))
