@@ -23,32 +23,10 @@ pub fn put(table: &mut [u32], k: usize, v: u32)
     }
 }
 
-// Two words from place a on.
-pub fn put_two(table: &mut [u32], a: usize, x: u32, y: u32)
-    requires { a + 2 ≤ length table.old }
-    ensures { table.new ≡ spliced table.old a (x ∷ y ∷ []) }
+// The words of an array, from place a on.
+pub fn put_words<const N: usize>(table: &mut [u32], a: usize, words: [u32; N])
+    requires { a + N ≤ length table.old }
+    ensures { table.new ≡ spliced table.old a words.entry }
 {
-    table[a] = x;
-    table[a + 1] = y;
-}
-
-// Three words from place a on.
-pub fn put_three(table: &mut [u32], a: usize, x: u32, y: u32, z: u32)
-    requires { a + 3 ≤ length table.old }
-    ensures { table.new ≡ spliced table.old a (x ∷ y ∷ z ∷ []) }
-{
-    table[a] = x;
-    table[a + 1] = y;
-    table[a + 2] = z;
-}
-
-// Four words from place a on.
-pub fn put_four(table: &mut [u32], a: usize, w: u32, x: u32, y: u32, z: u32)
-    requires { a + 4 ≤ length table.old }
-    ensures { table.new ≡ spliced table.old a (w ∷ x ∷ y ∷ z ∷ []) }
-{
-    table[a] = w;
-    table[a + 1] = x;
-    table[a + 2] = y;
-    table[a + 3] = z;
+    table[a..a + N].copy_from_slice(&words);
 }

@@ -1,0 +1,12 @@
+use mathlib.Core.Path.{sym, ap, ◌∙◌}
+use mathlib.Core.List.{List}
+use Prim.Native.Nat.{ℕ, ◌+◌}
+use lib.ListN.{length}
+use borrow.Rule.Slice.PartMut.{mid_len}
+use Rattle.lists.proofs.Splices.{mid_spliced}
+use Rattle.lists.proofs.put_words.Goals as goal
+
+pub returns : goal.returns
+returns g c =
+    let e = c.copy_from_slice.ensures in
+    mid_spliced _ _ _ e.after (ap (λ (l : List ℕ). length l) (sym e.after) ∙ e.len ∙ mid_len c.args.a (c.args.a + g.row.N) c.args.table.now c.requires)
