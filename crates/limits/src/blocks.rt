@@ -41,9 +41,7 @@ fn put_field(block: &mut [u8], at: usize, width: u32, v: u32)
     requires { at ≤ 2 ^ 40 }
 {
     let mut left = v;
-    let mut k = width;
-    while k > 0 {
-        k -= 1;
+    for k in (0..width).rev() {
         put_bit(block, at + (k as usize), left % 2 == 1);
         left = left / 2;
     }
@@ -73,13 +71,11 @@ fn start_of(block: &[u8], list: usize) -> usize
 fn put_points(block: &mut [u8], from: usize, n: u16)
     requires { from ≤ 2 ^ 20 }
 {
-    let mut i: u16 = 0;
-    while i < n {
+    for i in 0..n {
         let at = from + 12 * (i as usize);
         let x = i as f32;
         put_word(block, at, math::bits_of(x));
         put_word(block, at + 4, math::bits_of(x * x));
-        i += 1;
     }
 }
 
@@ -99,14 +95,12 @@ fn entry_of(i: u32, third: u32, fourth: u32) -> u32 {
 fn put_entries(block: &mut [u8], at: usize, n: u16, third: u32, fourth: u32)
     requires { at ≤ 2 ^ 20 }
 {
-    let mut i: u16 = 0;
-    while i < n {
+    for i in 0..n {
         put_word(
             block,
             at + 4 * (i as usize),
             entry_of(i as u32, third, fourth),
         );
-        i += 1;
     }
 }
 
@@ -114,10 +108,8 @@ fn put_entries(block: &mut [u8], at: usize, n: u16, third: u32, fourth: u32)
 fn put_corners(block: &mut [u8], at: usize, n: u16)
     requires { at ≤ 2 ^ 20 }
 {
-    let mut i: u16 = 0;
-    while i < n {
+    for i in 0..n {
         put_word(block, at + 4 * (i as usize), i as u32);
-        i += 1;
     }
 }
 

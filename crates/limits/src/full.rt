@@ -1,12 +1,12 @@
 // A call with slices for as many points and corners as edition 1 allows (FORMAT 4).
 ghost use Rattle.limits.specs.Shown.{Shows};
 
-use block::{LIMIT};
+use block::LIMIT;
 use geometry::Call;
 use lent::Answer;
 
 // The refusal's number, the number of indices, and the first triangle.
-#[derive(Clone, Copy)]
+#[derive(Clone, Copy, PartialEq, Eq)]
 pub struct Seen {
     pub number: u32,
     pub indices: usize,

@@ -9,10 +9,6 @@ use blocks::{face, primitives, triangles};
 use full::Seen;
 use std::io;
 
-fn is_same(a: Seen, b: Seen) -> bool {
-    a.number == b.number && a.indices == b.indices && a.a == b.a && a.b == b.b && a.c == b.c
-}
-
 fn put_number(rt: &impl Print, n: u64) -> io::Result<()> {
     print!(rt; " {n}")
 }
@@ -25,7 +21,7 @@ fn tell(rt: &impl Print, name: &str, seen: Seen, expected: Seen) -> io::Result<(
     put_number(rt, seen.a as u64)?;
     put_number(rt, seen.b as u64)?;
     put_number(rt, seen.c as u64)?;
-    if is_same(seen, expected) {
+    if seen == expected {
         return println!(rt; " agrees");
     }
     println!(rt; " differs")

@@ -26,12 +26,10 @@ fn quotient(m: u64, n: u64) -> u64
     }
     let mut q: u64 = 0;
     let mut r: u64 = m * 137438953472;
-    let mut i: u64 = 37;
-    while i < n {
+    for i in 37..n {
         let b = digit(r + r);
         q = q + q + b;
         r = r + r - HALF_TURN * b;
-        i = i + 1;
     }
     q
 }

@@ -23,10 +23,8 @@ pub fn put_table(out: &mut [u8]) -> usize
     ensures { Wrote out.old 0 table_text 11275 out.new result }
 {
     let mut p = 0;
-    let mut k = 0;
-    while k < 1025 {
+    for k in 0..1025 {
         p = put_line(out, p, k);
-        k += 1;
     }
     p
 }

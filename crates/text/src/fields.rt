@@ -24,10 +24,8 @@ pub fn put_fields(out: &mut [u8], at: usize, word: bool, list: &[u32], a: usize,
     ensures { Wrote out.old at (fields (field_of word) list.now a m) (11 * m) out.new result }
 {
     let mut p = at;
-    let mut i = 0;
-    while i < m {
+    for i in 0..m {
         p = put_field(out, p, word, get(list, a + i));
-        i += 1;
     }
     p
 }

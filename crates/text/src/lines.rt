@@ -88,8 +88,7 @@ pub fn put_vertices(
     ensures { Wrote out.old at (flat (tab (vertex_line parts sources.now positions.now normals.now colours.now textures.now) n 0)) (151 * n) out.new result }
 {
     let mut p = at;
-    let mut i = 0;
-    while i < n {
+    for i in 0..n {
         p = put_vertex(
             out,
             p,
@@ -101,7 +100,6 @@ pub fn put_vertices(
             textures,
             sources,
         );
-        i += 1;
     }
     p
 }
@@ -122,10 +120,8 @@ fn put_elements(out: &mut [u8], at: usize, letter: u8, m: usize, indices: &[u32]
     ensures { Wrote out.old at (flat (tab (element_line letter m indices.now) n 0)) (35 * n) out.new result }
 {
     let mut p = at;
-    let mut i = 0;
-    while i < n {
+    for i in 0..n {
         p = put_element(out, p, letter, m, indices, i);
-        i += 1;
     }
     p
 }

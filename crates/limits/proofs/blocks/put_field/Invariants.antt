@@ -3,6 +3,3 @@ use Rattle.limits.proofs.blocks.put_field.Given as goal
 
 abbrev pub invariant-loop-k : goal.invariant-loop-k
 invariant-loop-k l = l.k ≤ l.width
-
-abbrev pub decreases-loop-k : goal.decreases-loop-k
-decreases-loop-k l = l.k

@@ -32,12 +32,6 @@ overflow_mul-r-in-loop-i c = omega (arith, c.loop-i.invariant.rest, digit_fits _
 pub overflow_sub-r : goal.overflow_sub-r
 overflow_sub-r c = digit_fits _ _ c.loop-i.invariant.rest c.digit-b.ensures
 
-pub overflow_add-i : goal.overflow_add-i
-overflow_add-i c = omega arith
-
-pub loop-i-smaller : goal.loop-i-smaller
-loop-i-smaller c = omega arith
-
 pub loop-i-preserved : goal.loop-i-preserved
 loop-i-preserved c = div_next _ _ _ _ _ _ (omega arith) (omega arith) c.loop-i.invariant c.loop-i-test.true c.digit-b.ensures
 

@@ -4,6 +4,3 @@ use Rattle.sine.proofs.angle.quotient.Given as goal
 
 abbrev pub invariant-loop-i : goal.invariant-loop-i
 invariant-loop-i l = Div l.m l.n l.i l.q l.r
-
-abbrev pub decreases-loop-i : goal.decreases-loop-i
-decreases-loop-i l = l.n - l.i

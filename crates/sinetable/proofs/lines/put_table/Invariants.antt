@@ -5,6 +5,3 @@ use Rattle.sinetable.proofs.lines.put_table.Given as goal
 
 abbrev pub invariant-loop-k : goal.invariant-loop-k
 invariant-loop-k l = Going entry_line 11 1025 l.fn.out 0 l.out l.p l.k
-
-abbrev pub decreases-loop-k : goal.decreases-loop-k
-decreases-loop-k l = 1025 - l.k

@@ -6,6 +6,3 @@ use Rattle.text.proofs.fields.put_fields.Given as goal
 
 abbrev pub invariant-loop-i : goal.invariant-loop-i
 invariant-loop-i l = Going (λ j. field_of l.word (get_or l.list (l.a + j) 0)) 11 l.m l.initial.out l.at l.out l.p l.i
-
-abbrev pub decreases-loop-i : goal.decreases-loop-i
-decreases-loop-i l = l.m - l.i
