@@ -8,13 +8,13 @@ use Rattle.mesh.specs.Mesh.{Slices}
 use Rattle.mesh.specs.Result.{Result, makes_normals, makes_colours, makes_textures}
 use Rattle.lent.specs.Answer.{Saying, refused, made, said}
 use Rattle.geometry.specs.Answer.{result_for}
-use Rattle.text.specs.declared.answer.Head.{Head}
+use Rattle.lent.specs.declared.answer.Report.{Report}
 use Rattle.text.specs.declared.lines.Parts.{Parts}
 use Rattle.text.specs.Answer.{mesh_text, refusal_text, long_text}
 use Rattle.answer.specs.Lending.{passed, number, left}
 
 -- FORMAT 14: the first line tells the result
-abbrev pub head_of : Result → Head
+abbrev pub head_of : Result → Report
 head_of r = record { vertices = r.vertices; indices = r.indices; solid = r.solid; unlit = r.unlit; has_colors = r.has_colours }
 
 -- FORMAT 5, 14: a vertex line tells what is made

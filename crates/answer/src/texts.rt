@@ -5,7 +5,7 @@ ghost use Rattle.answer.specs.Text.{block_text, answer_text};
 use crate::lending::lend_and_convert;
 use crate::parts::parts_in;
 use lent::Answer;
-use text::{Head, put_long, put_mesh, put_refusal};
+use text::{put_long, put_mesh, put_refusal};
 
 // The longest input that is looked at.
 pub const LONGEST: usize = 8192;
@@ -22,13 +22,6 @@ pub fn block_text(block: &[u8], out: &mut [u8]) -> usize
     match answer {
         Err(refusal) => put_refusal(u32::from(refusal), out),
         Ok(report) => {
-            let head = Head {
-                vertices: report.vertices,
-                indices: report.indices,
-                solid: report.solid,
-                unlit: report.unlit,
-                has_colors: report.has_colors,
-            };
             let parts = parts_in(block);
             let positions = left.positions;
             let normals = left.normals;
@@ -37,7 +30,7 @@ pub fn block_text(block: &[u8], out: &mut [u8]) -> usize
             let sources = left.sources;
             let indices = left.indices;
             put_mesh(
-                head, parts, &positions, &normals, &colours, &textures, &sources, &indices, out,
+                report, parts, &positions, &normals, &colours, &textures, &sources, &indices, out,
             )
         }
     }

@@ -6,7 +6,7 @@ use mathlib.Core.List.{List, [], ◌∷◌, ◌++◌}
 use Rattle.lists.specs.Loops.{tab}
 use Rattle.lists.specs.Lists.{flat}
 use Rattle.mesh.specs.Mesh.{Slices}
-use Rattle.text.specs.declared.answer.Head.{Head}
+use Rattle.lent.specs.declared.answer.Report.{Report}
 use Rattle.text.specs.declared.lines.Parts.{Parts}
 use Rattle.text.specs.Digits.{digit_byte, digits, hexadecimal, decimal}
 use Rattle.text.specs.Fields.{word_field, number_field, fields, attribute}
@@ -25,7 +25,7 @@ grid_slices =
       indices = 0 ∷ 1 ∷ 2 ∷ 0 ∷ 2 ∷ 3 ∷ [];
     }
 
-abbrev grid_head : Head
+abbrev grid_head : Report
 grid_head = record { vertices = 4; indices = 6; solid = true; unlit = false; has_colors = false }
 
 abbrev grid_parts : Parts

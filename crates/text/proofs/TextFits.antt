@@ -10,7 +10,7 @@ use Rattle.lists.specs.Lists.{flat}
 use Rattle.lists.proofs.Pieces.{flat_most}
 use Rattle.mesh.specs.Mesh.{Slices}
 use Rattle.lists.proofs.Lists.{join_most}
-use Rattle.text.specs.declared.answer.Head.{Head}
+use Rattle.lent.specs.declared.answer.Report.{Report}
 use Rattle.text.specs.declared.lines.Parts.{Parts}
 use Rattle.text.specs.Digits.{hexadecimal, decimal}
 use Rattle.text.specs.Fields.{word_field, number_field, fields, attribute}
@@ -95,7 +95,7 @@ flag_most : (b : Bool) → length (number_field (one_if b)) ≤ 2
 flag_most true = number_most 0 1 (omega arith)
 flag_most false = number_most 0 0 (omega arith)
 
-head_most : (head : Head) → head.vertices ≤ 256 → head.indices ≤ 768 → length (head_line head) ≤ 19
+head_most : (head : Report) → head.vertices ≤ 256 → head.indices ≤ 768 → length (head_line head) ≤ 19
 unfolding head_line counts_text flags_text
 head_most head v i =
     let counts =
@@ -109,7 +109,7 @@ head_most head v i =
 
 -- ---- texts
 
-module _ (head : Head) (parts : Parts) (S : Slices) (fewVertices : head.vertices ≤ 256) (fewIndices : head.indices ≤ 768) where
+module _ (head : Report) (parts : Parts) (S : Slices) (few_vertices : head.vertices ≤ 256) (few_indices : head.indices ≤ 768) where
   -- where each source and each vertex number takes at most w bytes with its space
   text_most : (w : ℕ) → ((v : ℕ) → v < head.vertices → length (number_field (get_or S.sources v 0)) ≤ w)
       → ((i : ℕ) → i < head.indices → length (number_field (get_or S.indices i 0)) ≤ w)
@@ -122,9 +122,9 @@ module _ (head : Head) (parts : Parts) (S : Slices) (fewVertices : head.vertices
       flat_most line (w + 116) head.vertices 0
       (λ j l. vertex_most parts S.sources S.positions S.normals S.colours S.textures (0 + j) w (rw zero-add (s j l))) in
       let rest = element_lines parts.lines head.indices S.indices in
-      let b : length rest ≤ (2 + w * 2) * 384 = elements_most w parts.lines head.indices S.indices fewIndices x in
-      join_most (head_line head) (lines ++ rest) (head_most head fewVertices fewIndices)
-      (join_most lines rest (le_trans a (mul-le-mul_left (w + 116) fewVertices)) b)
+      let b : length rest ≤ (2 + w * 2) * 384 = elements_most w parts.lines head.indices S.indices few_indices x in
+      join_most (head_line head) (lines ++ rest) (head_most head few_vertices few_indices)
+      (join_most lines rest (le_trans a (mul-le-mul_left (w + 116) few_vertices)) b)
 
   -- whatever the slices hold: ten digits each
   pub text_fits : length (mesh_text head parts S) ≤ text_room

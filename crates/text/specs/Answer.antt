@@ -3,7 +3,7 @@ use Rattle.std.specs.Prelude.{ℕ, Bool, true, false, List, [], ◌∷◌, ◌++
 use Rattle.lists.specs.Loops.{tab}
 use Rattle.lists.specs.Lists.{flat}
 use Rattle.mesh.specs.Mesh.{Slices}
-use Rattle.text.specs.declared.answer.Head.{Head}
+use Rattle.lent.specs.declared.answer.Report.{Report}
 use Rattle.text.specs.declared.lines.Parts.{Parts}
 use Rattle.text.specs.Fields.{number_field}
 use Rattle.text.specs.Lines.{vertex_line, element_lines}
@@ -14,20 +14,20 @@ one_if true = 1
 one_if false = 0
 
 -- FORMAT 14: "mesh" (109 101 115 104), vertices and indices
-unfoldable pub counts_text : Head → List ℕ
+unfoldable pub counts_text : Report → List ℕ
 counts_text head = 109 ∷ 101 ∷ 115 ∷ 104 ∷ (number_field head.vertices ++ number_field head.indices)
 
 -- FORMAT 14: solid, unlit and has_colors, and the line feed
-unfoldable pub flags_text : Head → List ℕ
+unfoldable pub flags_text : Report → List ℕ
 flags_text head =
     number_field (one_if head.solid) ++ (number_field (one_if head.unlit) ++ (number_field (one_if head.has_colors) ++ (10 ∷ [])))
 
 -- FORMAT 14: the first line of a mesh
-unfoldable pub head_line : Head → List ℕ
+unfoldable pub head_line : Report → List ℕ
 head_line head = counts_text head ++ flags_text head
 
 -- FORMAT 14: a mesh: its first line, a line for each vertex, a line for each triangle or line
-unfoldable pub mesh_text : Head → Parts → Slices → List ℕ
+unfoldable pub mesh_text : Report → Parts → Slices → List ℕ
 mesh_text head parts S =
     head_line head
     ++ (flat (tab (vertex_line parts S.sources S.positions S.normals S.colours S.textures) head.vertices 0)

@@ -5,17 +5,8 @@ ghost use Rattle.text.specs.Answer.{one_if, counts_text, flags_text, head_line, 
 
 use crate::digits::put_byte;
 use crate::fields::put_field;
+use lent::Report;
 use crate::lines::{Parts, put_indices, put_vertices};
-
-// What the first line says.
-#[derive(Clone, Copy)]
-pub struct Head {
-    pub vertices: usize,
-    pub indices: usize,
-    pub solid: bool,
-    pub unlit: bool,
-    pub has_colors: bool,
-}
 
 fn one_if(b: bool) -> u32
     ensures { result ≡ one_if b }
@@ -26,7 +17,7 @@ fn one_if(b: bool) -> u32
     0
 }
 
-fn put_counts(out: &mut [u8], at: usize, head: Head) -> usize
+fn put_counts(out: &mut [u8], at: usize, head: Report) -> usize
     requires { (at + 26 ≤ 2 ^ 50) × (head.vertices < 2 ^ 32) × (head.indices < 2 ^ 32) }
     ensures { Wrote out.old at (counts_text head) 26 out.new result }
 {
@@ -38,7 +29,7 @@ fn put_counts(out: &mut [u8], at: usize, head: Head) -> usize
     put_field(out, p, false, head.indices as u32)
 }
 
-fn put_flags(out: &mut [u8], at: usize, head: Head) -> usize
+fn put_flags(out: &mut [u8], at: usize, head: Report) -> usize
     requires { at + 34 ≤ 2 ^ 50 }
     ensures { Wrote out.old at (flags_text head) 34 out.new result }
 {
@@ -48,7 +39,7 @@ fn put_flags(out: &mut [u8], at: usize, head: Head) -> usize
     put_byte(out, p, b'\n')
 }
 
-fn put_head(out: &mut [u8], at: usize, head: Head) -> usize
+fn put_head(out: &mut [u8], at: usize, head: Report) -> usize
     requires { (at + 60 ≤ 2 ^ 50) × (head.vertices < 2 ^ 32) × (head.indices < 2 ^ 32) }
     ensures { Wrote out.old at (head_line head) 60 out.new result }
 {
@@ -58,7 +49,7 @@ fn put_head(out: &mut [u8], at: usize, head: Head) -> usize
 
 // The text of a mesh.
 pub fn put_mesh(
-    head: Head,
+    head: Report,
     parts: Parts,
     positions: &[u32],
     normals: &[u32],

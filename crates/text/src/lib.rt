@@ -6,6 +6,6 @@ mod digits;
 mod fields;
 mod lines;
 
-pub use answer::{Head, put_long, put_mesh, put_refusal};
+pub use answer::{put_long, put_mesh, put_refusal};
 pub use digits::{put_byte, put_digits};
 pub use lines::Parts;
