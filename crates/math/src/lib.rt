@@ -10,8 +10,8 @@ pub mod word;
 
 pub use order::{abs, max, min};
 pub use quaternion::{Quat, axis_turn, quat_between, quat_rotate};
-pub use square_root::root;
+pub use square_root::{Four, root};
 pub use vector::{
-    Units, V3, add, cross, dot, len, normalize, normalize_four, scale, sub, unit_by,
+    V3, add, cross, dot, len, normalize, normalize_four, scale, sub, unit_by,
 };
 pub use word::{bits_of, is_finite, of_bits};

@@ -45,13 +45,11 @@ fn int_root(s: u32) -> u32
     let mut q: u32 = 0;
     let mut r: u32 = 0;
     let mut rest = s;
-    let mut done: u32 = 0;
-    while done < 25 {
+    for done in 0..25u32 {
         let d = next_digit(q, r, rest / 1073741824);
         q = d.q;
         r = d.r;
         rest = rest % 1073741824 * 4;
-        done = done + 1;
     }
     q
 }
@@ -109,28 +107,20 @@ pub fn root(x: f32) -> f32
 
 // ---- four at once
 
-// Four numbers, or what is made of each.
+// One value for each of four numbers.
 #[derive(Clone, Copy)]
-struct Words {
-    a: u32,
-    b: u32,
-    c: u32,
-    d: u32,
-}
-
-#[derive(Clone, Copy)]
-pub struct FourRoots {
-    pub a: f32,
-    pub b: f32,
-    pub c: f32,
-    pub d: f32,
+pub struct Four<T> {
+    pub a: T,
+    pub b: T,
+    pub c: T,
+    pub d: T,
 }
 
 // The whole parts of four roots, as `int_root` finds one. A digit waits for the one before; those of four numbers do not wait for each other.
-fn int_roots(s: Words) -> Words
+fn int_roots(s: Four<u32>) -> Four<u32>
     ensures { (result.a ≡ isqrt 25 (s.a * 2 ^ 18)) × (result.b ≡ isqrt 25 (s.b * 2 ^ 18)) × (result.c ≡ isqrt 25 (s.c * 2 ^ 18)) × (result.d ≡ isqrt 25 (s.d * 2 ^ 18)) }
 {
-    let mut q = Words {
+    let mut q = Four {
         a: 0,
         b: 0,
         c: 0,
@@ -138,31 +128,29 @@ fn int_roots(s: Words) -> Words
     };
     let mut r = q;
     let mut rest = s;
-    let mut turns: u32 = 0;
-    while turns < 25 {
+    for turns in 0..25u32 {
         let a = next_digit(q.a, r.a, rest.a / 1073741824);
         let b = next_digit(q.b, r.b, rest.b / 1073741824);
         let c = next_digit(q.c, r.c, rest.c / 1073741824);
         let d = next_digit(q.d, r.d, rest.d / 1073741824);
-        q = Words {
+        q = Four {
             a: a.q,
             b: b.q,
             c: c.q,
             d: d.q,
         };
-        r = Words {
+        r = Four {
             a: a.r,
             b: b.r,
             c: c.r,
             d: d.r,
         };
-        rest = Words {
+        rest = Four {
             a: rest.a % 1073741824 * 4,
             b: rest.b % 1073741824 * 4,
             c: rest.c % 1073741824 * 4,
             d: rest.d % 1073741824 * 4,
         };
-        turns = turns + 1;
     }
     q
 }
@@ -184,17 +172,17 @@ fn with_root(b: u32, q: u32) -> u32
 }
 
 // The bits of the roots of four plain numbers, from theirs.
-fn plain_roots(w: Words) -> Words
+fn plain_roots(w: Four<u32>) -> Four<u32>
     requires { Plain w.a × Plain w.b × Plain w.c × Plain w.d }
     ensures { (result.a ≡ root_bits w.a) × (result.b ≡ root_bits w.b) × (result.c ≡ root_bits w.c) × (result.d ≡ root_bits w.d) }
 {
-    let q = int_roots(Words {
+    let q = int_roots(Four {
         a: digits_of(w.a),
         b: digits_of(w.b),
         c: digits_of(w.c),
         d: digits_of(w.d),
     });
-    Words {
+    Four {
         a: with_root(w.a, q.a),
         b: with_root(w.b, q.b),
         c: with_root(w.c, q.c),
@@ -230,17 +218,17 @@ fn root_of(x: f32, r: u32) -> f32
     f32::from_bits(r)
 }
 
-fn roots_of_plain(a: f32, b: f32, c: f32, d: f32) -> FourRoots
+fn roots_of_plain(a: f32, b: f32, c: f32, d: f32) -> Four<f32>
     requires { (plain a ≡ true) × (plain b ≡ true) × (plain c ≡ true) × (plain d ≡ true) }
     ensures { Rooted a result.a × Rooted b result.b × Rooted c result.c × Rooted d result.d }
 {
-    let r = plain_roots(Words {
+    let r = plain_roots(Four {
         a: bits_in(a),
         b: bits_in(b),
         c: bits_in(c),
         d: bits_in(d),
     });
-    FourRoots {
+    Four {
         a: root_of(a, r.a),
         b: root_of(b, r.b),
         c: root_of(c, r.c),
@@ -249,7 +237,7 @@ fn roots_of_plain(a: f32, b: f32, c: f32, d: f32) -> FourRoots
 }
 
 // The roots of four numbers. Where all are plain, as nearly all are, they are worked out together.
-pub fn roots(a: f32, b: f32, c: f32, d: f32) -> FourRoots
+pub fn roots(a: f32, b: f32, c: f32, d: f32) -> Four<f32>
     ensures { Rooted a result.a × Rooted b result.b × Rooted c result.c × Rooted d result.d }
 {
     if is_plain(a) {
@@ -261,7 +249,7 @@ pub fn roots(a: f32, b: f32, c: f32, d: f32) -> FourRoots
             }
         }
     }
-    FourRoots {
+    Four {
         a: root(a),
         b: root(b),
         c: root(c),

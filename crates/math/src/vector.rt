@@ -2,7 +2,7 @@
 ghost use Rattle.std.specs.Prelude.{◌≡◌};
 ghost use Rattle.math.specs.Vector.{vadd, vsub, vscale, vdot, vcross, vlen, unit_by, unit_of};
 
-use crate::square_root::{root, roots};
+use crate::square_root::{Four, root, roots};
 use crate::word::is_finite;
 
 #[derive(Clone, Copy)]
@@ -82,20 +82,12 @@ pub fn normalize(a: V3) -> Option<V3>
     unit_by(a, len(a))
 }
 
-#[derive(Clone, Copy)]
-pub struct Units {
-    pub a: Option<V3>,
-    pub b: Option<V3>,
-    pub c: Option<V3>,
-    pub d: Option<V3>,
-}
-
 // Four vectors normalised: their roots are taken together.
-pub fn normalize_four(a: V3, b: V3, c: V3, d: V3) -> Units
+pub fn normalize_four(a: V3, b: V3, c: V3, d: V3) -> Four<Option<V3>>
     ensures { (result.a ≡ unit_of a) × (result.b ≡ unit_of b) × (result.c ≡ unit_of c) × (result.d ≡ unit_of d) }
 {
     let l = roots(dot(a, a), dot(b, b), dot(c, c), dot(d, d));
-    Units {
+    Four {
         a: unit_by(a, l.a),
         b: unit_by(b, l.b),
         c: unit_by(c, l.c),

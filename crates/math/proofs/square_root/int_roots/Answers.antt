@@ -31,12 +31,6 @@ overflow_mul-rest-in-loop-turns-2 c = omega arith
 pub overflow_mul-rest-in-loop-turns-3 : goal.overflow_mul-rest-in-loop-turns-3
 overflow_mul-rest-in-loop-turns-3 c = omega arith
 
-pub overflow_add-turns : goal.overflow_add-turns
-overflow_add-turns c = omega (arith, c.loop-turns-test.true)
-
-pub loop-turns-smaller : goal.loop-turns-smaller
-loop-turns-smaller c = omega (arith, c.loop-turns-test.true)
-
 pub loop-turns-preserved : goal.loop-turns-preserved
 loop-turns-preserved c =
     let l = c.loop-turns-test.true in
