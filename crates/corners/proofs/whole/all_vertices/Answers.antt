@@ -1,5 +1,5 @@
 use native.Mathlib.Omega.{arith}
-use Rattle.corners.proofs.Corners.{turned_start, turned_laid, turned_lengths, turned_ready, turned_next, turned_all}
+use Rattle.corners.proofs.Corners.{turned_start, turned_laid, turned_ready, turned_next, turned_all}
 use borrow.Author.Rules.{rules}
 use Rattle.corners.proofs.whole.all_vertices.Goals as goal
 

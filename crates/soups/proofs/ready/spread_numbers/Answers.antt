@@ -1,9 +1,7 @@
 use native.Mathlib.Omega.{arith}
-use mathlib.Core.Path.{◌≡◌}
 use Rattle.tables.specs.Soups.{number_in}
-use Rattle.lists.proofs.Keep.{kept_all}
 use Rattle.tables.proofs.Stays.{number_kept}
-use Rattle.tables.proofs.Spreads.{spread_none, spread_next}
+use Rattle.tables.proofs.Spreads.{spread_next}
 use Rattle.soups.proofs.ready.spread_numbers.Goals as goal
 
 pub loop-g-preserved : goal.loop-g-preserved
