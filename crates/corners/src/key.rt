@@ -16,7 +16,7 @@ pub fn point_of(work: &[u32], t: CornerTables, c: CornerNumber) -> PointNumber
     PointNumber(wide(work[t.corners + c.0]))
 }
 
-// A corner's place in coordIndex.
+// A corner's place in coordIndex. Not one with `number_of`: each says in its contract what its table holds.
 fn place_of(work: &[u32], t: CornerTables, c: CornerNumber) -> usize
     requires { Laid t (length work.now) × (c.0 < t.count) }
     ensures { result ≡ place_at work.now t c.0 }

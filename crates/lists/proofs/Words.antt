@@ -1,27 +1,50 @@
--- Parts of words: compared and copied one word after another, and read as the words of a key. One fact over the number of words.
+-- Parts of words: compared one word after another, and read as the words of a key. One fact over the number of words.
 use mathlib.Core.Path.{◌≡◌, refl, sym, ap}
-use mathlib.Core.Bool.{Bool, ◌&&◌}
+use mathlib.Core.Bool.{Bool, true, false, ◌&&◌}
 use mathlib.Core.List.{List, [], ◌∷◌}
-use Prim.Native.Nat.{ℕ, zero, suc, ◌+◌, ◌*◌, ◌≤◌, ◌<◌}
+use Prim.Native.Nat.{ℕ, zero, suc, ◌+◌, ◌*◌, ◌-◌, ◌≤◌, ◌<◌}
 use native.Mathlib.Nat.{le_of_suc-le-suc, not-suc-le-zero, suc_inj, suc-ne-zero, mul-suc, mul-le-mul_left}
+use native.Mathlib.Omega.{arith}
+use borrow.Author.Tests.{eq-eqb, ne_eqb}
 use lib.Dec.{eqb}
 use lib.ListN.{length, get_or, take}
-use lib.Pointwise.{pointwise}
+use lib.Seq.{drop-cons}
 use Rattle.lists.specs.Lists.{same_words}
 use Rattle.lists.proofs.Lists.{T_true, same_words_self, drop_three}
 use Rattle.lists.specs.Parts.{seg}
+
+pub seg_none : (l : List ℕ) (a : ℕ) → seg l a 0 ≡ []
+unfolding seg
+seg_none l a = refl
+
+-- the first of the words that are left, after t of n
+pub seg_next : (l : List ℕ) (a n t : ℕ) → a + n ≤ length l → t < n → seg l (a + t) (n - t) ≡ get_or l (a + t) 0 ∷ seg l (a + (t + 1)) (n - (t + 1))
+unfolding seg
+seg_next l a n t h k =
+    let e : n - t ≡ suc (n - (t + 1)) = omega arith in
+    let f : a + (t + 1) ≡ suc (a + t) = omega arith in
+    rw (e, f, drop-cons l (a + t) 0 (omega arith))
 
 pub seg_three : (l : List ℕ) (a : ℕ) → a + 3 ≤ length l → seg l a 3 ≡ get_or l a 0 ∷ get_or l (a + 1) 0 ∷ get_or l (a + 2) 0 ∷ []
 unfolding seg
 seg_three l a h = ap (take 3) (drop_three 0 l a h)
 
--- what `==` of two slices says
-pub pointwise_same : (a b : List ℕ) → pointwise eqb a b ≡ same_words a b
-unfolding same_words
-pointwise_same [] [] = refl
-pointwise_same [] (y ∷ b) = refl
-pointwise_same (x ∷ a) [] = refl
-pointwise_same (x ∷ a) (y ∷ b) = ap (λ (c : Bool). eqb x y && c) (pointwise_same a b)
+-- ---- the loop
+
+-- whether the words are the same is whether those that are left are, after t that are
+module _ (a b : List ℕ) (i j n t : ℕ) (ha : i + n ≤ length a) (hb : j + n ≤ length b) where
+  pub same_next : t < n → get_or a (i + t) 0 ≡ get_or b (j + t) 0
+      → same_words (seg a (i + t) (n - t)) (seg b (j + t) (n - t)) ≡ same_words (seg a (i + (t + 1)) (n - (t + 1))) (seg b (j + (t + 1)) (n - (t + 1)))
+  unfolding same_words
+  same_next h e = rw (seg_next a i n t ha h, seg_next b j n t hb h, eq-eqb (get_or a (i + t) 0) (get_or b (j + t) 0) e)
+
+  pub same_differ : t < n → (get_or a (i + t) 0 ≡ get_or b (j + t) 0 → ⊥) → same_words (seg a (i + t) (n - t)) (seg b (j + t) (n - t)) ≡ false
+  unfolding same_words
+  same_differ h d = rw (seg_next a i n t ha h, seg_next b j n t hb h, ne_eqb (get_or a (i + t) 0) (get_or b (j + t) 0) d)
+
+  pub same_end : n ≤ t → same_words (seg a (i + t) (n - t)) (seg b (j + t) (n - t)) ≡ true
+  unfolding same_words
+  same_end h = let e : n - t ≡ 0 = omega arith in rw (e, seg_none a (i + t), seg_none b (j + t))
 
 -- ---- rows
 

@@ -7,7 +7,7 @@ ghost use Rattle.soups.specs.Prepared.{Normals, Prepared};
 use block::CreaseRule;
 use tables::{Plan, fill, stretch_of};
 
-// Each corner's face number, over the owners.
+// Each corner's face number, over the owners. Not one with the owners in `normals`: the number is read from the words that are filled.
 fn spread_numbers(work: &mut [u32], t: Plan)
     requires { Sound work.old t }
     ensures { Kept t.owners work.old work.new × Spread work.old work.new t (number_in work.old t) t.faces }

@@ -14,6 +14,7 @@ pub struct Stretch {
     pub to: CornerNumber,
 }
 
+// A word as a place: kept, since its contract says once that the cast loses nothing.
 pub fn wide(x: u32) -> usize
     ensures { result ≡ x }
 {

@@ -5,6 +5,7 @@ ghost use Rattle.std.specs.Float.Ieee.{of_bits};
 ghost use Rattle.tables.specs.Layout.{most};
 ghost use Rattle.lists.specs.Parts.{spliced};
 
+// A number as a word: kept, since it carries the bound under which the cast loses nothing.
 pub fn narrow(x: usize) -> u32
     requires { x ≤ most }
     ensures { result ≡ x }

@@ -21,6 +21,7 @@ fn word_where(key: &[u32], at: usize, n: usize, k: usize) -> usize
 }
 
 // The words of a normal, each times its weight. No product waits for another.
+// Not one with the two below: each has a number of words and weights of its own.
 fn normal_sum(key: &[u32], n: usize) -> usize
     requires { 9 ≤ length key.now }
     ensures { (result ≡ normal_sum (three (seg key.now 0 n))) × (result < 3 * 2 ^ 60) }

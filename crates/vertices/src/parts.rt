@@ -5,11 +5,18 @@ ghost use Rattle.lists.specs.Lists.{same_words};
 ghost use Rattle.lists.specs.Parts.{seg};
 
 // Whether the w words of key from j are row i of l (FORMAT 11).
+// By index: == of the two slices takes near twice as long (measured), and so does a zip of them.
 pub fn same_row(key: &[u32], j: usize, l: &[u32], w: usize, i: usize) -> bool
     requires { (j + w ≤ length key.now) × (w * i + w ≤ length l.now) }
     ensures { result ≡ same_words (seg key.now j w) (seg l.now (w * i) w) }
 {
-    key[j..j + w] == l[w * i..w * i + w]
+    let at = w * i;
+    for t in 0..w {
+        if key[j + t] != l[at + t] {
+            return false;
+        }
+    }
+    true
 }
 
 fn put_three(dst: &mut [u32], at: usize, x: u32, y: u32, z: u32)

@@ -1,5 +1,3 @@
-use native.Mathlib.Omega.{arith}
-use lib.ListN.{length-set}
 use Rattle.vertices.specs.Adding.{linked}
 use Rattle.vertices.proofs.adding.link.Goals as goal
 

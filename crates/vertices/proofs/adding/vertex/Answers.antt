@@ -1,7 +1,5 @@
 use mathlib.Core.Path.{sym, ◌∙◌}
-use native.Mathlib.Omega.{arith}
-use Rattle.vertices.proofs.Keys.{roomy_le}
-use Rattle.vertices.proofs.Held.{laid_le, vertexed_old, vertexed_new}
+use Rattle.vertices.proofs.Held.{vertexed_old, vertexed_new}
 use Rattle.vertices.proofs.adding.vertex.Goals as goal
 
 pub returns-in-Some : goal.returns-in-Some

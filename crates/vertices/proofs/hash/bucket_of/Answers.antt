@@ -1,5 +1,4 @@
-use native.Mathlib.Omega.{arith}
-use Rattle.vertices.proofs.Buckets.{corner_bucket, bucket_small, bucket_below}
+use Rattle.vertices.proofs.Buckets.{corner_bucket, bucket_below}
 use Rattle.vertices.proofs.hash.bucket_of.Goals as goal
 
 pub returns : goal.returns

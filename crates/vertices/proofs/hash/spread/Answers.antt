@@ -1,7 +1,6 @@
 use native.Mathlib.Omega.{arith}
 use mathlib.Core.Path.{refl}
 use Rattle.vertices.specs.Hash.{spread_of}
-use Rattle.vertices.proofs.Buckets.{halves_fit}
 use Rattle.vertices.proofs.hash.spread.Goals as goal
 
 pub returns : goal.returns

@@ -1,11 +1,22 @@
-use mathlib.Core.Path.{ap, ap₂, ◌∙◌, refl}
-use Prim.Native.Nat.{◌*◌}
-use lib.Dec.{eqb}
-use lib.Pointwise.{pointwise}
-use Rattle.lists.proofs.Keep.{part_seg}
-use Rattle.lists.proofs.Words.{pointwise_same}
+use native.Mathlib.Nat.{add-zero, sub-zero}
+use mathlib.Core.Path.{sym, ◌∙◌, refl}
+use Rattle.lists.proofs.Words.{same_next, same_differ, same_end}
 use Rattle.vertices.proofs.parts.same_row.Goals as goal
+
+pub loop-t-init : goal.loop-t-init
+loop-t-init c = rw (add-zero, sub-zero, add-zero) refl
+
+pub returns-then-key-j : goal.returns-then-key-j
+returns-then-key-j c =
+    let P = c.requires in
+    sym (c.loop-t.invariant ∙ same_differ _ _ _ _ _ _ P.0 P.1 c.loop-t-test.true c.if-key-j.true)
+
+pub loop-t-preserved : goal.loop-t-preserved
+loop-t-preserved c =
+    let P = c.requires in
+    c.loop-t.invariant ∙ same_next _ _ _ _ _ _ P.0 P.1 c.loop-t-test.true c.if-key-j.false
 
 pub returns : goal.returns
 returns c =
-    c.eq.ensures ∙ ap₂ (pointwise eqb) (part_seg c.args.key.now c.args.j _ c.args.w refl) (part_seg c.args.l.now (c.args.w * c.args.i) _ c.args.w refl) ∙ pointwise_same _ _
+    let P = c.requires in
+    sym (c.loop-t.invariant ∙ same_end _ _ _ _ _ _ P.0 P.1 c.loop-t-test.false)
