@@ -5,7 +5,7 @@ use mathlib.Core.List.{List, [], ◌∷◌, ◌++◌}
 use Prim.Native.Nat.{ℕ, ◌+◌, ◌-◌, ◌*◌, ◌%◌, ◌≤◌, ◌<◌}
 use native.Mathlib.Nat.{mod-lt}
 use native.Mathlib.Omega.{arith}
-use lib.ListN.{length, get_or, set, take, drop, length-set, get_or-append}
+use lib.ListN.{length, get_or, set, take, drop, replicate, length-set, get_or-append, get_or-replicate}
 use lib.Seq.{sets, length-take-le, take-take, take-append-le, get_or-take, get_or-drop, drop-drop, take_at, drop_at}
 use lib.Ieee.{le}
 use borrow.Rule.Slice.PartMut.{put_mid, mid_of, mid_len}
@@ -171,6 +171,10 @@ held_turn P n m i w v w' hi hm hw H S G =
     }
 
 -- ---- the start: the order, then the flags behind it, then zeros behind these
+
+-- what `fill` leaves
+pub full_of : (v n : ℕ) (l : List ℕ) → l ≡ replicate n v → Full v n l
+full_of v n l e = λ (j : ℕ) (h : j < n). ap (λ (r : List ℕ). get_or r j 0) e ∙ get_or-replicate n j v 0 h
 
 pub fresh_start : (n : ℕ) (rev : Bool) (w ones zeros : List ℕ) → n * 2 ≤ length w → take n w ≡ order rev n → (e : ℕ) → e ≡ n * 2
     → length ones ≡ length (mid_of n (e - n) w) → Full 1 (length (mid_of n (e - n) w)) ones

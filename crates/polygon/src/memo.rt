@@ -95,17 +95,15 @@ fn is_hit(p: &[f32], left: &[u32], k: usize, a: Dot, b: Dot, c: Dot) -> bool
 
 // The first of the corners from `from` up to `to` that is left and lies in the triangle a b c.
 fn scan(p: &[f32], left: &[u32], from: usize, to: usize, a: Dot, b: Dot, c: Dot) -> usize
-    requires { to ≤ 2 ^ 31 }
+    requires { (from ≤ to) × (to ≤ 2 ^ 31) }
     ensures { result ≡ first (hits left.now (λ j. in_way (dot_of (xy p.now) j) a b c)) (to - from) from }
 {
-    let mut k = from;
-    while k < to {
+    for k in from..to {
         if is_hit(p, left, k, a, b, c) {
             return k;
         }
-        k += 1;
     }
-    k
+    to
 }
 
 // The corner k, whose coordinates are there.
@@ -148,10 +146,8 @@ fn count_near(p: &[f32], left: &[u32], from: usize, to: usize, a: Dot, b: Dot, c
     ensures { result ≡ 0 → (j : ℕ) → from ≤ j → j < to → hits left.now (λ i. in_way (dot_of (xy p.now) i) a b c) j ≡ false }
 {
     let mut s: u32 = 0;
-    let mut k = from;
-    while k < to {
+    for k in from..to {
         s += one_if(is_near(left[k], dot_in(p, k), a, b, c));
-        k += 1;
     }
     s
 }
@@ -169,37 +165,25 @@ fn scan_block(p: &[f32], left: &[u32], from: usize, to: usize, a: Dot, b: Dot, c
     scan(p, left, from, to, a, b, c)
 }
 
-// The end of the block from k on, of n corners.
-fn block_end(k: usize, n: usize) -> usize
-    requires { k < n }
-    ensures { (k < result) × (result ≤ n) × (result ≤ k + 16) }
-{
-    if n - k < BLOCK {
-        return n;
-    }
-    k + BLOCK
-}
-
 // As `scan`, of all corners from `from` on, block by block.
 fn scan_blocks(p: &[f32], left: &[u32], from: usize, a: Dot, b: Dot, c: Dot) -> usize
-    requires { (length left.now ≤ 2 ^ 31) × (length left.now * 2 ≤ length p.now) }
+    requires { (from ≤ length left.now) × (length left.now ≤ 2 ^ 31) × (length left.now * 2 ≤ length p.now) }
     ensures { result ≡ first (hits left.now (λ j. in_way (dot_of (xy p.now) j) a b c)) (length left.now - from) from }
 {
-    let mut k = from;
-    while k < left.len() {
-        let e = block_end(k, left.len());
+    let n = left.len();
+    for k in (from..n).step_by(BLOCK) {
+        let e = n.min(k + BLOCK);
         let h = scan_block(p, left, k, e, a, b, c);
         if h < e {
             return h;
         }
-        k = e;
     }
-    k
+    n
 }
 
 // The first corner from `from` on that is left and lies in the triangle a b c, which is read once.
 fn next_hit(p: &[f32], left: &[u32], from: usize, a: u32, b: u32, c: u32) -> usize
-    requires { length left.now ≤ 2 ^ 31 }
+    requires { (from ≤ length left.now) × (length left.now ≤ 2 ^ 31) }
     ensures { result ≡ first (hits left.now (blocks (xy p.now) a b c)) (length left.now - from) from }
 {
     let da = dot_at(p, a);
@@ -222,7 +206,7 @@ fn take_word(s: &mut [u32], k: usize) -> u32
 
 // As `next_hit`, with the flags of a, b and c put out meanwhile: they are always near, and would keep their blocks from being passed.
 fn other_hit(p: &[f32], left: &mut [u32], from: usize, a: u32, b: u32, c: u32) -> usize
-    requires { length left.old ≤ 2 ^ 31 }
+    requires { (from ≤ length left.old) × (length left.old ≤ 2 ^ 31) }
     ensures { (result ≡ first (hits left.old (blocks (xy p.now) a b c)) (length left.old - from) from) × (left.new ≡ left.old) }
 {
     let x = take_word(left, a as usize);
@@ -330,14 +314,12 @@ pub fn first_ear(p: &[f32], w: &mut [u32], n: usize, m: usize) -> usize
     requires { (m ≤ n) × (n ≤ 2 ^ 31) × (n * 2 ≤ length w.old) × Tells (flags n w.old) (take m w.old) × Sound (xy p.now) (flags n w.old) (kept n w.old) }
     ensures { (result ≡ first_ear (xy p.now) (take m w.old)) × Searched (xy p.now) n w.old w.new }
 {
-    let mut i = 0;
-    while i < m {
+    for i in 0..m {
         if is_ear(p, w, n, m, i) {
             return i;
         }
-        i += 1;
     }
-    i
+    m
 }
 
 // The corner b is no longer left.

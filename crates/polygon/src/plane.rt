@@ -82,11 +82,9 @@ fn put_projection(points: &[u32], names: &[u32], axis: u32, flip: bool, out: &mu
     requires { (axis < 3) × (length names.now ≤ 2 ^ 31) }
     ensures { out.new ≡ sets out.old 0 (flat2 (map (projected axis flip) (spots points.now names.now))) }
 {
-    let mut i = 0;
-    while i < names.len() {
-        let p = spot(points, point_number(names[i]));
+    for (i, name) in names.iter().enumerate() {
+        let p = spot(points, point_number(*name));
         put_projected(out, i * 2, p, axis, flip);
-        i += 1;
     }
 }
 

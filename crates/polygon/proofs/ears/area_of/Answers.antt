@@ -9,12 +9,6 @@ pub loop-i-init : goal.loop-i-init
 unfolding area
 loop-i-init c = (omega arith, rw sub-zero)
 
-pub overflow_add-i : goal.overflow_add-i
-overflow_add-i c = omega arith
-
-pub loop-i-smaller : goal.loop-i-smaller
-loop-i-smaller c = omega arith
-
 pub loop-i-preserved : goal.loop-i-preserved
 loop-i-preserved c = (omega arith, rw c.area_step-s.ensures (sym (run_go _ _ _ _ c.loop-i-test.true) ∙ c.loop-i.invariant.1))
 

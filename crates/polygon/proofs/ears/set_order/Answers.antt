@@ -14,12 +14,6 @@ pub loop-i-init : goal.loop-i-init
 unfolding order
 loop-i-init c = (omega arith, refl, rw sub-zero)
 
-pub overflow_add-i : goal.overflow_add-i
-overflow_add-i c = omega arith
-
-pub loop-i-smaller : goal.loop-i-smaller
-loop-i-smaller c = omega arith
-
 pub loop-i-preserved : goal.loop-i-preserved
 loop-i-preserved c =
     (omega arith, c.put.auto.table ∙ c.loop-i.invariant.1, rw (c.put.ensures, c.place_of.ensures) (sym (tab_go _ _ _ _ c.loop-i-test.true) ∙ c.loop-i.invariant.2))

@@ -1,4 +1,4 @@
-use mathlib.Core.Path.{refl, sym, ◌∙◌}
+use mathlib.Core.Path.{◌≡◌, refl, sym, ◌∙◌}
 use native.Mathlib.Omega.{arith}
 use Rattle.lists.proofs.Loops.{first_go, first_stop, first_end}
 use Rattle.polygon.proofs.memo.scan.Goals as goal
@@ -16,4 +16,4 @@ pub loop-k-preserved : goal.loop-k-preserved
 loop-k-preserved c = sym (first_go _ _ _ c.loop-k-test.true (sym c.is_hit.ensures ∙ c.if-is_hit.false)) ∙ c.loop-k.invariant
 
 pub returns : goal.returns
-returns c = sym (first_end _ _ _ c.loop-k-test.false) ∙ c.loop-k.invariant
+returns c = let e : c.args.to ≡ c.loop-k.k = omega arith in e ∙ sym (first_end _ _ _ c.loop-k-test.false) ∙ c.loop-k.invariant
