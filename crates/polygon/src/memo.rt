@@ -23,7 +23,7 @@ fn coord(p: &[f32], k: usize) -> f32
     if k < p.len() {
         return p[k];
     }
-    0.0 / 0.0
+    f32::NAN
 }
 
 pub fn dot_at(p: &[f32], j: u32) -> Dot
@@ -131,15 +131,6 @@ fn is_near(f: u32, d: Dot, a: Dot, b: Dot, c: Dot) -> bool
     cross(c, a, d) >= 0.0
 }
 
-fn one_if(b: bool) -> u32
-    ensures { result ≡ pick b 1 0 }
-{
-    if b {
-        return 1;
-    }
-    0
-}
-
 // How many of the corners from `from` up to `to` are near: the machine counts several at once. Where there is none, none of them lies in the triangle a b c.
 fn count_near(p: &[f32], left: &[u32], from: usize, to: usize, a: Dot, b: Dot, c: Dot) -> u32
     requires { (to ≤ 2 ^ 31) × (to ≤ length left.now) × (to * 2 ≤ length p.now) }
@@ -147,7 +138,7 @@ fn count_near(p: &[f32], left: &[u32], from: usize, to: usize, a: Dot, b: Dot, c
 {
     let mut s: u32 = 0;
     for k in from..to {
-        s += one_if(is_near(left[k], dot_in(p, k), a, b, c));
+        s += u32::from(is_near(left[k], dot_in(p, k), a, b, c));
     }
     s
 }
