@@ -1,6 +1,6 @@
 // FORMAT 10.3, fix_zero_normals: a pass over the vertices; at the first normal that cannot be scaled, a pass over the triangles notes the first usable one of
 // each vertex.
-ghost use Rattle.std.specs.Prelude.{◌≡◌, cond, [], ◌++◌, ◌+◌, ◌*◌, ◌^◌, ◌≤◌, ◌<◌, length, get_or, drop};
+ghost use Rattle.std.specs.Prelude.{◌≡◌, true, cond, [], ◌∷◌, unwrap_or, ◌++◌, ◌+◌, ◌*◌, ◌^◌, ◌≤◌, ◌<◌, length, get_or, drop};
 ghost use Rattle.std.proofs.lemmas.List.Edits.{sets};
 ghost use Rattle.std.specs.Float.{binary32};
 ghost use Rattle.std.specs.Float.Ieee.{sub, lt};
@@ -8,9 +8,8 @@ ghost use Rattle.math.specs.Vector.{one_f, y_axis, unit_of};
 ghost use Rattle.math.specs.Order.{magnitude};
 ghost use Rattle.mesh.specs.Words.{words3, floats, bits, point_words};
 ghost use Rattle.mesh.specs.Mend.{visible, vertex_spot, tri_normal, first_normal, mend_by};
-ghost use Rattle.mending.specs.Mend.{lent_frame, lent_keys, mended_words, triangle_normal, found, marked, marked_all, noted, Clear, Firsts, Served, near_one};
+ghost use Rattle.mending.specs.Mend.{lent_frame, lent_keys, mended_words, triangle_normal, found, marked, marked_all, noted, Firsts, Served, near_one};
 
-use crate::words::put_three;
 use bits::Words3;
 use block::VertexNumber;
 use lists::{get, put};
@@ -34,7 +33,10 @@ fn put_words(out: &mut [u32], v: VertexNumber, w: Words3)
     requires { v.0 < 2 ^ 32 }
     ensures { out.new ≡ sets out.old (v.0 * 3) (words3 w) }
 {
-    put_three(out, v.0 * 3, w.x, w.y, w.z);
+    let k = v.0 * 3;
+    put(out, k, w.x);
+    put(out, k + 1, w.y);
+    put(out, k + 2, w.z);
 }
 
 fn floats_of(w: Words3) -> V3
@@ -96,16 +98,6 @@ fn triangle_normal(positions: &[u32], indices: &[u32], count: usize, n: usize) -
 
 // ---- the first usable triangle of each vertex
 
-fn clear(table: &mut [u32])
-    ensures { Clear table.new }
-{
-    let mut i = 0;
-    while i < table.len() {
-        table[i] = 0;
-        i += 1;
-    }
-}
-
 // The first triangle's number is kept.
 fn mark(table: &mut [u32], v: VertexNumber, k: u32)
     ensures { table.new ≡ marked table.old v.0 k }
@@ -140,11 +132,9 @@ fn first_normals(positions: &[u32], indices: &[u32], count: usize, table: &mut [
     requires { (count ≤ 2 ^ 18) × (length indices.now ≤ 3 * 2 ^ 18) }
     ensures { Firsts (lent_frame positions.now) (lent_keys [] count) indices.now table.new }
 {
-    clear(table);
-    let mut n = 0;
-    while n * 3 + 2 < indices.len() {
+    table.fill(0);
+    for n in 0..indices.len() / 3 {
         note(positions, indices, count, n, table);
-        n += 1;
     }
 }
 
@@ -196,11 +186,21 @@ fn make_table(positions: &[u32], indices: &[u32], count: usize, made: bool, tabl
     first_normals(positions, indices, count, table);
 }
 
-// A normal after mending, and whether the table is made.
-#[derive(Clone, Copy)]
-struct Mended {
-    words: Words3,
+// The normal of vertex v by its triangles. `made`: whether the table is made, which it is afterwards.
+fn replaced(
+    positions: &[u32],
+    indices: &[u32],
+    count: usize,
+    v: VertexNumber,
     made: bool,
+    table: &mut [u32],
+) -> V3
+    requires { (count ≤ 2 ^ 18) × (length indices.now ≤ 3 * 2 ^ 18) × (v.0 < length table.old) × Served made positions.now indices.now count table.old }
+    ensures { (result ≡ first_normal (lent_frame positions.now) (lent_keys [] count) v.0 indices.now)
+        × Served true positions.now indices.now count table.new }
+{
+    make_table(positions, indices, count, made, table);
+    found_at(positions, indices, count, get(table, v.0))
 }
 
 // Whether the square of a length, by its bits, is 1 but for some roundings, as that of a vector that was scaled is.
@@ -213,37 +213,19 @@ fn is_near_one(square: u32) -> bool
     square < 0x3f80_0021
 }
 
-// The normal `w` of vertex v, with one root at most.
-fn mend_one(
-    positions: &[u32],
-    indices: &[u32],
-    count: usize,
-    v: VertexNumber,
-    w: Words3,
-    made: bool,
-    table: &mut [u32],
-) -> Mended
-    requires { (count ≤ 2 ^ 18) × (length indices.now ≤ 3 * 2 ^ 18) × (v.0 < length table.old) × Served made positions.now indices.now count table.old }
-    ensures { (result.words ≡ mend_by (unit_of (floats w)) w (first_normal (lent_frame positions.now) (lent_keys [] count) v.0 indices.now))
-        × Served result.made positions.now indices.now count table.new }
+// The normal `w`, kept or scaled, with one root at most; none where it cannot be scaled.
+fn rescaled(w: Words3) -> Option<Words3>
+    ensures { (other : V3) → mend_by (unit_of (floats w)) w other ≡ unwrap_or result (bits other) }
 {
     let n = floats_of(w);
     if is_near_one(math::bits_of(math::dot(n, n))) {
-        return Mended { words: w, made };
+        return Some(w);
     }
     let l = math::len(n);
     let Unit::Of(u) = math::unit_by(n, l) else {
-        make_table(positions, indices, count, made, table);
-        let k = get(table, v.0);
-        return Mended {
-            words: words_of(found_at(positions, indices, count, k)),
-            made: true,
-        };
+        return None;
     };
-    Mended {
-        words: scaled(w, u, l),
-        made,
-    }
+    Some(scaled(w, u, l))
 }
 
 // ---- all of them
@@ -260,13 +242,17 @@ pub fn fix_zero_normals(
     requires { (count ≤ 2 ^ 18) × (length indices.now ≤ 3 * 2 ^ 18) × (count ≤ length table.old) × (3 * count ≤ length normals.old) }
     ensures { normals.new ≡ mended_words positions.now indices.now normals.old count ++ drop (3 * count) normals.old }
 {
-    let mut v = 0;
     let mut made = false;
-    while v < count {
+    for v in 0..count {
         let w = words_at(normals, VertexNumber(v));
-        let r = mend_one(positions, indices, count, VertexNumber(v), w, made, table);
-        put_words(normals, VertexNumber(v), r.words);
-        made = r.made;
-        v += 1;
+        let mended = match rescaled(w) {
+            Some(x) => x,
+            None => {
+                let u = replaced(positions, indices, count, VertexNumber(v), made, table);
+                made = true;
+                words_of(u)
+            }
+        };
+        put_words(normals, VertexNumber(v), mended);
     }
 }
