@@ -13,8 +13,5 @@ pub loop-i-preserved : goal.loop-i-preserved
 loop-i-preserved c =
     renaming_go _ _ _ _ _ _ _ _ _ c.loop-i-test.true refl c.requires c.name_tri.ensures c.loop-i.invariant
 
-pub shape_of-indices : goal.shape_of-indices
-shape_of-indices c = c.loop-i.invariant.long
-
 pub returns : goal.returns
 returns c = renaming_end _ _ _ _ _ _ _ c.loop-i-test.false c.requires c.loop-i.invariant

@@ -38,21 +38,11 @@ pub put2-requires : goal.put2-requires
 put2-requires c =
     omega (arith, c.requires.room, c.loop-c-test.true, c.loop-c.invariant.size)
 
-pub overflow_add-c : goal.overflow_add-c
-overflow_add-c c =
-    omega (arith, c.requires.few, c.loop-c-test.true)
-
-pub loop-c-smaller : goal.loop-c-smaller
-loop-c-smaller c = omega (arith, c.loop-c-test.true)
-
 pub loop-c-preserved : goal.loop-c-preserved
 loop-c-preserved c =
     let T = c.loop-c.invariant in
     let r = texture_read _ _ _ _ _ _ _ _ _ _ c.requires (pieces_kept T (omega (arith, c.requires.room))) c.loop-c-test.true _ _ _ _ _ _ _ c.wide.ensures c.wide-place.ensures c.texture_at-w.ensures in
     pieces_more 2 (λ t. refl) (omega (arith, c.requires.room)) T c.loop-c-test.true (omega arith) (ap words2 r) c.put2.ensures
-
-pub shape_of-work : goal.shape_of-work
-shape_of-work c = c.loop-c.invariant.size
 
 pub returns : goal.returns
 returns c = pieces_all c.loop-c.invariant c.loop-c-test.false
