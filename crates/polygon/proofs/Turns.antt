@@ -21,21 +21,20 @@ use Rattle.polygon.proofs.Keep.{known_bent, known_hit, sound_store, sound_start,
 -- ---- the corners at a place of the order, read from the slice
 
 module _ (w : List ℕ) (m i : ℕ) (fits : m ≤ length w) (h : i < m) where
-  pub corner_in_lem : (a b c x y : ℕ) → x ≡ (i + m - 1) % m → a ≡ get_or w x 0 → b ≡ get_or w i 0 → y ≡ (i + 1) % m → c ≡ get_or w y 0 → triple a b c ≡ corner (take m w) i
-  corner_in_lem a b c x y ex ea eb ey ec =
+  pub corner_read : (x y : ℕ) → x ≡ (i + m - 1) % m → y ≡ (i + 1) % m → triple (get_or w x 0) (get_or w i 0) (get_or w y 0) ≡ corner (take m w) i
+  corner_read x y ex ey =
       let l : length (take m w) ≡ m = length-take-le m w fits in
       let hx : (i + m - 1) % m < m = mod-lt (i + m - 1) (omega arith) in
       let hy : (i + 1) % m < m = mod-lt (i + 1) (omega arith) in
-      let wa : a ≡ get_or (take m w) ((i + length (take m w) - 1) % length (take m w)) 0 =
-      ea ∙ sym (get_or-take m w x 0 (omega arith)) ∙ ap (λ (k : ℕ). get_or (take m w) k 0) ex ∙ ap (λ (k : ℕ). get_or (take m w) ((i + k - 1) % k) 0) (sym l) in
-      let wb : b ≡ get_or (take m w) i 0 = eb ∙ sym (get_or-take m w i 0 h) in
-      let wc : c ≡ get_or (take m w) ((i + 1) % length (take m w)) 0 =
-      ec ∙ sym (get_or-take m w y 0 (omega arith)) ∙ ap (λ (k : ℕ). get_or (take m w) k 0) ey ∙ ap (λ (k : ℕ). get_or (take m w) ((i + 1) % k) 0) (sym l) in
+      let wa : get_or w x 0 ≡ get_or (take m w) ((i + length (take m w) - 1) % length (take m w)) 0 =
+      sym (get_or-take m w x 0 (omega arith)) ∙ ap (λ (k : ℕ). get_or (take m w) k 0) ex ∙ ap (λ (k : ℕ). get_or (take m w) ((i + k - 1) % k) 0) (sym l) in
+      let wb : get_or w i 0 ≡ get_or (take m w) i 0 = sym (get_or-take m w i 0 h) in
+      let wc : get_or w y 0 ≡ get_or (take m w) ((i + 1) % length (take m w)) 0 =
+      sym (get_or-take m w y 0 (omega arith)) ∙ ap (λ (k : ℕ). get_or (take m w) k 0) ey ∙ ap (λ (k : ℕ). get_or (take m w) ((i + 1) % k) 0) (sym l) in
       λ z. triple (wa z) (wb z) (wc z)
 
-  pub ear_in : (P : ℕ → Pt) (left : List ℕ) (a b c x y : ℕ) → x ≡ (i + m - 1) % m → a ≡ get_or w x 0 → b ≡ get_or w i 0 → y ≡ (i + 1) % m → c ≡ get_or w y 0
-      → Tells left (take m w) → ear_of P left a b c ≡ is_ear P (take m w) i
-  ear_in P left a b c x y ex ea eb ey ec t = ap (λ (q : Tri). ear_of P left q.a q.b q.c) (corner_in_lem a b c x y ex ea eb ey ec) ∙ ear_is P left (take m w) i t
+pub ear_in : (P : ℕ → Pt) (left l : List ℕ) (i a b c : ℕ) → triple a b c ≡ corner l i → Tells left l → ear_of P left a b c ≡ is_ear P l i
+ear_in P left l i a b c e t = ap (λ (q : Tri). ear_of P left q.a q.b q.c) e ∙ ear_is P left l i t
 
 -- ---- a search
 
@@ -130,19 +129,18 @@ module _ (P : ℕ → Pt) (n : ℕ) (w w' : List ℕ) (S : Searched P n w w') wh
 -- ---- a corner goes
 
 -- w, then v with the flag of b cleared, then v' with place i taken out of the front m
-pub gone_by : (n m i b : ℕ) (w v last : List ℕ) → i < m → m ≤ n → m ≤ length v → b ≡ get_or w i 0
+pub gone_by : (n m i b : ℕ) (w v last : List ℕ) → m ≤ n → m ≤ length v → b ≡ get_or (take m w) i 0
     → (take n v ≡ take n w) × (flags n v ≡ set (flags n w) b 0) × (kept n v ≡ kept n w)
     → take (length (take m v) - 1) last ≡ remove i (take m v) → length last ≡ length (take m v)
     → Gone n m i w (last ++ drop m v)
 unfolding flags kept
-gone_by n m i b w v last hi hm hv eb f e hl =
+gone_by n m i b w v last hm hv eb f e hl =
     let l : length (take m v) ≡ m = length-take-le m v hv in
     let o : take m v ≡ take m w = sym (take-take m n v hm) ∙ ap (take m) f.0 ∙ take-take m n w hm in
     let d : drop n (last ++ drop m v) ≡ drop n v = front_drop v last m n (omega arith) hm in
-    let q : b ≡ get_or (take m w) i 0 = eb ∙ sym (get_or-take m w i 0 hi) in
     record {
       order = take-append-le (m - 1) last (drop m v) (omega arith) ∙ ap (λ (k : ℕ). take (k - 1) last) (sym l) ∙ e ∙ ap (remove i) o;
-      left = ap (take n) d ∙ f.1 ∙ ap (λ (k : ℕ). set (take n (drop n w)) k 0) q;
+      left = ap (take n) d ∙ f.1 ∙ ap (λ (k : ℕ). set (take n (drop n w)) k 0) eb;
       same = ap (drop n) d ∙ f.2;
     }
 

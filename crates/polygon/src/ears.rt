@@ -4,7 +4,7 @@ ghost use Rattle.std.proofs.lemmas.List.Edits.{sets};
 ghost use Rattle.polygon.specs.Ears.{triple, remove, corner, fan, clip, area_term, area, place, order, turn, ear_clip_by, flat};
 ghost use Rattle.polygon.specs.Memo.{xy, Gone, Held, Fresh};
 
-use crate::memo::{clear_flag, dot_at, first_ear, place_after, place_before};
+use crate::memo::{clear_flag, corner_at, dot_at, first_ear};
 use lists::{get, put};
 
 // One triangle, at the t'th place of `out`.
@@ -98,11 +98,9 @@ fn cut(w: &mut [u32], n: usize, m: usize, i: usize, out: &mut [u32], t: usize, r
     ensures { Gone n m i w.old w.new
         × (out.new ≡ sets out.old (t * 3) (flat (turn rev (corner (take m w.old) i) ∷ []))) }
 {
-    let a = get(w, place_before(m, i));
-    let b = get(w, i);
-    let c = get(w, place_after(m, i));
-    put_tri(out, t, rev, a, b, c);
-    clear_flag(w, n, b);
+    let q = corner_at(w, m, i);
+    put_tri(out, t, rev, q.a, q.b, q.c);
+    clear_flag(w, n, q.b);
     take_out(&mut w[..m], i);
 }
 

@@ -31,7 +31,7 @@ loop-k-smaller c = omega arith
 pub loop-k-preserved : goal.loop-k-preserved
 loop-k-preserved c = (
   omega (arith, one_small c.from-s.result c.is_near.result (number_is _ c.is_near.result c.from-s.ensures)),
-  count_step (hits c.args.left.now (λ i. in_way (dot_of (xy c.args.p.now) i) c.args.a c.args.b c.args.c)) _ _ _ _ c.is_near.result c.loop-k.invariant.1 (number_is _ c.is_near.result c.from-s.ensures)
+  count_step (hits c.args.left.now (λ i. in_way (dot_of (xy c.args.p.now) i) c.args.t.a c.args.t.b c.args.t.c)) _ _ _ _ c.is_near.result c.loop-k.invariant.1 (number_is _ c.is_near.result c.from-s.ensures)
       (λ e. not_in_way _ _ _ _ _ _ _ _ refl c.dot_in.ensures (sym c.is_near.ensures ∙ e)),
 )
 

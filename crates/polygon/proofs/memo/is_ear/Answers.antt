@@ -10,4 +10,4 @@ decide-requires c =
 
 pub returns : goal.returns
 returns c =
-    (c.decide.ensures.0 ∙ ear_in c.args.w.now c.args.m _ (omega arith) c.requires.0 _ _ _ _ _ _ _ c.place_before.ensures c.get-a.ensures c.get-b.ensures c.place_after.ensures c.get-c.ensures c.requires.4, c.decide.ensures.1)
+    (c.decide.ensures.0 ∙ ear_in _ _ _ _ _ _ _ c.corner_at-q.ensures c.requires.4, c.decide.ensures.1)

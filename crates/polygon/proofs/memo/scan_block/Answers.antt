@@ -8,7 +8,7 @@ count_near-requires c = omega arith
 
 pub returns-then-count_near-eq0 : goal.returns-then-count_near-eq0
 returns-then-count_near-eq0 c =
-    none_to (hits c.args.left.now (λ i. in_way (dot_of (xy c.args.p.now) i) c.args.a c.args.b c.args.c)) c.args.from c.args.to (omega arith)
+    none_to (hits c.args.left.now (λ i. in_way (dot_of (xy c.args.p.now) i) c.args.t.a c.args.t.b c.args.t.c)) c.args.from c.args.to (omega arith)
     (λ j l b. c.count_near.ensures c.if-count_near-eq0.true j (omega arith) b)
 
 pub scan-requires : goal.scan-requires

@@ -16,7 +16,7 @@ returns-then-h-e c = block_hit _ _ _ _ _ (omega arith) (omega arith) c.scan_bloc
 
 pub loop-k-preserved : goal.loop-k-preserved
 loop-k-preserved c =
-    let f = hits c.args.left.now (λ j. in_way (dot_of (xy c.args.p.now) j) c.args.a c.args.b c.args.c) in
+    let f = hits c.args.left.now (λ j. in_way (dot_of (xy c.args.p.now) j) c.args.t.a c.args.t.b c.args.t.c) in
     let e : c.min-e.result ≡ c.loop-k.k + 16 = omega arith in
     (omega arith, sym (block_past f _ _ _ _ (omega arith) (omega arith) c.scan_block-h.ensures c.if-h-e.false ∙ ap (λ (k : ℕ). first f (length c.args.left.now - k) k) e) ∙ c.loop-k.invariant.1)
 
