@@ -59,41 +59,22 @@ fn words_of(v: V3) -> Words3
     }
 }
 
-// ---- the normal of a triangle
+// ---- what is lent
 
-// Where vertex `v` of `count` lies; a number beyond the last reads as vertex 0.
-fn spot_of(positions: &[u32], count: usize, v: VertexNumber) -> V3
-    requires { count ≤ 2 ^ 18 }
-    ensures { result ≡ vertex_spot (lent_frame positions.now) (lent_keys [] count) v.0 }
-{
-    if v.0 < count {
-        return floats_of(words_at(positions, v));
-    }
-    floats_of(words_at(positions, VertexNumber(0)))
+// Where the vertices lie, `count` of them, and the triangles in threes.
+#[derive(Clone, Copy)]
+struct Lent<'a> {
+    positions: &'a [u32],
+    indices: &'a [u32],
+    count: usize,
+    ghost few_vertices: { count ≤ 2 ^ 18 },
+    ghost few_indices: { length indices.now ≤ 3 * 2 ^ 18 },
 }
 
 fn tri_normal(a: V3, b: V3, c: V3) -> Unit
     ensures { result ≡ tri_normal a b c }
 {
     math::normalize(math::cross(math::sub(b, a), math::sub(c, a)))
-}
-
-// Corner `j` of triangle `n`.
-fn corner(indices: &[u32], n: usize, j: usize) -> VertexNumber
-    requires { (n < 2 ^ 32) × (j < 3) }
-    ensures { result.0 ≡ get_or indices.now (n * 3 + j) 0 }
-{
-    VertexNumber(get(indices, n * 3 + j) as usize)
-}
-
-fn triangle_normal(positions: &[u32], indices: &[u32], count: usize, n: usize) -> Unit
-    requires { (count ≤ 2 ^ 18) × (n < 2 ^ 32) }
-    ensures { result ≡ triangle_normal (lent_frame positions.now) (lent_keys [] count) indices.now n }
-{
-    let a = spot_of(positions, count, corner(indices, n, 0));
-    let b = spot_of(positions, count, corner(indices, n, 1));
-    let c = spot_of(positions, count, corner(indices, n, 2));
-    tri_normal(a, b, c)
 }
 
 // ---- the first usable triangle of each vertex
@@ -108,38 +89,6 @@ fn mark(table: &mut [u32], v: VertexNumber, k: u32)
     }
 }
 
-fn mark_all(indices: &[u32], n: usize, table: &mut [u32])
-    requires { n + 1 < 2 ^ 32 }
-    ensures { table.new ≡ marked_all indices.now table.old n }
-{
-    let k = (n + 1) as u32;
-    mark(table, corner(indices, n, 0), k);
-    mark(table, corner(indices, n, 1), k);
-    mark(table, corner(indices, n, 2), k);
-}
-
-fn note(positions: &[u32], indices: &[u32], count: usize, n: usize, table: &mut [u32])
-    requires { (count ≤ 2 ^ 18) × (n + 1 < 2 ^ 32) }
-    ensures { table.new ≡ noted (lent_frame positions.now) (lent_keys [] count) indices.now table.old n }
-{
-    let Unit::Of(_u) = triangle_normal(positions, indices, count, n) else {
-        return;
-    };
-    mark_all(indices, n, table);
-}
-
-fn first_normals(positions: &[u32], indices: &[u32], count: usize, table: &mut [u32])
-    requires { (count ≤ 2 ^ 18) × (length indices.now ≤ 3 * 2 ^ 18) }
-    ensures { Firsts (lent_frame positions.now) (lent_keys [] count) indices.now table.new }
-{
-    table.fill(0);
-    for n in 0..indices.len() / 3 {
-        note(positions, indices, count, n, table);
-    }
-}
-
-// ---- one vertex
-
 fn straight_up() -> V3
     ensures { result ≡ y_axis }
 {
@@ -150,20 +99,101 @@ fn straight_up() -> V3
     }
 }
 
-// What the table's entry `k` stands for.
-fn found_at(positions: &[u32], indices: &[u32], count: usize, k: u32) -> V3
-    requires { count ≤ 2 ^ 18 }
-    ensures { result ≡ found (lent_frame positions.now) (lent_keys [] count) indices.now k y_axis }
-{
-    if k == 0 {
-        return straight_up();
+impl<'a> Lent<'a> {
+    // Where vertex `v` lies; a number beyond the last reads as vertex 0.
+    fn spot_of(&self, v: VertexNumber) -> V3
+        ensures { result ≡ vertex_spot (lent_frame self.now.positions.now) (lent_keys [] self.now.count) v.0 }
+    {
+        if v.0 < self.count {
+            return floats_of(words_at(self.positions, v));
+        }
+        floats_of(words_at(self.positions, VertexNumber(0)))
     }
-    let n = (k - 1) as usize;
-    let Unit::Of(u) = triangle_normal(positions, indices, count, n) else {
-        return straight_up();
-    };
-    u
+
+    // Corner `j` of triangle `n`.
+    fn corner(&self, n: usize, j: usize) -> VertexNumber
+        requires { (n < 2 ^ 32) × (j < 3) }
+        ensures { result.0 ≡ get_or self.now.indices.now (n * 3 + j) 0 }
+    {
+        VertexNumber(get(self.indices, n * 3 + j) as usize)
+    }
+
+    fn triangle_normal(&self, n: usize) -> Unit
+        requires { n < 2 ^ 32 }
+        ensures { result ≡ triangle_normal (lent_frame self.now.positions.now) (lent_keys [] self.now.count) self.now.indices.now n }
+    {
+        let a = self.spot_of(self.corner(n, 0));
+        let b = self.spot_of(self.corner(n, 1));
+        let c = self.spot_of(self.corner(n, 2));
+        tri_normal(a, b, c)
+    }
+
+    fn mark_all(&self, n: usize, table: &mut [u32])
+        requires { n + 1 < 2 ^ 32 }
+        ensures { table.new ≡ marked_all self.now.indices.now table.old n }
+    {
+        let k = (n + 1) as u32;
+        mark(table, self.corner(n, 0), k);
+        mark(table, self.corner(n, 1), k);
+        mark(table, self.corner(n, 2), k);
+    }
+
+    fn note(&self, n: usize, table: &mut [u32])
+        requires { n + 1 < 2 ^ 32 }
+        ensures { table.new ≡ noted (lent_frame self.now.positions.now) (lent_keys [] self.now.count) self.now.indices.now table.old n }
+    {
+        let Unit::Of(_u) = self.triangle_normal(n) else {
+            return;
+        };
+        self.mark_all(n, table);
+    }
+
+    fn first_normals(&self, table: &mut [u32])
+        ensures { Firsts (lent_frame self.now.positions.now) (lent_keys [] self.now.count) self.now.indices.now table.new }
+    {
+        table.fill(0);
+        for n in 0..self.indices.len() / 3 {
+            self.note(n, table);
+        }
+    }
+
+    // What the table's entry `k` stands for.
+    fn found_at(&self, k: u32) -> V3
+        ensures { result ≡ found (lent_frame self.now.positions.now) (lent_keys [] self.now.count) self.now.indices.now k y_axis }
+    {
+        if k == 0 {
+            return straight_up();
+        }
+        let n = (k - 1) as usize;
+        let Unit::Of(u) = self.triangle_normal(n) else {
+            return straight_up();
+        };
+        u
+    }
+
+    // The table is made when the first normal that cannot be scaled is met.
+    fn make_table(&self, made: bool, table: &mut [u32])
+        requires { Served made self.now.positions.now self.now.indices.now self.now.count table.old }
+        ensures { Firsts (lent_frame self.now.positions.now) (lent_keys [] self.now.count) self.now.indices.now table.new }
+    {
+        if made {
+            return;
+        }
+        self.first_normals(table);
+    }
+
+    // The normal of vertex v by its triangles. `made`: whether the table is made, which it is afterwards.
+    fn replaced(&self, v: VertexNumber, made: bool, table: &mut [u32]) -> V3
+        requires { (v.0 < length table.old) × Served made self.now.positions.now self.now.indices.now self.now.count table.old }
+        ensures { (result ≡ first_normal (lent_frame self.now.positions.now) (lent_keys [] self.now.count) v.0 self.now.indices.now)
+            × Served true self.now.positions.now self.now.indices.now self.now.count table.new }
+    {
+        self.make_table(made, table);
+        self.found_at(get(table, v.0))
+    }
 }
+
+// ---- one vertex
 
 // The normal `w`, of length l and unit vector u: scaled where it is visibly off length 1, else kept word for word.
 fn scaled(w: Words3, u: V3, l: f32) -> Words3
@@ -173,34 +203,6 @@ fn scaled(w: Words3, u: V3, l: f32) -> Words3
         return words_of(u);
     }
     w
-}
-
-// The table is made when the first normal that cannot be scaled is met.
-fn make_table(positions: &[u32], indices: &[u32], count: usize, made: bool, table: &mut [u32])
-    requires { (count ≤ 2 ^ 18) × (length indices.now ≤ 3 * 2 ^ 18) × Served made positions.now indices.now count table.old }
-    ensures { Firsts (lent_frame positions.now) (lent_keys [] count) indices.now table.new }
-{
-    if made {
-        return;
-    }
-    first_normals(positions, indices, count, table);
-}
-
-// The normal of vertex v by its triangles. `made`: whether the table is made, which it is afterwards.
-fn replaced(
-    positions: &[u32],
-    indices: &[u32],
-    count: usize,
-    v: VertexNumber,
-    made: bool,
-    table: &mut [u32],
-) -> V3
-    requires { (count ≤ 2 ^ 18) × (length indices.now ≤ 3 * 2 ^ 18) × (v.0 < length table.old) × Served made positions.now indices.now count table.old }
-    ensures { (result ≡ first_normal (lent_frame positions.now) (lent_keys [] count) v.0 indices.now)
-        × Served true positions.now indices.now count table.new }
-{
-    make_table(positions, indices, count, made, table);
-    found_at(positions, indices, count, get(table, v.0))
 }
 
 // Whether the square of a length, by its bits, is 1 but for some roundings, as that of a vector that was scaled is.
@@ -242,13 +244,18 @@ pub fn fix_zero_normals(
     requires { (count ≤ 2 ^ 18) × (length indices.now ≤ 3 * 2 ^ 18) × (count ≤ length table.old) × (3 * count ≤ length normals.old) }
     ensures { normals.new ≡ mended_words positions.now indices.now normals.old count ++ drop (3 * count) normals.old }
 {
+    let lent = Lent {
+        positions,
+        indices,
+        count,
+    };
     let mut made = false;
     for v in 0..count {
         let w = words_at(normals, VertexNumber(v));
         let mended = match rescaled(w) {
             Some(x) => x,
             None => {
-                let u = replaced(positions, indices, count, VertexNumber(v), made, table);
+                let u = lent.replaced(VertexNumber(v), made, table);
                 made = true;
                 words_of(u)
             }

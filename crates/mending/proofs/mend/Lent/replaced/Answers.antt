@@ -1,5 +1,5 @@
 use Rattle.mending.proofs.Fixing.{found_first, all_made}
-use Rattle.mending.proofs.mend.replaced.Goals as goal
+use Rattle.mending.proofs.mend.Lent.replaced.Goals as goal
 use native.Mathlib.Omega.{arith}
 
 pub returns : goal.returns

@@ -2,7 +2,7 @@ use mathlib.Core.Path.{sym, ap, ◌∙◌}
 use Rattle.math.specs.Vector.{y_axis}
 use Rattle.mesh.specs.Normals.{or_else}
 use Rattle.mending.proofs.Table.{found_is}
-use Rattle.mending.proofs.mend.found_at.Goals as goal
+use Rattle.mending.proofs.mend.Lent.found_at.Goals as goal
 
 pub returns-in_default : goal.returns-in_default
 unfolding or_else

@@ -1,5 +1,5 @@
 use Rattle.mending.specs.Mend.{marked_all}
-use Rattle.mending.proofs.mend.mark_all.Goals as goal
+use Rattle.mending.proofs.mend.Lent.mark_all.Goals as goal
 
 pub returns : goal.returns
 unfolding marked_all

@@ -1,5 +1,5 @@
 use Rattle.mending.specs.Mend.{noted}
-use Rattle.mending.proofs.mend.note.Goals as goal
+use Rattle.mending.proofs.mend.Lent.note.Goals as goal
 
 pub returns-in_default : goal.returns-in_default
 unfolding noted

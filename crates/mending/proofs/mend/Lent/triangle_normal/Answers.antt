@@ -2,7 +2,7 @@ use mathlib.Core.Path.{ap, ◌∙◌}
 use Rattle.mesh.specs.Mend.{vertex_spot, tri_normal}
 use Rattle.mending.specs.Mend.{triangle_normal, lent_frame, lent_keys}
 use mathlib.Core.List.{[]}
-use Rattle.mending.proofs.mend.triangle_normal.Goals as goal
+use Rattle.mending.proofs.mend.Lent.triangle_normal.Goals as goal
 
 pub returns : goal.returns
 unfolding triangle_normal

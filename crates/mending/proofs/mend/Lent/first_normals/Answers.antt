@@ -2,7 +2,7 @@ use borrow.Author.Rules.{rules}
 use lib.ListN.{length}
 use native.Mathlib.Omega.{arith}
 use Rattle.mending.proofs.Table.{left_start, left_go, left_end}
-use Rattle.mending.proofs.mend.first_normals.Goals as goal
+use Rattle.mending.proofs.mend.Lent.first_normals.Goals as goal
 
 pub loop-n-init : goal.loop-n-init
 loop-n-init c = left_start _ _ _ _ (length c.args.table.now) (search rules)
