@@ -13,10 +13,6 @@ all_faces-k-requires c =
     let C = cornered_at _ c.corner_tables-tables.ensures c.all_vertices-n.ensures in
     (faces_ready R C, faces_room R C)
 
-pub slice_bounds-fix_zero_normals-end : goal.slice_bounds-fix_zero_normals-end
-slice_bounds-fix_zero_normals-end c =
-    indices_there c.requires (cornered_at _ c.corner_tables-tables.ensures c.all_vertices-n.ensures) c.all_faces-k.ensures
-
 pub fix_zero_normals-requires : goal.fix_zero_normals-requires
 fix_zero_normals-requires c =
     mending_ready c.requires (cornered_at _ c.corner_tables-tables.ensures c.all_vertices-n.ensures) c.all_faces-k.ensures c.all_vertices-n.auto.normals

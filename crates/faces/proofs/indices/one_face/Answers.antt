@@ -13,9 +13,6 @@ pub returns-then-n-lt3 : goal.returns-then-n-lt3
 returns-then-n-lt3 c =
     few_put c.requires.0.sound c.args.ccw c.args.convex _ _ _ c.requires.1 c.stretch_of-r.ensures.from c.stretch_of-r.ensures.to _ _ _ c.if-n-lt3.true
 
-pub overflow_sub-next : goal.overflow_sub-next
-overflow_sub-next c = omega (arith, c.if-n-lt3.false)
-
 pub overflow_mul-next : goal.overflow_mul-next
 overflow_mul-next c = let R = c.requires.0.sound.room in let e = c.stretch_of-r.ensures in omega (arith, e.within)
 

@@ -6,9 +6,6 @@ use Rattle.faces.proofs.naming.rename.Goals as goal
 pub loop-i-init : goal.loop-i-init
 loop-i-init c = renaming_start _ _ _ _ _
 
-pub overflow_mul-i : goal.overflow_mul-i
-overflow_mul-i c = omega (arith, c.loop-i.invariant.within)
-
 pub loop-i-preserved : goal.loop-i-preserved
 loop-i-preserved c =
     renaming_go _ _ _ _ _ _ _ _ _ c.loop-i-test.true refl c.requires c.name_tri.ensures c.loop-i.invariant

@@ -8,35 +8,9 @@ use Rattle.texture.proofs.filling.put_textures.Goals as goal
 pub loop-c-init : goal.loop-c-init
 loop-c-init c = pieces_none
 
-pub overflow_add-corners : goal.overflow_add-corners
-overflow_add-corners c = omega (arith, c.requires.corners_below, c.requires.room, c.loop-c-test.true)
-
-pub bounds-work-corners : goal.bounds-work-corners
-bounds-work-corners c = omega (arith, c.requires.corners_below, c.requires.room, c.loop-c-test.true, c.loop-c.invariant.size)
-
-pub overflow_add-places : goal.overflow_add-places
-overflow_add-places c =
-    omega (arith, c.requires.places_below, c.requires.room, c.loop-c-test.true)
-
-pub bounds-work-places : goal.bounds-work-places
-bounds-work-places c =
-    omega (arith, c.requires.places_below, c.requires.room, c.loop-c-test.true, c.loop-c.invariant.size)
-
 pub texture_at-w-requires : goal.texture_at-w-requires
 texture_at-w-requires c =
     (c.requires.first, c.requires.second, rw c.wide.ensures (point_within _ _ _ _ _ _ _ _ _ _ c.requires (pieces_kept c.loop-c.invariant (omega (arith, c.requires.room))) c.loop-c-test.true), omega (arith, c.requires.points_below, c.requires.room, c.loop-c.invariant.size))
-
-pub overflow_mul-c : goal.overflow_mul-c
-overflow_mul-c c =
-    omega (arith, c.requires.room, c.loop-c-test.true)
-
-pub overflow_add-textures : goal.overflow_add-textures
-overflow_add-textures c =
-    omega (arith, c.requires.room, c.loop-c-test.true)
-
-pub put2-requires : goal.put2-requires
-put2-requires c =
-    omega (arith, c.requires.room, c.loop-c-test.true, c.loop-c.invariant.size)
 
 pub loop-c-preserved : goal.loop-c-preserved
 loop-c-preserved c =

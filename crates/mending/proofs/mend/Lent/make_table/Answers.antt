@@ -3,6 +3,3 @@ use Rattle.mending.proofs.mend.Lent.make_table.Goals as goal
 
 pub returns-then-made : goal.returns-then-made
 returns-then-made c = made_here _ _ _ _ _ c.requires c.if-made.true
-
-pub returns : goal.returns
-returns c = c.first_normals.ensures
