@@ -8,13 +8,14 @@ use native.Mathlib.Omega.{arith}
 use lib.ListN.{length, get_or, set, take, drop, replicate, length-set, get_or-append, get_or-replicate}
 use lib.Seq.{sets, length-take-le, take-take, take-append-le, get_or-take, get_or-drop, drop-drop, take_at, drop_at}
 use lib.Ieee.{le}
+use Rattle.std.specs.Prelude.{Option}
 use borrow.Rule.Slice.PartMut.{put_mid, mid_of, mid_len}
 use Rattle.lists.specs.Loops.{first}
 use Rattle.lists.proofs.Stores.{tail_take, tail_drop, front_drop, put_back}
 use Rattle.lists.proofs.Searches.{first_from}
 use Rattle.lists.specs.Parts.{Full}
 use Rattle.polygon.specs.Ears.{Pt, Tri, triple, +0, cross2, blocks, is_ear, corner, remove, order}
-use Rattle.polygon.specs.Memo.{hits, Tells, Once, ear_of, Known, Sound, Clear, flags, kept, Searched, Gone, Held, Fresh}
+use Rattle.polygon.specs.Memo.{hits, Tells, Once, ear_of, Known, Sound, Clear, found, flags, kept, Searched, Gone, Held, Fresh}
 use Rattle.polygon.proofs.Tables.{length_flags, flag_at, stored, as_was}
 use Rattle.polygon.proofs.Keep.{known_bent, known_hit, sound_store, sound_start, sound_gone, tells_start, tells_gone, once_start, once_remove, hits_others, ear_bent, ear_blocked, ear_found, ear_free, ear_is, go_on}
 
@@ -40,13 +41,13 @@ ear_in P left l i a b c e t = ap (λ (q : Tri). ear_of P left q.a q.b q.c) e ∙
 
 -- three flags put out, and put back after the search
 module _ (P : ℕ → Pt) (a b c : ℕ) (l l₁ l₂ l₃ : List ℕ) (e₁ : l₁ ≡ set l a 0) (e₂ : l₂ ≡ set l₁ b 0) (e₃ : l₃ ≡ set l₂ c 0) where
-  pub others_found : (from k : ℕ) → k ≡ first (hits l₃ (blocks P a b c)) (length l₃ - from) from → k ≡ first (hits l (blocks P a b c)) (length l - from) from
+  pub others_found : (from : ℕ) (k : Option ℕ) → k ≡ found (length l₃) (first (hits l₃ (blocks P a b c)) (length l₃ - from) from) → k ≡ found (length l) (first (hits l (blocks P a b c)) (length l - from) from)
   others_found from k q =
       let e : l₃ ≡ set (set (set l a 0) b 0) c 0 = e₃ ∙ ap (λ (m : List ℕ). set m c 0) (e₂ ∙ ap (λ (m : List ℕ). set m b 0) e₁) in
       let n : length l₃ ≡ length l = ap length e₃ ∙ length-set l₂ c 0 ∙ ap length e₂ ∙ length-set l₁ b 0 ∙ ap length e₁ ∙ length-set l a 0 in
-      q ∙ ap (λ (m : ℕ). first (hits l₃ (blocks P a b c)) (m - from) from) n
-      ∙ ap (λ (m : List ℕ). first (hits m (blocks P a b c)) (length l - from) from) e
-      ∙ ap (λ (f : ℕ → Bool). first f (length l - from) from) (hits_others P a b c l)
+      q ∙ ap (λ (m : ℕ). found m (first (hits l₃ (blocks P a b c)) (m - from) from)) n
+      ∙ ap (λ (m : List ℕ). found (length l) (first (hits m (blocks P a b c)) (length l - from) from)) e
+      ∙ ap (λ (f : ℕ → Bool). found (length l) (first f (length l - from) from)) (hits_others P a b c l)
 
   pub others_back : (x y z : ℕ) (l₄ l₅ l₆ : List ℕ) → x ≡ get_or l a 0 → y ≡ get_or l₁ b 0 → z ≡ get_or l₂ c 0 → l₄ ≡ set l₃ c z → l₅ ≡ set l₄ b y → l₆ ≡ set l₅ a x → l₆ ≡ l
   others_back x y z l₄ l₅ l₆ ex ey ez e₄ e₅ e₆ =

@@ -113,10 +113,9 @@ fn clip_all(p: &[f32], w: &mut [u32], n: usize, out: &mut [u32], rev: bool)
         if m <= 3 {
             break;
         }
-        let i = first_ear(p, w, n, m);
-        if m <= i {
+        let Some(i) = first_ear(p, w, n, m) else {
             break;
-        }
+        };
         cut(w, n, m, i, out, t, rev);
         m -= 1;
     }

@@ -5,7 +5,7 @@ ghost use Rattle.std.specs.Float.{nan};
 ghost use Rattle.std.specs.Float.Ieee.{le};
 ghost use Rattle.lists.specs.Loops.{pick, first};
 ghost use Rattle.polygon.specs.Ears.{+0, triple, corner, cross2, point_in_tri, blocks, is_ear, first_ear};
-ghost use Rattle.polygon.specs.Memo.{xy, dot_of, spot_of, in_way, hits, Clear, Tells, ear_of, Known, Sound, entry, flags, kept, Searched};
+ghost use Rattle.polygon.specs.Memo.{xy, dot_of, spot_of, in_way, hits, Clear, Tells, ear_of, Known, Sound, entry, found, flags, kept, Searched};
 
 use lists::{get, put};
 
@@ -110,16 +110,16 @@ fn is_hit(p: &[f32], left: &[u32], k: usize, t: Triangle) -> bool
 }
 
 // The first of the corners from `from` up to `to` that is left and lies in the triangle t.
-fn scan(p: &[f32], left: &[u32], from: usize, to: usize, t: Triangle) -> usize
+fn scan(p: &[f32], left: &[u32], from: usize, to: usize, t: Triangle) -> Option<usize>
     requires { (from ≤ to) × (to ≤ 2 ^ 31) }
-    ensures { result ≡ first (hits left.now (λ j. in_way (dot_of (xy p.now) j) t.a t.b t.c)) (to - from) from }
+    ensures { result ≡ found to (first (hits left.now (λ j. in_way (dot_of (xy p.now) j) t.a t.b t.c)) (to - from) from) }
 {
     for k in from..to {
         if is_hit(p, left, k, t) {
-            return k;
+            return Some(k);
         }
     }
-    to
+    None
 }
 
 // The corner k, whose coordinates are there.
@@ -160,38 +160,37 @@ fn count_near(p: &[f32], left: &[u32], from: usize, to: usize, t: Triangle) -> u
 }
 
 // As `scan`, of a block of corners: it is passed as a whole where none of them is near. The last block may be short: then some before it are counted again.
-fn scan_block(p: &[f32], left: &[u32], from: usize, to: usize, t: Triangle) -> usize
+fn scan_block(p: &[f32], left: &[u32], from: usize, to: usize, t: Triangle) -> Option<usize>
     requires { (from ≤ to) × (to ≤ from + 16) × (to ≤ 2 ^ 31) × (to ≤ length left.now) × (to * 2 ≤ length p.now) }
-    ensures { result ≡ first (hits left.now (λ j. in_way (dot_of (xy p.now) j) t.a t.b t.c)) (to - from) from }
+    ensures { result ≡ found to (first (hits left.now (λ j. in_way (dot_of (xy p.now) j) t.a t.b t.c)) (to - from) from) }
 {
     if BLOCK <= to {
         if count_near(p, left, to - BLOCK, to, t) == 0 {
-            return to;
+            return None;
         }
     }
     scan(p, left, from, to, t)
 }
 
 // As `scan`, of all corners from `from` on, block by block.
-fn scan_blocks(p: &[f32], left: &[u32], from: usize, t: Triangle) -> usize
+fn scan_blocks(p: &[f32], left: &[u32], from: usize, t: Triangle) -> Option<usize>
     requires { (from ≤ length left.now) × (length left.now ≤ 2 ^ 31) × (length left.now * 2 ≤ length p.now) }
-    ensures { result ≡ first (hits left.now (λ j. in_way (dot_of (xy p.now) j) t.a t.b t.c)) (length left.now - from) from }
+    ensures { result ≡ found (length left.now) (first (hits left.now (λ j. in_way (dot_of (xy p.now) j) t.a t.b t.c)) (length left.now - from) from) }
 {
     let n = left.len();
     for k in (from..n).step_by(BLOCK) {
         let e = n.min(k + BLOCK);
-        let h = scan_block(p, left, k, e, t);
-        if h < e {
-            return h;
+        if let Some(h) = scan_block(p, left, k, e, t) {
+            return Some(h);
         }
     }
-    n
+    None
 }
 
 // The first corner from `from` on that is left and lies in the triangle q, which is read once.
-fn next_hit(p: &[f32], left: &[u32], from: usize, q: Corner) -> usize
+fn next_hit(p: &[f32], left: &[u32], from: usize, q: Corner) -> Option<usize>
     requires { (from ≤ length left.now) × (length left.now ≤ 2 ^ 31) }
-    ensures { result ≡ first (hits left.now (blocks (xy p.now) q.a q.b q.c)) (length left.now - from) from }
+    ensures { result ≡ found (length left.now) (first (hits left.now (blocks (xy p.now) q.a q.b q.c)) (length left.now - from) from) }
 {
     let t = Triangle {
         a: dot_at(p, q.a),
@@ -214,9 +213,9 @@ fn take_word(s: &mut [u32], k: usize) -> u32
 }
 
 // As `next_hit`, with the flags of its corners put out meanwhile: they are always near, and would keep their blocks from being passed.
-fn other_hit(p: &[f32], left: &mut [u32], from: usize, q: Corner) -> usize
+fn other_hit(p: &[f32], left: &mut [u32], from: usize, q: Corner) -> Option<usize>
     requires { (from ≤ length left.old) × (length left.old ≤ 2 ^ 31) }
-    ensures { (result ≡ first (hits left.old (blocks (xy p.now) q.a q.b q.c)) (length left.old - from) from) × (left.new ≡ left.old) }
+    ensures { (result ≡ found (length left.old) (first (hits left.old (blocks (xy p.now) q.a q.b q.c)) (length left.old - from) from)) × (left.new ≡ left.old) }
 {
     let x = take_word(left, q.a as usize);
     let y = take_word(left, q.b as usize);
@@ -259,10 +258,9 @@ fn search(p: &[f32], w: &mut [u32], n: usize, q: Corner, from: usize) -> bool
     ensures { (result ≡ ear_of (xy p.now) (flags n w.old) q.a q.b q.c) × Searched (xy p.now) n w.old w.new }
 {
     let e = n * 2;
-    let k = other_hit(p, &mut w[n..e], from, q);
-    if n <= k {
+    let Some(k) = other_hit(p, &mut w[n..e], from, q) else {
         return true;
-    }
+    };
     store(w, n, q, k as u32 + 2);
     false
 }
@@ -329,16 +327,16 @@ fn is_ear(p: &[f32], w: &mut [u32], n: usize, m: usize, i: usize) -> bool
     decide(p, w, n, q, s)
 }
 
-pub fn first_ear(p: &[f32], w: &mut [u32], n: usize, m: usize) -> usize
+pub fn first_ear(p: &[f32], w: &mut [u32], n: usize, m: usize) -> Option<usize>
     requires { (m ≤ n) × (n ≤ 2 ^ 31) × (n * 2 ≤ length w.old) × Tells (flags n w.old) (take m w.old) × Sound (xy p.now) (flags n w.old) (kept n w.old) }
-    ensures { (result ≡ first_ear (xy p.now) (take m w.old)) × Searched (xy p.now) n w.old w.new }
+    ensures { (result ≡ found m (first_ear (xy p.now) (take m w.old))) × Searched (xy p.now) n w.old w.new }
 {
     for i in 0..m {
         if is_ear(p, w, n, m, i) {
-            return i;
+            return Some(i);
         }
     }
-    m
+    None
 }
 
 // The corner b is no longer left.

@@ -5,12 +5,13 @@ use native.Mathlib.Nat.{sub-zero}
 use native.Mathlib.Omega.{arith}
 use lib.ListN.{length, take}
 use lib.Seq.{sets, length-take-le}
-use Rattle.polygon.specs.Ears.{Tri, flat, turn, fan, clip, corner, remove}
+use Rattle.polygon.specs.Ears.{Tri, flat, turn, fan, clip, corner, remove, first_ear}
 use Rattle.polygon.specs.Memo.{xy}
 use Rattle.polygon.proofs.Lists.{clip_write, clip_out, clip_short, clip_none}
 use Rattle.polygon.proofs.Turns.{searched_order, held_turn}
+use Rattle.polygon.proofs.Blocks.{some_found, none_found}
 use Rattle.polygon.proofs.ears.clip_all.Goals as goal
-use Rattle.polygon.proofs.ears.clip_all.Goals.{Left-loop-t, else-loop-t-test, then-loop-t-test+then-m-le3, then-loop-t-test+else-m-le3+then-m-i}
+use Rattle.polygon.proofs.ears.clip_all.Goals.{Left-loop-t, else-loop-t-test, then-loop-t-test+then-m-le3, then-loop-t-test+else-m-le3+in_default}
 
 -- however the loop was left, a fan of what remains is what is left to write
 stops : (c : Left-loop-t) → clip (xy c.args.p.now) (c.args.n * c.args.n - c.loop-t.t) (take c.loop-t.m c.loop-t.w) ≡ fan (take c.loop-t.m c.loop-t-test.w)
@@ -24,20 +25,20 @@ stops c =
     elim c.loop-t-test.branch [
       | else-loop-t-test o ↦ clip_out P (c.args.n * c.args.n - k.t) l (omega (arith, o.loop-t-test.false)) ∙ ap (λ (r : List ℕ). fan (take k.m r)) (sym o.w-is)
       | then-loop-t-test+then-m-le3 s ↦ clip_short P (c.args.n * c.args.n - k.t) l (omega (arith, s.if-m-le3.true)) ∙ ap (λ (r : List ℕ). fan (take k.m r)) (sym s.w-is)
-      | then-loop-t-test+else-m-le3+then-m-i s ↦
-          clip_none P (c.args.n * c.args.n - k.t) l s.first_ear-i.result s.first_ear-i.ensures.0 (omega (arith, s.if-m-i.true))
-          ∙ ap fan (sym (searched_order _ _ _ _ s.first_ear-i.ensures.1 _ hm))
+      | then-loop-t-test+else-m-le3+in_default s ↦
+          clip_none P (c.args.n * c.args.n - k.t) l (first_ear P l) refl (omega (arith, none_found _ _ (sym s.in_default.is ∙ s.first_ear.ensures.0)))
+          ∙ ap fan (sym (searched_order _ _ _ _ s.first_ear.ensures.1 _ hm))
           ∙ ap (λ (r : List ℕ). fan (take k.m r)) (sym s.w-is)
     ]
 
 pub loop-t-init : goal.loop-t-init
 loop-t-init c = (omega arith, rw sub-zero, c.requires.2)
 
-pub first_ear-i-requires : goal.first_ear-i-requires
-first_ear-i-requires c = let H = c.loop-t.invariant.2 in (omega arith, c.requires.0, omega arith, H.tells, H.sound)
+pub first_ear-requires : goal.first_ear-requires
+first_ear-requires c = let H = c.loop-t.invariant.2 in (omega arith, c.requires.0, omega arith, H.tells, H.sound)
 
 pub cut-requires : goal.cut-requires
-cut-requires c = (c.if-m-i.false, omega arith, c.requires.0, omega (arith, c.first_ear-i.auto.w), omega arith)
+cut-requires c = ((some_found _ _ c.in-Some.i (sym c.in-Some.is ∙ c.first_ear.ensures.0)).1, omega arith, c.requires.0, omega (arith, c.first_ear.auto.w), omega arith)
 
 pub loop-t-preserved : goal.loop-t-preserved
 loop-t-preserved c =
@@ -47,13 +48,14 @@ loop-t-preserved c =
     let hm : m ≤ c.args.n = omega arith in
     let hw : m ≤ length w = omega arith in
     let e : length (take m w) ≡ m = length-take-le m w hw in
-    let o = searched_order P c.args.n w _ c.first_ear-i.ensures.1 m hm in
-    let hi : c.first_ear-i.result < m = omega arith in (
+    let o = searched_order P c.args.n w _ c.first_ear.ensures.1 m hm in
+    let some = some_found _ _ c.in-Some.i (sym c.in-Some.is ∙ c.first_ear.ensures.0) in
+    let hi : c.in-Some.i < m = some.1 in (
       omega arith,
-      clip_write P c.args.rev c.loop-t.out c.loop-t.t (c.args.n * c.args.n) (take m w) c.first_ear-i.result (take (m - 1) c.cut.new.w) c.cut.new.out
-          (omega arith) (omega arith) c.loop-t-test.true c.first_ear-i.ensures.0 (c.cut.ensures.0.order ∙ ap (remove c.first_ear-i.result) o)
-          (c.cut.ensures.1 ∙ ap (λ (l : List ℕ). sets c.loop-t.out (c.loop-t.t * 3) (flat (turn c.args.rev (corner l c.first_ear-i.result) ∷ []))) o) ∙ c.loop-t.invariant.1,
-      held_turn _ _ _ _ _ _ _ hi hm hw c.loop-t.invariant.2 c.first_ear-i.ensures.1 c.cut.ensures.0,
+      clip_write P c.args.rev c.loop-t.out c.loop-t.t (c.args.n * c.args.n) (take m w) c.in-Some.i (take (m - 1) c.cut.new.w) c.cut.new.out
+          (omega arith) (omega arith) c.loop-t-test.true some.0 (c.cut.ensures.0.order ∙ ap (remove c.in-Some.i) o)
+          (c.cut.ensures.1 ∙ ap (λ (l : List ℕ). sets c.loop-t.out (c.loop-t.t * 3) (flat (turn c.args.rev (corner l c.in-Some.i) ∷ []))) o) ∙ c.loop-t.invariant.1,
+      held_turn _ _ _ _ _ _ _ hi hm hw c.loop-t.invariant.2 c.first_ear.ensures.1 c.cut.ensures.0,
     )
 
 pub slice_bounds-put_fan-end : goal.slice_bounds-put_fan-end

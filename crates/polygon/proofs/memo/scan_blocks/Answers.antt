@@ -6,25 +6,28 @@ use Rattle.lists.specs.Loops.{first}
 use Rattle.lists.proofs.Loops.{first_end}
 use Rattle.lists.proofs.Searches.{block_hit, block_past}
 use Rattle.polygon.specs.Memo.{xy, dot_of, in_way, hits}
+use Rattle.polygon.proofs.Blocks.{found_some, found_none, some_found, none_found}
 use Rattle.polygon.proofs.memo.scan_blocks.Goals as goal
 
 pub loop-k-init : goal.loop-k-init
 loop-k-init c = (omega arith, refl)
 
-pub returns-then-h-e : goal.returns-then-h-e
-returns-then-h-e c = block_hit _ _ _ _ _ (omega arith) (omega arith) c.scan_block-h.ensures c.if-h-e.true ∙ c.loop-k.invariant.1
+pub returns-in-Some : goal.returns-in-Some
+returns-in-Some c =
+    let s = some_found _ _ c.in-Some.h c.in-Some.ensures in
+    found_some _ _ _ (block_hit _ _ _ _ _ (omega arith) (omega arith) s.0 s.1 ∙ c.loop-k.invariant.1) (omega (arith, s.1))
 
 pub loop-k-preserved : goal.loop-k-preserved
 loop-k-preserved c =
     let f = hits c.args.left.now (λ j. in_way (dot_of (xy c.args.p.now) j) c.args.t.a c.args.t.b c.args.t.c) in
     let e : c.min-e.result ≡ c.loop-k.k + 16 = omega arith in
-    (omega arith, sym (block_past f _ _ _ _ (omega arith) (omega arith) c.scan_block-h.ensures c.if-h-e.false ∙ ap (λ (k : ℕ). first f (length c.args.left.now - k) k) e) ∙ c.loop-k.invariant.1)
+    (omega arith, sym (block_past f _ _ _ _ (omega arith) (omega arith) refl (none_found _ _ (sym c.in_default.is ∙ c.scan_block.ensures)) ∙ ap (λ (k : ℕ). first f (length c.args.left.now - k) k) e) ∙ c.loop-k.invariant.1)
 
 -- after the last block
-pub returns-else-h-e : goal.returns-else-h-e
-returns-else-h-e c =
+pub returns-in_default : goal.returns-in_default
+returns-in_default c =
     let e : length c.args.left.now ≡ c.min-e.result = omega arith in
-    e ∙ sym (block_past _ _ _ _ _ (omega arith) (omega arith) c.scan_block-h.ensures c.if-h-e.false ∙ first_end _ _ _ (omega arith)) ∙ c.loop-k.invariant.1
+    found_none _ _ (e ∙ sym (block_past _ _ _ _ _ (omega arith) (omega arith) refl (none_found _ _ (sym c.in_default.is ∙ c.scan_block.ensures)) ∙ first_end _ _ _ (omega arith)) ∙ c.loop-k.invariant.1)
 
 pub returns : goal.returns
-returns c = let e : length c.args.left.now ≡ c.loop-k.k = omega arith in e ∙ sym (first_end _ _ _ c.loop-k-test.false) ∙ c.loop-k.invariant.1
+returns c = let e : length c.args.left.now ≡ c.loop-k.k = omega arith in found_none _ _ (e ∙ sym (first_end _ _ _ c.loop-k-test.false) ∙ c.loop-k.invariant.1)
