@@ -7,10 +7,10 @@ use Rattle.polygon.proofs.ears.area_of.Goals as goal
 
 pub loop-i-init : goal.loop-i-init
 unfolding area
-loop-i-init c = (omega arith, rw sub-zero)
+loop-i-init c = rw sub-zero
 
 pub loop-i-preserved : goal.loop-i-preserved
-loop-i-preserved c = (omega arith, rw c.area_step-s.ensures (sym (run_go _ _ _ _ c.loop-i-test.true) ∙ c.loop-i.invariant.1))
+loop-i-preserved c = rw c.area_step-s.ensures (sym (run_go _ _ _ _ c.loop-i-test.true) ∙ c.loop-i.invariant)
 
 pub returns : goal.returns
-returns c = sym (run_end _ _ _ _ c.loop-i-test.false) ∙ c.loop-i.invariant.1
+returns c = sym (run_end _ _ _ _ c.loop-i-test.false) ∙ c.loop-i.invariant

@@ -6,4 +6,4 @@ use Rattle.polygon.specs.Memo.{xy}
 use Rattle.polygon.proofs.ears.area_of.Given as goal
 
 abbrev pub invariant-loop-i : goal.invariant-loop-i
-invariant-loop-i l = (l.i ≤ l.n) × (run (area_term (xy l.p) l.n) (l.n - l.i) l.i l.s ≡ area (xy l.p) l.n)
+invariant-loop-i l = run (area_term (xy l.p) l.n) (l.n - l.i) l.i l.s ≡ area (xy l.p) l.n

@@ -58,9 +58,6 @@ loop-t-preserved c =
       held_turn _ _ _ _ _ _ _ hi hm hw c.loop-t.invariant.2 c.first_ear.ensures.1 c.cut.ensures.0,
     )
 
-pub slice_bounds-put_fan-end : goal.slice_bounds-put_fan-end
-slice_bounds-put_fan-end c = omega arith
-
 pub slice_bounds-put_fan-end-2 : goal.slice_bounds-put_fan-end-2
 slice_bounds-put_fan-end-2 c = let h : c.loop-t.m ≤ length c.loop-t-test.w = omega arith in sym (length-take-le c.loop-t.m c.loop-t-test.w h)
 

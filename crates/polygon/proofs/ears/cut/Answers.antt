@@ -8,9 +8,6 @@ use Rattle.polygon.specs.Ears.{Tri, flat, turn}
 use Rattle.polygon.proofs.Turns.{gone_by}
 use Rattle.polygon.proofs.ears.cut.Goals as goal
 
-pub slice_bounds-take_out-end : goal.slice_bounds-take_out-end
-slice_bounds-take_out-end c = omega (arith, c.clear_flag.auto.w)
-
 pub slice_bounds-take_out-end-2 : goal.slice_bounds-take_out-end-2
 slice_bounds-take_out-end-2 c =
     let h : c.args.m ≤ length c.clear_flag.new.w = omega (arith, c.clear_flag.auto.w) in sym (length-take-le c.args.m c.clear_flag.new.w h)

@@ -16,17 +16,8 @@ number_is o false e = e
 pub loop-k-init : goal.loop-k-init
 loop-k-init c = (omega arith, λ z j l b. let w : ⊥ = omega arith in absurd w)
 
-pub bounds-left-k : goal.bounds-left-k
-bounds-left-k c = omega arith
-
-pub dot_in-requires : goal.dot_in-requires
-dot_in-requires c = omega arith
-
 pub overflow_add-s : goal.overflow_add-s
 overflow_add-s c = omega (arith, one_small c.from-s.result c.is_near.result (number_is _ c.is_near.result c.from-s.ensures))
-
-pub loop-k-smaller : goal.loop-k-smaller
-loop-k-smaller c = omega arith
 
 pub loop-k-preserved : goal.loop-k-preserved
 loop-k-preserved c = (

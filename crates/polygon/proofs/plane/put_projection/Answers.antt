@@ -4,12 +4,6 @@ use Rattle.polygon.specs.Plane.{projected}
 use Rattle.polygon.proofs.Projection.{projected_go, projected_end}
 use Rattle.polygon.proofs.plane.put_projection.Goals as goal
 
-pub loop-i-init : goal.loop-i-init
-loop-i-init c = refl
-
-pub spot-p-requires : goal.spot-p-requires
-spot-p-requires c = c.point_number.ensures.1
-
 pub loop-i-preserved : goal.loop-i-preserved
 loop-i-preserved c =
     rw (c.put_projected.ensures, c.spot-p.ensures, c.point_number.ensures.0) (projected_go _ _ _ _ _ c.loop-i-test.true ∙ c.loop-i.invariant)
