@@ -249,6 +249,7 @@ pub fn fix_zero_normals(
         indices,
         count,
     };
+    // A flag, not an Option: the room for the table is lent, and stays.
     let mut made = false;
     for v in 0..count {
         let w = words_at(normals, VertexNumber(v));

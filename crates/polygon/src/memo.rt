@@ -227,6 +227,7 @@ fn other_hit(p: &[f32], left: &mut [u32], from: usize, q: Corner) -> Option<usiz
     k
 }
 
+// A word, not an enum: it is kept in the lent words.
 fn look(w: &[u32], n: usize, q: Corner) -> u32
     requires { n ≤ 2 ^ 31 }
     ensures { result ≡ entry (kept n w.now) q.a q.b q.c }

@@ -38,6 +38,7 @@ fn is_most(x: f32, y: f32, z: f32) -> bool
     false
 }
 
+// A number, not an enum: the two other axes are counted on from it.
 fn axis_of(n: V3) -> u32
     ensures is { result ≡ axis_of n }
     ensures small { result < 3 }

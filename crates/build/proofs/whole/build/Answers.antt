@@ -1,5 +1,5 @@
 use mathlib.Core.Path.{◌∙◌}
-use Rattle.build.proofs.Asked.{ready_at, cornered_at, corners_ready, tables_kept, faces_ready, faces_room, indices_there, mending_ready}
+use Rattle.build.proofs.Asked.{ready_at, cornered_at, corners_ready, tables_kept, faces_ready, faces_room, mending_ready}
 use Rattle.build.proofs.Joined.{built}
 use Rattle.build.proofs.whole.build.Goals as goal
 

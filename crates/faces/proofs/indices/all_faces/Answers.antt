@@ -1,4 +1,3 @@
-use mathlib.Core.Path.{refl, ◌∙◌}
 use Rattle.faces.proofs.Turning.{facing_start, facing_ready, facing_room, facing_go, facing_end}
 use Rattle.faces.proofs.indices.all_faces.Goals as goal
 

@@ -1,6 +1,3 @@
-use mathlib.Core.Path.{◌≡◌}
-use Prim.Native.Nat.{◌-◌}
-use lib.ListN.{length}
 use Rattle.faces.proofs.Turning.{Facing}
 use Rattle.faces.proofs.indices.all_faces.Given as goal
 

@@ -1,10 +1,6 @@
 use mathlib.Core.Path.{refl}
-use native.Mathlib.Omega.{arith}
-use Rattle.faces.proofs.Threes.{renaming_start, renaming_go, renaming_end}
+use Rattle.faces.proofs.Threes.{renaming_go, renaming_end}
 use Rattle.faces.proofs.naming.rename.Goals as goal
-
-pub loop-i-init : goal.loop-i-init
-loop-i-init c = renaming_start _ _ _ _ _
 
 pub loop-i-preserved : goal.loop-i-preserved
 loop-i-preserved c =

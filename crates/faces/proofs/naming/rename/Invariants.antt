@@ -1,4 +1,3 @@
-use Prim.Native.Nat.{◌-◌}
 use Rattle.faces.proofs.Threes.{Renaming}
 use Rattle.faces.proofs.naming.rename.Given as goal
 

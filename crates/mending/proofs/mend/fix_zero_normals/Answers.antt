@@ -1,7 +1,6 @@
 use mathlib.Core.Path.{◌≡◌, sym, ap, ◌∙◌}
 use mathlib.Core.List.{[]}
 use native.Mathlib.Omega.{arith}
-use Rattle.bits.specs.declared.Words3.{Words3}
 use Rattle.math.specs.Vector.{unit_of}
 use Rattle.mesh.specs.Words.{floats, bits}
 use Rattle.mesh.specs.Mend.{first_normal, mend_by}

@@ -1,6 +1,5 @@
 use mathlib.Core.Path.{sym, ◌∙◌}
 use native.Mathlib.Nat.{sub-zero}
-use native.Mathlib.Omega.{arith}
 use Rattle.polygon.specs.Ears.{area}
 use Rattle.lists.proofs.Loops.{run_go, run_end}
 use Rattle.polygon.proofs.ears.area_of.Goals as goal

@@ -1,5 +1,5 @@
 use mathlib.Core.Path.{◌≡◌}
-use Prim.Native.Nat.{◌-◌, ◌≤◌}
+use Prim.Native.Nat.{◌-◌}
 use Rattle.polygon.specs.Ears.{area_term, area}
 use Rattle.lists.specs.Loops.{run}
 use Rattle.polygon.specs.Memo.{xy}

@@ -1,7 +1,6 @@
 use mathlib.Core.List.{List, [], ◌∷◌, map}
 use mathlib.Core.Path.{◌≡◌, refl, sym, ap, ◌∙◌}
 use Prim.Native.Nat.{ℕ, ◌-◌, ◌*◌, ◌≤◌, ◌<◌}
-use native.Mathlib.Nat.{sub-zero}
 use native.Mathlib.Omega.{arith}
 use lib.ListN.{length, take}
 use lib.Seq.{sets, length-take-le}
@@ -31,12 +30,6 @@ stops c =
           ∙ ap (λ (r : List ℕ). fan (take k.m r)) (sym s.w-is)
     ]
 
-pub loop-t-init : goal.loop-t-init
-loop-t-init c = (omega arith, rw sub-zero, c.requires.2)
-
-pub first_ear-requires : goal.first_ear-requires
-first_ear-requires c = let H = c.loop-t.invariant.2 in (omega arith, c.requires.0, omega arith, H.tells, H.sound)
-
 pub cut-requires : goal.cut-requires
 cut-requires c = ((some_found _ _ c.in-Some.i (sym c.in-Some.is ∙ c.first_ear.ensures.0)).1, omega arith, c.requires.0, omega (arith, c.first_ear.auto.w), omega arith)
 
@@ -57,13 +50,6 @@ loop-t-preserved c =
           (c.cut.ensures.1 ∙ ap (λ (l : List ℕ). sets c.loop-t.out (c.loop-t.t * 3) (flat (turn c.args.rev (corner l c.in-Some.i) ∷ []))) o) ∙ c.loop-t.invariant.1,
       held_turn _ _ _ _ _ _ _ hi hm hw c.loop-t.invariant.2 c.first_ear.ensures.1 c.cut.ensures.0,
     )
-
-pub slice_bounds-put_fan-end-2 : goal.slice_bounds-put_fan-end-2
-slice_bounds-put_fan-end-2 c = let h : c.loop-t.m ≤ length c.loop-t-test.w = omega arith in sym (length-take-le c.loop-t.m c.loop-t-test.w h)
-
-pub put_fan-requires : goal.put_fan-requires
-put_fan-requires c =
-    let h : c.loop-t.m ≤ length c.loop-t-test.w = omega arith in let q : length (take c.loop-t.m c.loop-t-test.w) ≡ c.loop-t.m = length-take-le c.loop-t.m c.loop-t-test.w h in omega arith
 
 pub returns : goal.returns
 returns c =

@@ -1,20 +1,12 @@
 use mathlib.Core.List.{◌∷◌, []}
-use mathlib.Core.Path.{◌≡◌, sym, ap, ◌∙◌}
+use mathlib.Core.Path.{ap, ◌∙◌}
 use Prim.Native.Nat.{◌*◌, ◌≤◌}
 use native.Mathlib.Omega.{arith}
-use lib.ListN.{length, take}
-use lib.Seq.{sets, length-take-le}
+use lib.ListN.{length}
+use lib.Seq.{sets}
 use Rattle.polygon.specs.Ears.{Tri, flat, turn}
 use Rattle.polygon.proofs.Turns.{gone_by}
 use Rattle.polygon.proofs.ears.cut.Goals as goal
-
-pub slice_bounds-take_out-end-2 : goal.slice_bounds-take_out-end-2
-slice_bounds-take_out-end-2 c =
-    let h : c.args.m ≤ length c.clear_flag.new.w = omega (arith, c.clear_flag.auto.w) in sym (length-take-le c.args.m c.clear_flag.new.w h)
-
-pub take_out-requires : goal.take_out-requires
-take_out-requires c =
-    let h : c.args.m ≤ length c.clear_flag.new.w = omega (arith, c.clear_flag.auto.w) in let e : length (take c.args.m c.clear_flag.new.w) ≡ c.args.m = length-take-le c.args.m c.clear_flag.new.w h in omega arith
 
 pub returns : goal.returns
 returns c =

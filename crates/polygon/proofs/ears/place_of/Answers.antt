@@ -1,4 +1,3 @@
-use native.Mathlib.Omega.{arith}
 use Rattle.polygon.specs.Ears.{place}
 use Rattle.polygon.proofs.ears.place_of.Goals as goal
 

@@ -1,7 +1,7 @@
 use mathlib.Core.List.{map}
 use mathlib.Core.Path.{◌≡◌}
-use Prim.Native.Nat.{◌+◌, ◌-◌, ◌*◌, ◌≤◌}
-use lib.ListN.{length, get_or, drop}
+use Prim.Native.Nat.{◌+◌, ◌*◌}
+use lib.ListN.{get_or, drop}
 use lib.Seq.{sets}
 use Rattle.polygon.specs.Ears.{flat, turn, fan, fan_from}
 use Rattle.polygon.proofs.ears.put_fan.Given as goal

@@ -1,6 +1,5 @@
 use Prim.Native.Nat.{◌*◌}
 use native.Mathlib.Numerals.{add-one, add-two}
-use native.Mathlib.Omega.{arith}
 use Rattle.polygon.specs.Ears.{flat, turn}
 use Rattle.polygon.proofs.ears.put_tri.Goals as goal
 

@@ -1,6 +1,5 @@
 use mathlib.Core.Path.{◌≡◌}
-use Prim.Native.Nat.{◌-◌, ◌≤◌}
-use lib.ListN.{length}
+use Prim.Native.Nat.{◌-◌}
 use lib.Seq.{sets}
 use Rattle.polygon.specs.Ears.{place, order}
 use Rattle.lists.specs.Loops.{tab}

@@ -1,6 +1,4 @@
 use mathlib.Core.Path.{◌≡◌}
-use Prim.Native.Nat.{◌-◌, ◌≤◌}
-use lib.ListN.{length}
 use lib.Seq.{sets}
 use Rattle.polygon.specs.Ears.{fan, outline, flat}
 use Rattle.polygon.proofs.Triangles.{Rest}

@@ -13,12 +13,6 @@ number_is : (o : ℕ) (r : Bool) → o ≡ from_bool r → o ≡ pick r 1 0
 number_is o true e = e
 number_is o false e = e
 
-pub loop-k-init : goal.loop-k-init
-loop-k-init c = (omega arith, λ z j l b. let w : ⊥ = omega arith in absurd w)
-
-pub overflow_add-s : goal.overflow_add-s
-overflow_add-s c = omega (arith, one_small c.from-s.result c.is_near.result (number_is _ c.is_near.result c.from-s.ensures))
-
 pub loop-k-preserved : goal.loop-k-preserved
 loop-k-preserved c = (
   omega (arith, one_small c.from-s.result c.is_near.result (number_is _ c.is_near.result c.from-s.ensures)),

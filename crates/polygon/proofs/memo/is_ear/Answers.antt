@@ -1,5 +1,4 @@
 use mathlib.Core.Path.{◌∙◌}
-use native.Mathlib.Omega.{arith}
 use Rattle.polygon.proofs.Keep.{known_read}
 use Rattle.polygon.proofs.Turns.{ear_in}
 use Rattle.polygon.proofs.memo.is_ear.Goals as goal

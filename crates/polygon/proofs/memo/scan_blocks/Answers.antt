@@ -1,5 +1,5 @@
 use mathlib.Core.Path.{◌≡◌, refl, sym, ap, ◌∙◌}
-use Prim.Native.Nat.{ℕ, ◌+◌, ◌-◌, ◌≤◌}
+use Prim.Native.Nat.{ℕ, ◌+◌, ◌-◌}
 use native.Mathlib.Omega.{arith}
 use lib.ListN.{length}
 use Rattle.lists.specs.Loops.{first}
@@ -8,9 +8,6 @@ use Rattle.lists.proofs.Searches.{block_hit, block_past}
 use Rattle.polygon.specs.Memo.{xy, dot_of, in_way, hits}
 use Rattle.polygon.proofs.Blocks.{found_some, found_none, some_found, none_found}
 use Rattle.polygon.proofs.memo.scan_blocks.Goals as goal
-
-pub loop-k-init : goal.loop-k-init
-loop-k-init c = (omega arith, refl)
 
 pub returns-in-Some : goal.returns-in-Some
 returns-in-Some c =
@@ -22,12 +19,6 @@ loop-k-preserved c =
     let f = hits c.args.left.now (λ j. in_way (dot_of (xy c.args.p.now) j) c.args.t.a c.args.t.b c.args.t.c) in
     let e : c.min-e.result ≡ c.loop-k.k + 16 = omega arith in
     (omega arith, sym (block_past f _ _ _ _ (omega arith) (omega arith) refl (none_found _ _ (sym c.in_default.is ∙ c.scan_block.ensures)) ∙ ap (λ (k : ℕ). first f (length c.args.left.now - k) k) e) ∙ c.loop-k.invariant.1)
-
--- after the last block
-pub returns-in_default : goal.returns-in_default
-returns-in_default c =
-    let e : length c.args.left.now ≡ c.min-e.result = omega arith in
-    found_none _ _ (e ∙ sym (block_past _ _ _ _ _ (omega arith) (omega arith) refl (none_found _ _ (sym c.in_default.is ∙ c.scan_block.ensures)) ∙ first_end _ _ _ (omega arith)) ∙ c.loop-k.invariant.1)
 
 pub returns : goal.returns
 returns c = let e : length c.args.left.now ≡ c.loop-k.k = omega arith in found_none _ _ (e ∙ sym (first_end _ _ _ c.loop-k-test.false) ∙ c.loop-k.invariant.1)

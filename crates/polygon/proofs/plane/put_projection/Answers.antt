@@ -1,5 +1,4 @@
-use mathlib.Core.Path.{refl, sym, ◌∙◌}
-use borrow.Author.Rules.{rules}
+use mathlib.Core.Path.{sym, ◌∙◌}
 use Rattle.polygon.specs.Plane.{projected}
 use Rattle.polygon.proofs.Projection.{projected_go, projected_end}
 use Rattle.polygon.proofs.plane.put_projection.Goals as goal

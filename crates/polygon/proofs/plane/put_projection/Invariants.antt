@@ -1,7 +1,7 @@
 use mathlib.Core.List.{map}
 use mathlib.Core.Path.{◌≡◌}
-use Prim.Native.Nat.{◌≤◌, ◌-◌, ◌*◌}
-use lib.ListN.{length, drop}
+use Prim.Native.Nat.{◌*◌}
+use lib.ListN.{drop}
 use lib.Seq.{sets}
 use Rattle.polygon.specs.Plane.{flat2, projected}
 use Rattle.polygon.specs.Points.{spots}

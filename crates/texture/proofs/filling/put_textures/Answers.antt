@@ -1,7 +1,7 @@
 use Rattle.texture.proofs.Filled.{point_within, texture_read}
 use mathlib.Core.Path.{ap, refl}
 use native.Mathlib.Omega.{arith}
-use Rattle.lists.proofs.Pieces.{pieces_none, pieces_more, pieces_all, pieces_kept}
+use Rattle.lists.proofs.Pieces.{pieces_none, pieces_more, pieces_kept}
 use Rattle.mesh.specs.Words.{words2}
 use Rattle.texture.proofs.filling.put_textures.Goals as goal
 
@@ -17,6 +17,3 @@ loop-c-preserved c =
     let T = c.loop-c.invariant in
     let r = texture_read _ _ _ _ _ _ _ _ _ _ c.requires (pieces_kept T (omega (arith, c.requires.room))) c.loop-c-test.true _ _ _ _ _ _ _ c.wide.ensures c.wide-place.ensures c.texture_at-w.ensures in
     pieces_more 2 (λ t. refl) (omega (arith, c.requires.room)) T c.loop-c-test.true (omega arith) (ap words2 r) c.put2.ensures
-
-pub returns : goal.returns
-returns c = pieces_all c.loop-c.invariant c.loop-c-test.false

@@ -1,5 +1,5 @@
 use Rattle.texture.specs.Textured.{set_texture}
-use Prim.Native.Nat.{◌-◌, ℕ}
+use Prim.Native.Nat.{ℕ}
 use Rattle.lists.proofs.Pieces.{Pieces}
 use Rattle.mesh.specs.Words.{words2}
 use Rattle.texture.proofs.filling.put_textures.Given as goal
