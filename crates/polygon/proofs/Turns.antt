@@ -2,8 +2,7 @@
 use mathlib.Core.Path.{◌≡◌, sym, ap, ◌∙◌, subst}
 use mathlib.Core.Bool.{Bool, true, false}
 use mathlib.Core.List.{List, [], ◌∷◌, ◌++◌}
-use Prim.Native.Nat.{ℕ, ◌+◌, ◌-◌, ◌*◌, ◌%◌, ◌≤◌, ◌<◌}
-use native.Mathlib.Nat.{mod-lt}
+use Prim.Native.Nat.{ℕ, ◌+◌, ◌-◌, ◌*◌, ◌≤◌, ◌<◌}
 use native.Mathlib.Omega.{arith}
 use lib.ListN.{length, get_or, set, take, drop, replicate, length-set, get_or-append, get_or-replicate}
 use lib.Seq.{sets, length-take-le, take-take, take-append-le, get_or-take, get_or-drop, drop-drop, take_at, drop_at}
@@ -19,20 +18,7 @@ use Rattle.polygon.specs.Memo.{hits, Tells, Once, ear_of, Known, Sound, Clear, f
 use Rattle.polygon.proofs.Tables.{length_flags, flag_at, stored, as_was}
 use Rattle.polygon.proofs.Keep.{known_bent, known_hit, sound_store, sound_start, sound_gone, tells_start, tells_gone, once_start, once_remove, hits_others, ear_bent, ear_blocked, ear_found, ear_free, ear_is, go_on}
 
--- ---- the corners at a place of the order, read from the slice
-
-module _ (w : List ℕ) (m i : ℕ) (fits : m ≤ length w) (h : i < m) where
-  pub corner_read : (x y : ℕ) → x ≡ (i + m - 1) % m → y ≡ (i + 1) % m → triple (get_or w x 0) (get_or w i 0) (get_or w y 0) ≡ corner (take m w) i
-  corner_read x y ex ey =
-      let l : length (take m w) ≡ m = length-take-le m w fits in
-      let hx : (i + m - 1) % m < m = mod-lt (i + m - 1) (omega arith) in
-      let hy : (i + 1) % m < m = mod-lt (i + 1) (omega arith) in
-      let wa : get_or w x 0 ≡ get_or (take m w) ((i + length (take m w) - 1) % length (take m w)) 0 =
-      sym (get_or-take m w x 0 (omega arith)) ∙ ap (λ (k : ℕ). get_or (take m w) k 0) ex ∙ ap (λ (k : ℕ). get_or (take m w) ((i + k - 1) % k) 0) (sym l) in
-      let wb : get_or w i 0 ≡ get_or (take m w) i 0 = sym (get_or-take m w i 0 h) in
-      let wc : get_or w y 0 ≡ get_or (take m w) ((i + 1) % length (take m w)) 0 =
-      sym (get_or-take m w y 0 (omega arith)) ∙ ap (λ (k : ℕ). get_or (take m w) k 0) ey ∙ ap (λ (k : ℕ). get_or (take m w) ((i + 1) % k) 0) (sym l) in
-      λ z. triple (wa z) (wb z) (wc z)
+-- ---- the corners at a place of the order
 
 pub ear_in : (P : ℕ → Pt) (left l : List ℕ) (i a b c : ℕ) → triple a b c ≡ corner l i → Tells left l → ear_of P left a b c ≡ is_ear P l i
 ear_in P left l i a b c e t = ap (λ (q : Tri). ear_of P left q.a q.b q.c) e ∙ ear_is P left l i t
