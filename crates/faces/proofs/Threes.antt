@@ -3,7 +3,6 @@ use mathlib.Core.Path.{◌≡◌, refl, sym, ap, ◌∙◌}
 use mathlib.Core.Bool.{Bool}
 use mathlib.Core.List.{List, [], ◌∷◌, ◌++◌}
 use Prim.Native.Nat.{ℕ, suc, ◌+◌, ◌-◌, ◌*◌, ◌≤◌, ◌<◌, zero}
-use native.Mathlib.Nat.{sub-zero}
 use native.Mathlib.Omega.{arith}
 use lib.ListN.{length, get_or, take, drop, take-append-drop}
 use lib.Seq.{sets, length-sets}
@@ -37,15 +36,6 @@ module _ (ccw : Bool) (named : List ℕ) where
     pub within : i ≤ n
     pub long : length o ≡ length o₀
     pub rest : sets o (at + i * 3) (numbered ccw named (threes (n - i) (drop (at + i * 3) o))) ≡ sets o₀ at (numbered ccw named (threes n (drop at o₀)))
-
-  pub renaming_start : (o : List ℕ) (at n : ℕ) → Renaming o o at n 0
-  renaming_start o at n =
-      let e : at + 0 * 3 ≡ at = omega arith in
-      record {
-        within = omega arith;
-        long = refl;
-        rest = ap (λ (k : ℕ). sets o k (numbered ccw named (threes (n - 0) (drop k o)))) e ∙ ap (λ (m : ℕ). sets o at (numbered ccw named (threes m (drop at o)))) (sub-zero n);
-      }
 
   pub renaming_go : (o₀ o o' : List ℕ) (at n i k : ℕ) → i < n → k ≡ at + i * 3 → at + n * 3 ≤ length o₀
       → o' ≡ spliced o k (numbered ccw named (triple (get_or o k 0) (get_or o (k + 1) 0) (get_or o (k + 2) 0) ∷ []))

@@ -126,10 +126,8 @@ pub fn all_faces(
         indices.old indices.new work.old work.new floats.new }
 {
     let mut at = 0;
-    let mut g = 0;
-    while g < t.faces {
+    for g in 0..t.faces {
         at = one_face(work, t, g, ccw, convex, floats, indices, at);
-        g += 1;
     }
     at
 }

@@ -60,9 +60,7 @@ pub fn rename(indices: &mut [u32], at: usize, n: usize, named: &[u32], ccw: bool
     requires { at + n * 3 ≤ length indices.old }
     ensures { indices.new ≡ spliced indices.old at (numbered ccw named.now (threes n (drop at indices.old))) }
 {
-    let mut i = 0;
-    while i < n {
+    for i in 0..n {
         name_tri(indices, at + i * 3, named, ccw);
-        i += 1;
     }
 }

@@ -41,15 +41,18 @@ mend_scaled w r n u other l en el eu er =
     ∙ ap (λ (q : (Option V3)). cond (lt visible (magnitude (sub binary32 (vlen (floats w)) one_f))) (or_words q w) w) (sym k)
     ∙ ap (λ (q : (Option V3)). mend_by q w other) (sym k)
 
--- whose normal cannot: it is what the table has
-pub mend_found : (ps is t : List ℕ) (count v k : ℕ) (w r : Words3) (n o : V3) (l : Float) → n ≡ floats w → l ≡ vlen n → unit_by l n ≡ None
-    → v < length t → Firsts (lent_frame ps) (lent_keys [] count) is t → k ≡ get_or t v 0 → o ≡ found (lent_frame ps) (lent_keys [] count) is k y_axis → r ≡ bits o
-    → r ≡ mend_by (unit_of (floats w)) w (first_normal (lent_frame ps) (lent_keys [] count) v is)
-unfolding mend_by unit_of Firsts
-mend_found ps is t count v k w r n o l en el eu h F ek eo er =
+-- whose normal cannot
+pub mend_none : (w : Words3) (n other : V3) (l : Float) → n ≡ floats w → l ≡ vlen n → unit_by l n ≡ None → mend_by (unit_of (floats w)) w other ≡ bits other
+unfolding mend_by unit_of
+mend_none w n other l en el eu =
     let z : unit_of (floats w) ≡ None = ap unit_of (sym en) ∙ ap (λ (l : Float). unit_by l n) (sym el) ∙ eu in
-    er ∙ ap bits (eo ∙ ap (λ (k : ℕ). found (lent_frame ps) (lent_keys [] count) is k y_axis) ek ∙ F v h)
-    ∙ ap (λ (q : (Option V3)). mend_by q w (first_normal (lent_frame ps) (lent_keys [] count) v is)) (sym z)
+    ap (λ (q : (Option V3)). mend_by q w other) z
+
+-- then it is what the table has
+pub found_first : (ps is t : List ℕ) (count v k : ℕ) (o : V3) → v < length t → Firsts (lent_frame ps) (lent_keys [] count) is t → k ≡ get_or t v 0
+    → o ≡ found (lent_frame ps) (lent_keys [] count) is k y_axis → o ≡ first_normal (lent_frame ps) (lent_keys [] count) v is
+unfolding Firsts
+found_first ps is t count v k o h F ek eo = eo ∙ ap (λ (k : ℕ). found (lent_frame ps) (lent_keys [] count) is k y_axis) ek ∙ F v h
 
 -- ---- the table
 

@@ -2,12 +2,12 @@
 use mathlib.Core.Path.{◌≡◌, refl, sym, ap, ◌∙◌, subst}
 use mathlib.Core.Bool.{Bool, true, false, ◌||◌, cond}
 use mathlib.Core.List.{List, [], ◌∷◌}
-use Prim.Native.Nat.{ℕ, zero, suc, ◌+◌, ◌-◌, ◌*◌, ◌≤◌, ◌<◌}
+use Prim.Native.Nat.{ℕ, zero, suc, ◌+◌, ◌-◌, ◌*◌, ◌/◌, ◌≤◌, ◌<◌}
 use native.Mathlib.Numerals.{add-one}
 use native.Mathlib.Omega.{arith}
 use lib.Dec.{eqb}
 use borrow.Author.Tests.{eqb-true, eqb-false, ne_eqb}
-use lib.ListN.{length, get_or, drop, set, length-set, length-drop}
+use lib.ListN.{length, get_or, drop, set, replicate, length-set, length-drop, length-replicate, get_or-replicate}
 use lib.Seq.{drop-cons, get_or-set_same, get_or-set_other}
 use Rattle.math.specs.declared.vector.V3.{V3}
 use Rattle.std.specs.Prelude.{Option}
@@ -18,7 +18,7 @@ use Rattle.mesh.specs.Normals.{or_else}
 use Rattle.mesh.specs.Vertices.{Key}
 use Rattle.mesh.specs.Mend.{first_normal}
 use Rattle.lists.proofs.Tests.{cond_same}
-use Rattle.mending.specs.Mend.{triangle_normal, found, marked, marked_all, noted_by, noted, Clear, Firsts}
+use Rattle.mending.specs.Mend.{triangle_normal, found, marked, marked_all, noted_by, noted, Firsts}
 
 -- ---- a mark, read again
 
@@ -142,21 +142,25 @@ module _ (F : Frame) (vs : List Key) (is : List ℕ) where
   unfoldable pub Left : List ℕ → ℕ → Type 0
   Left t n = (v : ℕ) → v < length t → found F vs is (get_or t v 0) (first_normal F vs v (drop (n * 3) is)) ≡ first_normal F vs v is
 
-  pub left_start : (t : List ℕ) → Clear t → Left t 0
-  unfolding Left Clear
-  left_start t z v h = ap (λ (m : ℕ). found F vs is m (first_normal F vs v is)) (z v h)
+  -- in a table of n zeros no triangle is met
+  pub left_start : (t : List ℕ) (n : ℕ) → t ≡ replicate n 0 → Left t 0
+  unfolding Left
+  left_start t n e v h =
+      let b : v < n = subst (λ (k : ℕ). v < k) (ap length e ∙ length-replicate n 0) h in
+      let z : get_or t v 0 ≡ 0 = ap (λ (l : List ℕ). get_or l v 0) e ∙ get_or-replicate n v 0 0 b in
+      ap (λ (m : ℕ). found F vs is m (first_normal F vs v is)) z
 
-  pub left_go : (t t' : List ℕ) (n : ℕ) → n * 3 + 2 < length is → length t' ≡ length t → t' ≡ noted F vs is t n → Left t n → Left t' (n + 1)
+  pub left_go : (t t' : List ℕ) (n : ℕ) → n < length is / 3 → length t' ≡ length t → t' ≡ noted F vs is t n → Left t n → Left t' (n + 1)
   unfolding Left
   left_go t t' n h l e L v b =
       let b' : v < length t = omega arith in
       let rest = first_normal F vs v (drop ((n + 1) * 3) is) in
       ap (λ (m : List ℕ). found F vs is (get_or m v 0) rest) e
       ∙ noted_found t n v rest b'
-      ∙ ap (found F vs is (get_or t v 0)) (sym (first_three v n h))
+      ∙ ap (found F vs is (get_or t v 0)) (sym (first_three v n (omega arith)))
       ∙ L v b'
 
-  pub left_end : (t : List ℕ) (n : ℕ) → length is ≤ n * 3 + 2 → Left t n → Firsts F vs is t
+  pub left_end : (t : List ℕ) (n : ℕ) → length is / 3 ≤ n → Left t n → Firsts F vs is t
   unfolding Left Firsts
   left_end t n h L v b =
       ap (found F vs is (get_or t v 0)) (sym (first_short v (drop (n * 3) is) (omega (arith, length-drop (n * 3) is)))) ∙ L v b
@@ -168,24 +172,3 @@ module _ (F : Frame) (vs : List Key) (is : List ℕ) where
   found_is (suc n) w h e =
       let q : suc n - 1 ≡ n = omega arith in
       ap (λ (u : (Option V3)). or_else u y_axis) (sym (e ∙ ap (triangle_normal F vs is) q))
-
--- ---- the clearing
-
-unfoldable pub Cleared : List ℕ → ℕ → Type 0
-Cleared t i = (v : ℕ) → v < i → get_or t v 0 ≡ 0
-
-pub cleared_start : (t : List ℕ) → Cleared t 0
-unfolding Cleared
-cleared_start t v h = let z : ⊥ = omega arith in absurd z
-
-pub cleared_go : (t : List ℕ) (i : ℕ) → i < length t → Cleared t i → Cleared (set t i 0) (i + 1)
-unfolding Cleared
-cleared_go t i h C v b = go (eqb v i) refl
-  where
-    go : (c : Bool) → eqb v i ≡ c → get_or (set t i 0) v 0 ≡ 0
-    go true e = ap (λ (j : ℕ). get_or (set t i 0) j 0) (eqb-true v i e) ∙ get_or-set_same t i 0 0 h
-    go false e = get_or-set_other t i v 0 0 (eqb-false v i e) ∙ C v (let n : v ≡ i → ⊥ = eqb-false v i e in omega arith)
-
-pub cleared_end : (t : List ℕ) (i : ℕ) → length t ≤ i → Cleared t i → Clear t
-unfolding Cleared Clear
-cleared_end t i h C v b = C v (omega arith)

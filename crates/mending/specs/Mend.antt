@@ -59,10 +59,6 @@ noted_by None is t n = t
 unfoldable pub noted : Frame → List Key → List ℕ → List ℕ → ℕ → List ℕ
 noted F vs is t n = noted_by (triangle_normal F vs is n) is t n
 
--- no triangle is met
-unfoldable pub Clear : List ℕ → Type 0
-Clear t = (v : ℕ) → v < length t → get_or t v 0 ≡ 0
-
 -- FORMAT 10.3: all triangles are met
 unfoldable pub Firsts : Frame → List Key → List ℕ → List ℕ → Type 0
 Firsts F vs is t = (v : ℕ) → v < length t → found F vs is (get_or t v 0) y_axis ≡ first_normal F vs v is

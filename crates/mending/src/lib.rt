@@ -2,6 +2,5 @@
 #![tactic(auto)]
 
 mod mend;
-mod words;
 
 pub use mend::fix_zero_normals;

@@ -1,15 +1,18 @@
--- A search block by block: a block that has no hit is passed, and the first hit of a block is the first of all.
-use Prim.Native.Nat.{ℕ}
-use mathlib.Core.Path.{◌≡◌, sym, ◌∙◌}
-use mathlib.Core.Bool.{false, not, ◌&&◌}
+-- Searches: a corner that is not near is in no one's way, and what a search gives.
+use Prim.Native.Nat.{ℕ, ◌≤◌, ◌<◌}
+use native.Mathlib.Omega.{arith}
+use borrow.Author.Tests.{lt-ltb, le-ltb, ltb-true, ltb-false}
+use mathlib.Core.Path.{◌≡◌, refl, sym, ap, ◌∙◌}
+use mathlib.Core.Bool.{Bool, true, false, not, ◌&&◌}
 use mathlib.Core.List.{List}
 use lib.ListN.{get_or}
-use lib.Dec.{eqb}
+use lib.Dec.{eqb, ltb}
+use Rattle.std.specs.Prelude.{Option, Some, None, unwrap_or}
 use lib.Ieee.{le}
 use Rattle.lists.proofs.Tests.{and_far}
 use Rattle.polygon.specs.Ears.{Pt, +0, cross2, point_in_tri, blocks}
-use Rattle.lists.specs.Loops.{first}
-use Rattle.polygon.specs.Memo.{dot_of, spot_of, in_way, hits}
+use Rattle.lists.specs.Loops.{pick, first}
+use Rattle.polygon.specs.Memo.{dot_of, spot_of, in_way, hits, found}
 use Rattle.polygon.specs.declared.memo.Dot.{Dot}
 
 -- ---- a corner that is not near is in no one's way
@@ -28,3 +31,30 @@ pub first_read : (P : ℕ → Pt) (left : List ℕ) (a b c : ℕ) (da db dc : Do
     → (d k : ℕ) → first (hits left (λ j. in_way (dot_of P j) da db dc)) d k ≡ first (hits left (blocks P a b c)) d k
 unfolding in_way blocks
 first_read P left a b c da db dc ea eb ec d k = λ i. first (hits left (λ j. in_way (dot_of P j) (ea i) (eb i) (ec i))) d k
+
+-- ---- what a search gives
+
+module _ (n k : ℕ) where
+  pub found_some : (h : ℕ) → h ≡ k → h < n → Some h ≡ found n k
+  unfolding found
+  found_some h e l = ap Some e ∙ sym (ap (λ (b : Bool). pick b (Some k) None) (lt-ltb k n (omega arith)))
+
+  pub found_none : n ≡ k → None ≡ found n k
+  unfolding found
+  found_none e = sym (ap (λ (b : Bool). pick b (Some k) None) (le-ltb k n (omega arith)))
+
+  pub some_found : (h : ℕ) → Some h ≡ found n k → (h ≡ k) × (h < n)
+  unfolding found
+  some_found h e = go (ltb k n) refl e
+    where
+      go : (b : Bool) → ltb k n ≡ b → Some h ≡ pick b (Some k) None → (h ≡ k) × (h < n)
+      go true q r = let z : h ≡ k = ap (λ (o : Option ℕ). unwrap_or o 0) r in let l : k < n = ltb-true k n q in (z, omega arith)
+      go false q r = let z : ⊥ = cc in absurd z
+
+  pub none_found : None ≡ found n k → n ≤ k
+  unfolding found
+  none_found e = go (ltb k n) refl e
+    where
+      go : (b : Bool) → ltb k n ≡ b → None ≡ pick b (Some k) None → n ≤ k
+      go true q r = let z : ⊥ = cc in absurd z
+      go false q r = ltb-false k n q

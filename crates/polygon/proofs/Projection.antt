@@ -2,7 +2,7 @@
 use mathlib.Core.Path.{◌≡◌, refl, sym, ap, ◌∙◌}
 use mathlib.Core.Bool.{Bool}
 use mathlib.Core.List.{List, [], ◌∷◌, map}
-use Prim.Native.Nat.{ℕ, zero, suc, ◌+◌, ◌*◌, ◌≤◌, ◌<◌}
+use Prim.Native.Nat.{ℕ, suc, ◌+◌, ◌*◌, ◌≤◌, ◌<◌}
 use native.Mathlib.Numerals.{add-one}
 use native.Mathlib.Omega.{arith}
 use lib.ListN.{length, get_or, take, drop, length-map, drop_of_length-le}
@@ -11,12 +11,7 @@ use lib.Ieee.{Float}
 use Rattle.math.specs.declared.vector.V3.{V3}
 use Rattle.polygon.specs.Points.{spot, spots}
 use Rattle.polygon.specs.Ears.{Pt}
-use Rattle.polygon.specs.Plane.{pairs, entry, handed, axis_of, flip_of, projected, projection, flat2}
-
-pub entry_last : (v : V3) (k : ℕ) → (k ≡ 0 → ⊥) → (k ≡ 1 → ⊥) → entry v k ≡ v.z
-entry_last v zero h g = absurd (h refl)
-entry_last v (suc zero) h g = absurd (g refl)
-entry_last v (suc (suc k)) h g = refl
+use Rattle.polygon.specs.Plane.{pairs, handed, axis_of, flip_of, projected, projection, flat2}
 
 -- one turn of the loop over the names, and the end
 module _ (S : V3 → Pt) (ps names : List ℕ) (out : List Float) (i : ℕ) where

@@ -1,7 +1,7 @@
 -- The tables of the working slice: what a store in one of them leaves of the others, and what each holds after it.
 use mathlib.Core.Path.{◌≡◌, refl, sym, ap, ◌∙◌, subst}
-use mathlib.Core.List.{List, [], ◌∷◌}
-use Prim.Native.Nat.{ℕ, suc, ◌+◌, ◌-◌, ◌*◌, ◌≤◌, ◌<◌}
+use mathlib.Core.List.{List}
+use Prim.Native.Nat.{ℕ, ◌+◌, ◌-◌, ◌*◌, ◌≤◌, ◌<◌}
 use native.Mathlib.Nat.{min-le_left}
 use native.Mathlib.Omega.{arith}
 use borrow.Author.Tests.{eq-eqb, ne_eqb}
@@ -62,15 +62,6 @@ module _ (n : ℕ) (w : List ℕ) where
           kept_at (b * 3 + 2) (n * 2 + b * 3 + 2) (omega arith),
           ← ez,
         )
-
-  -- the three stores of an entry
-  pub store_at : (b a c s : ℕ)
-      → set (set (set w (n * 2 + b * 3) a) (n * 2 + b * 3 + 1) c) (n * 2 + b * 3 + 2) s ≡ sets w (n + (n + b * 3)) (a ∷ c ∷ s ∷ [])
-  store_at b a c s =
-      let k0 : n * 2 + b * 3 ≡ n + (n + b * 3) = omega arith in
-      let k1 : n * 2 + b * 3 + 1 ≡ suc (n + (n + b * 3)) = omega arith in
-      let k2 : n * 2 + b * 3 + 2 ≡ suc (suc (n + (n + b * 3))) = omega arith in
-      λ i. set (set (set w (k0 i) a) (k1 i) c) (k2 i) s
 
   -- a store in what is kept
   module _ (vs w' : List ℕ) (i : ℕ) (e : w' ≡ sets w (n + (n + i)) vs) where

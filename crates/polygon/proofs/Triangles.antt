@@ -38,18 +38,18 @@ module _ (n : ℕ) (out : List ℕ) where
   outline_start =
       ap (λ (ts : List Tri). sets out 0 (flat (map (turn false) ts))) (sym (fan_start (outline n))) ∙ ap (λ (ts : List Tri). sets out 0 (flat ts)) (map_same (fan (outline n)))
 
-  pub outline_go : (out' : List ℕ) (t : ℕ) → t + 2 < n → out' ≡ sets out (t * 3) (flat (turn false (triple 0 (t + 1) (t + 2)) ∷ [])) → Rest n out' (t + 1) ≡ Rest n out t
+  pub outline_go : (out' : List ℕ) (t : ℕ) → t < n - 2 → out' ≡ sets out (t * 3) (flat (turn false (triple 0 (t + 1) (t + 2)) ∷ [])) → Rest n out' (t + 1) ≡ Rest n out t
   outline_go out' t h e =
       let l : length (outline n) ≡ n = length_outline n in
       let a : get_or (outline n) 0 0 ≡ 0 = outline_at n 0 (omega arith) in
       let b : get_or (outline n) (t + 1) 0 ≡ t + 1 = outline_at n (t + 1) (omega arith) in
-      let d : get_or (outline n) (t + 1 + 1) 0 ≡ t + 2 = outline_at n (t + 1 + 1) (omega arith) ∙ omega arith in
-      let q : triple 0 (t + 1) (t + 2) ≡ triple (get_or (outline n) 0 0) (get_or (outline n) (t + 1) 0) (get_or (outline n) (t + 1 + 1) 0) = λ i. triple (sym a i) (sym b i) (sym d i) in
+      let d : get_or (outline n) (t + 2) 0 ≡ t + 2 = outline_at n (t + 2) (omega arith) in
+      let q : triple 0 (t + 1) (t + 2) ≡ triple (get_or (outline n) 0 0) (get_or (outline n) (t + 1) 0) (get_or (outline n) (t + 2) 0) = λ i. triple (sym a i) (sym b i) (sym d i) in
       ap (λ (o : List ℕ). Rest n o (t + 1)) (e ∙ ap (λ (p : Tri). sets out (t * 3) (flat (turn false p ∷ []))) q)
-      ∙ fan_write false out t (outline n) (t + 1) (omega arith)
+      ∙ fan_write false out t (outline n) t (omega arith)
 
-  pub outline_end : (t : ℕ) → n ≤ t + 2 → Rest n out t ≡ out
-  outline_end t h = let l : length (outline n) ≡ n = length_outline n in fan_written false out t (outline n) (t + 1) (omega arith)
+  pub outline_end : (t : ℕ) → n - 2 ≤ t → Rest n out t ≡ out
+  outline_end t h = let l : length (outline n) ≡ n = length_outline n in fan_written false out t (outline n) t (omega arith)
 
 -- ---- from the plane to the face
 

@@ -2,52 +2,38 @@
 use mathlib.Core.Path.{◌≡◌, sym, ap, ◌∙◌, subst}
 use mathlib.Core.Bool.{Bool, true, false}
 use mathlib.Core.List.{List, [], ◌∷◌, ◌++◌}
-use Prim.Native.Nat.{ℕ, ◌+◌, ◌-◌, ◌*◌, ◌%◌, ◌≤◌, ◌<◌}
-use native.Mathlib.Nat.{mod-lt}
+use Prim.Native.Nat.{ℕ, ◌+◌, ◌-◌, ◌*◌, ◌≤◌, ◌<◌}
 use native.Mathlib.Omega.{arith}
-use lib.ListN.{length, get_or, set, take, drop, length-set, get_or-append}
+use lib.ListN.{length, get_or, set, take, drop, replicate, length-set, get_or-append, get_or-replicate}
 use lib.Seq.{sets, length-take-le, take-take, take-append-le, get_or-take, get_or-drop, drop-drop, take_at, drop_at}
 use lib.Ieee.{le}
+use Rattle.std.specs.Prelude.{Option}
 use borrow.Rule.Slice.PartMut.{put_mid, mid_of, mid_len}
 use Rattle.lists.specs.Loops.{first}
 use Rattle.lists.proofs.Stores.{tail_take, tail_drop, front_drop, put_back}
 use Rattle.lists.proofs.Searches.{first_from}
 use Rattle.lists.specs.Parts.{Full}
 use Rattle.polygon.specs.Ears.{Pt, Tri, triple, +0, cross2, blocks, is_ear, corner, remove, order}
-use Rattle.polygon.specs.Memo.{hits, Tells, Once, ear_of, Known, Sound, Clear, flags, kept, Searched, Gone, Held, Fresh}
+use Rattle.polygon.specs.Memo.{hits, Tells, Once, ear_of, Known, Sound, Clear, found, flags, kept, Searched, Gone, Held, Fresh}
 use Rattle.polygon.proofs.Tables.{length_flags, flag_at, stored, as_was}
 use Rattle.polygon.proofs.Keep.{known_bent, known_hit, sound_store, sound_start, sound_gone, tells_start, tells_gone, once_start, once_remove, hits_others, ear_bent, ear_blocked, ear_found, ear_free, ear_is, go_on}
 
--- ---- the corners at a place of the order, read from the slice
+-- ---- the corners at a place of the order
 
-module _ (w : List ℕ) (m i : ℕ) (fits : m ≤ length w) (h : i < m) where
-  pub corner_in_lem : (a b c x y : ℕ) → x ≡ (i + m - 1) % m → a ≡ get_or w x 0 → b ≡ get_or w i 0 → y ≡ (i + 1) % m → c ≡ get_or w y 0 → triple a b c ≡ corner (take m w) i
-  corner_in_lem a b c x y ex ea eb ey ec =
-      let l : length (take m w) ≡ m = length-take-le m w fits in
-      let hx : (i + m - 1) % m < m = mod-lt (i + m - 1) (omega arith) in
-      let hy : (i + 1) % m < m = mod-lt (i + 1) (omega arith) in
-      let wa : a ≡ get_or (take m w) ((i + length (take m w) - 1) % length (take m w)) 0 =
-      ea ∙ sym (get_or-take m w x 0 (omega arith)) ∙ ap (λ (k : ℕ). get_or (take m w) k 0) ex ∙ ap (λ (k : ℕ). get_or (take m w) ((i + k - 1) % k) 0) (sym l) in
-      let wb : b ≡ get_or (take m w) i 0 = eb ∙ sym (get_or-take m w i 0 h) in
-      let wc : c ≡ get_or (take m w) ((i + 1) % length (take m w)) 0 =
-      ec ∙ sym (get_or-take m w y 0 (omega arith)) ∙ ap (λ (k : ℕ). get_or (take m w) k 0) ey ∙ ap (λ (k : ℕ). get_or (take m w) ((i + 1) % k) 0) (sym l) in
-      λ z. triple (wa z) (wb z) (wc z)
-
-  pub ear_in : (P : ℕ → Pt) (left : List ℕ) (a b c x y : ℕ) → x ≡ (i + m - 1) % m → a ≡ get_or w x 0 → b ≡ get_or w i 0 → y ≡ (i + 1) % m → c ≡ get_or w y 0
-      → Tells left (take m w) → ear_of P left a b c ≡ is_ear P (take m w) i
-  ear_in P left a b c x y ex ea eb ey ec t = ap (λ (q : Tri). ear_of P left q.a q.b q.c) (corner_in_lem a b c x y ex ea eb ey ec) ∙ ear_is P left (take m w) i t
+pub ear_in : (P : ℕ → Pt) (left l : List ℕ) (i a b c : ℕ) → triple a b c ≡ corner l i → Tells left l → ear_of P left a b c ≡ is_ear P l i
+ear_in P left l i a b c e t = ap (λ (q : Tri). ear_of P left q.a q.b q.c) e ∙ ear_is P left l i t
 
 -- ---- a search
 
 -- three flags put out, and put back after the search
 module _ (P : ℕ → Pt) (a b c : ℕ) (l l₁ l₂ l₃ : List ℕ) (e₁ : l₁ ≡ set l a 0) (e₂ : l₂ ≡ set l₁ b 0) (e₃ : l₃ ≡ set l₂ c 0) where
-  pub others_found : (from k : ℕ) → k ≡ first (hits l₃ (blocks P a b c)) (length l₃ - from) from → k ≡ first (hits l (blocks P a b c)) (length l - from) from
+  pub others_found : (from : ℕ) (k : Option ℕ) → k ≡ found (length l₃) (first (hits l₃ (blocks P a b c)) (length l₃ - from) from) → k ≡ found (length l) (first (hits l (blocks P a b c)) (length l - from) from)
   others_found from k q =
       let e : l₃ ≡ set (set (set l a 0) b 0) c 0 = e₃ ∙ ap (λ (m : List ℕ). set m c 0) (e₂ ∙ ap (λ (m : List ℕ). set m b 0) e₁) in
       let n : length l₃ ≡ length l = ap length e₃ ∙ length-set l₂ c 0 ∙ ap length e₂ ∙ length-set l₁ b 0 ∙ ap length e₁ ∙ length-set l a 0 in
-      q ∙ ap (λ (m : ℕ). first (hits l₃ (blocks P a b c)) (m - from) from) n
-      ∙ ap (λ (m : List ℕ). first (hits m (blocks P a b c)) (length l - from) from) e
-      ∙ ap (λ (f : ℕ → Bool). first f (length l - from) from) (hits_others P a b c l)
+      q ∙ ap (λ (m : ℕ). found m (first (hits l₃ (blocks P a b c)) (m - from) from)) n
+      ∙ ap (λ (m : List ℕ). found (length l) (first (hits m (blocks P a b c)) (length l - from) from)) e
+      ∙ ap (λ (f : ℕ → Bool). found (length l) (first f (length l - from) from)) (hits_others P a b c l)
 
   pub others_back : (x y z : ℕ) (l₄ l₅ l₆ : List ℕ) → x ≡ get_or l a 0 → y ≡ get_or l₁ b 0 → z ≡ get_or l₂ c 0 → l₄ ≡ set l₃ c z → l₅ ≡ set l₄ b y → l₆ ≡ set l₅ a x → l₆ ≡ l
   others_back x y z l₄ l₅ l₆ ex ey ez e₄ e₅ e₆ =
@@ -130,19 +116,18 @@ module _ (P : ℕ → Pt) (n : ℕ) (w w' : List ℕ) (S : Searched P n w w') wh
 -- ---- a corner goes
 
 -- w, then v with the flag of b cleared, then v' with place i taken out of the front m
-pub gone_by : (n m i b : ℕ) (w v last : List ℕ) → i < m → m ≤ n → m ≤ length v → b ≡ get_or w i 0
+pub gone_by : (n m i b : ℕ) (w v last : List ℕ) → m ≤ n → m ≤ length v → b ≡ get_or (take m w) i 0
     → (take n v ≡ take n w) × (flags n v ≡ set (flags n w) b 0) × (kept n v ≡ kept n w)
     → take (length (take m v) - 1) last ≡ remove i (take m v) → length last ≡ length (take m v)
     → Gone n m i w (last ++ drop m v)
 unfolding flags kept
-gone_by n m i b w v last hi hm hv eb f e hl =
+gone_by n m i b w v last hm hv eb f e hl =
     let l : length (take m v) ≡ m = length-take-le m v hv in
     let o : take m v ≡ take m w = sym (take-take m n v hm) ∙ ap (take m) f.0 ∙ take-take m n w hm in
     let d : drop n (last ++ drop m v) ≡ drop n v = front_drop v last m n (omega arith) hm in
-    let q : b ≡ get_or (take m w) i 0 = eb ∙ sym (get_or-take m w i 0 hi) in
     record {
       order = take-append-le (m - 1) last (drop m v) (omega arith) ∙ ap (λ (k : ℕ). take (k - 1) last) (sym l) ∙ e ∙ ap (remove i) o;
-      left = ap (take n) d ∙ f.1 ∙ ap (λ (k : ℕ). set (take n (drop n w)) k 0) q;
+      left = ap (take n) d ∙ f.1 ∙ ap (λ (k : ℕ). set (take n (drop n w)) k 0) eb;
       same = ap (drop n) d ∙ f.2;
     }
 
@@ -171,6 +156,10 @@ held_turn P n m i w v w' hi hm hw H S G =
     }
 
 -- ---- the start: the order, then the flags behind it, then zeros behind these
+
+-- what `fill` leaves
+pub full_of : (v n : ℕ) (l : List ℕ) → l ≡ replicate n v → Full v n l
+full_of v n l e = λ (j : ℕ) (h : j < n). ap (λ (r : List ℕ). get_or r j 0) e ∙ get_or-replicate n j v 0 h
 
 pub fresh_start : (n : ℕ) (rev : Bool) (w ones zeros : List ℕ) → n * 2 ≤ length w → take n w ≡ order rev n → (e : ℕ) → e ≡ n * 2
     → length ones ≡ length (mid_of n (e - n) w) → Full 1 (length (mid_of n (e - n) w)) ones

@@ -1,5 +1,5 @@
 -- FORMAT 12.3, how the code clips ears: the tables of its working slice, what it keeps of earlier searches, and what each thing that it keeps says.
-use Rattle.std.specs.Prelude.{ℕ, ◌+◌, ◌-◌, ◌*◌, ◌≤◌, ◌<◌, ◌≡◌, Bool, true, false, not, ◌&&◌, List, [], ◌∷◌, length, get_or, take, drop, set, ltb, eqb, Float}
+use Rattle.std.specs.Prelude.{ℕ, ◌+◌, ◌-◌, ◌*◌, ◌≤◌, ◌<◌, ◌≡◌, Bool, true, false, not, ◌&&◌, List, [], ◌∷◌, length, get_or, take, drop, set, ltb, eqb, Option, Some, None, Float}
 use Rattle.std.specs.Float.{nan}
 use Rattle.std.specs.Float.Ieee.{le}
 use Rattle.lists.specs.Loops.{pick, any, first}
@@ -29,6 +29,10 @@ hits left g j = eqb (get_or left j 0) 1 && g j
 -- the first such corner by number; the number of corners where there is none
 unfoldable pub hit : List ℕ → (ℕ → Bool) → ℕ
 hit left g = first (hits left g) (length left) 0
+
+-- what a search of the numbers below n gives, where k is the first that passes; none where k is n
+unfoldable pub found : ℕ → ℕ → Option ℕ
+found n k = pick (ltb k n) (Some k) None
 
 -- `left` tells the corners of the order l: a test passes at some corner of l if it does at some corner that is left
 unfoldable pub Tells : List ℕ → List ℕ → Type 0

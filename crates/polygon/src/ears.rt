@@ -2,10 +2,9 @@
 ghost use Rattle.std.specs.Prelude.{◌≡◌, [], ◌∷◌, map, ◌+◌, ◌-◌, ◌*◌, ◌^◌, ◌≤◌, ◌<◌, length, take};
 ghost use Rattle.std.proofs.lemmas.List.Edits.{sets};
 ghost use Rattle.polygon.specs.Ears.{triple, remove, corner, fan, clip, area_term, area, place, order, turn, ear_clip_by, flat};
-ghost use Rattle.lists.specs.Parts.{Full};
 ghost use Rattle.polygon.specs.Memo.{xy, Gone, Held, Fresh};
 
-use crate::memo::{clear_flag, dot_at, first_ear, place_after, place_before};
+use crate::memo::{clear_flag, corner_at, dot_at, first_ear};
 use lists::{get, put};
 
 // One triangle, at the t'th place of `out`.
@@ -28,11 +27,7 @@ fn take_out(idx: &mut [u32], i: usize)
     requires { i < length idx.old }
     ensures { take (length idx.old - 1) idx.new ≡ remove i idx.old }
 {
-    let mut k = i;
-    while k + 1 < idx.len() {
-        idx[k] = idx[k + 1];
-        k += 1;
-    }
+    idx.copy_within(i + 1.., i);
 }
 
 fn place_of(rev: bool, n: usize, i: usize) -> u32
@@ -50,21 +45,8 @@ fn set_order(w: &mut [u32], n: usize, rev: bool)
     requires { (n ≤ 2 ^ 31) × (n ≤ length w.old) }
     ensures { take n w.new ≡ order rev n }
 {
-    let mut i = 0;
-    while i < n {
+    for i in 0..n {
         put(w, i, place_of(rev, n, i));
-        i += 1;
-    }
-}
-
-// Every word becomes v.
-fn fill(s: &mut [u32], v: u32)
-    ensures { Full v (length s.old) s.new }
-{
-    let mut i = 0;
-    while i < s.len() {
-        put(s, i, v);
-        i += 1;
     }
 }
 
@@ -75,8 +57,8 @@ fn start(w: &mut [u32], n: usize, rev: bool)
 {
     let e = n * 2;
     set_order(w, n, rev);
-    fill(&mut w[n..e], 1);
-    fill(&mut w[e..], 0);
+    w[n..e].fill(1);
+    w[e..].fill(0);
 }
 
 fn area_of(p: &[f32], n: usize) -> f32
@@ -84,10 +66,8 @@ fn area_of(p: &[f32], n: usize) -> f32
     ensures { result ≡ area (xy p.now) n }
 {
     let mut s: f32 = 0.0;
-    let mut i = 0;
-    while i < n {
+    for i in 0..n {
         s = area_step(p, n, i, s);
-        i += 1;
     }
     s
 }
@@ -107,12 +87,8 @@ fn put_fan(idx: &[u32], out: &mut [u32], t: usize, rev: bool)
     ensures { out.new ≡ sets out.old (t * 3) (flat (map (turn rev) (fan idx.now))) }
 {
     let a = get(idx, 0);
-    let mut at = t;
-    let mut k = 1;
-    while k + 1 < idx.len() {
-        put_tri(out, at, rev, a, get(idx, k), get(idx, k + 1));
-        at += 1;
-        k += 1;
+    for i in 0..idx.len().saturating_sub(2) {
+        put_tri(out, t + i, rev, a, get(idx, i + 1), get(idx, i + 2));
     }
 }
 
@@ -122,11 +98,9 @@ fn cut(w: &mut [u32], n: usize, m: usize, i: usize, out: &mut [u32], t: usize, r
     ensures { Gone n m i w.old w.new
         × (out.new ≡ sets out.old (t * 3) (flat (turn rev (corner (take m w.old) i) ∷ []))) }
 {
-    let a = get(w, place_before(m, i));
-    let b = get(w, i);
-    let c = get(w, place_after(m, i));
-    put_tri(out, t, rev, a, b, c);
-    clear_flag(w, n, b);
+    let q = corner_at(w, m, i);
+    put_tri(out, t, rev, q.a, q.b, q.c);
+    clear_flag(w, n, q.b);
     take_out(&mut w[..m], i);
 }
 
@@ -135,22 +109,17 @@ fn clip_all(p: &[f32], w: &mut [u32], n: usize, out: &mut [u32], rev: bool)
     ensures { out.new ≡ sets out.old 0 (flat (map (turn rev) (clip (xy p.now) (n * n) (take n w.old)))) }
 {
     let mut m = n;
-    let mut t = 0;
-    let mut turns = n * n;
-    while turns > 0 {
+    for t in 0..n * n {
         if m <= 3 {
             break;
         }
-        let i = first_ear(p, w, n, m);
-        if m <= i {
+        let Some(i) = first_ear(p, w, n, m) else {
             break;
-        }
+        };
         cut(w, n, m, i, out, t, rev);
         m -= 1;
-        t += 1;
-        turns -= 1;
     }
-    put_fan(&w[..m], out, t, rev);
+    put_fan(&w[..m], out, n - m, rev);
 }
 
 // The n - 2 triangles of the polygon whose coordinates are `p`, to the front of `out`. `w` is room to work in, five words a corner. (Fewer would do, and be slower.)

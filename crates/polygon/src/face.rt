@@ -28,10 +28,8 @@ fn put_outline_fan(n: usize, out: &mut [u32])
     requires { n ≤ 2 ^ 31 }
     ensures { out.new ≡ sets out.old 0 (flat (fan (outline n))) }
 {
-    let mut t = 0;
-    while t + 2 < n {
+    for t in 0..n.saturating_sub(2) {
         put_tri(out, t, false, 0, (t + 1) as u32, (t + 2) as u32);
-        t += 1;
     }
 }
 

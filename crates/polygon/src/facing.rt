@@ -25,17 +25,15 @@ pub fn newell(points: &[u32], names: &[u32]) -> V3
         y: 0.0,
         z: 0.0,
     };
-    if names.len() == 0 {
+    let [start, rest @ ..] = names else {
         return n;
-    }
-    let first = spot(points, point_number(names[0]));
+    };
+    let first = spot(points, point_number(*start));
     let mut a = first;
-    let mut i = 1;
-    while i < names.len() {
-        let b = spot(points, point_number(names[i]));
+    for name in rest {
+        let b = spot(points, point_number(*name));
         n = add_edge(n, a, b);
         a = b;
-        i += 1;
     }
     add_edge(n, a, first)
 }

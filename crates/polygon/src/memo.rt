@@ -4,8 +4,8 @@ ghost use Rattle.std.proofs.lemmas.List.Edits.{sets};
 ghost use Rattle.std.specs.Float.{nan};
 ghost use Rattle.std.specs.Float.Ieee.{le};
 ghost use Rattle.lists.specs.Loops.{pick, first};
-ghost use Rattle.polygon.specs.Ears.{+0, cross2, point_in_tri, blocks, is_ear, first_ear};
-ghost use Rattle.polygon.specs.Memo.{xy, dot_of, spot_of, in_way, hits, Clear, Tells, ear_of, Known, Sound, entry, flags, kept, Searched};
+ghost use Rattle.polygon.specs.Ears.{+0, triple, corner, cross2, point_in_tri, blocks, is_ear, first_ear};
+ghost use Rattle.polygon.specs.Memo.{xy, dot_of, spot_of, in_way, hits, Clear, Tells, ear_of, Known, Sound, entry, found, flags, kept, Searched};
 
 use lists::{get, put};
 
@@ -17,13 +17,29 @@ pub struct Dot {
     pub y: f32,
 }
 
+// Three corners with where they lie.
+#[derive(Clone, Copy)]
+struct Triangle {
+    a: Dot,
+    b: Dot,
+    c: Dot,
+}
+
+// A corner b of the working order, between a and c.
+#[derive(Clone, Copy)]
+pub struct Corner {
+    pub a: u32,
+    pub b: u32,
+    pub c: u32,
+}
+
 fn coord(p: &[f32], k: usize) -> f32
     ensures { result ≡ get_or p.now k nan }
 {
     if k < p.len() {
         return p[k];
     }
-    0.0 / 0.0
+    f32::NAN
 }
 
 pub fn dot_at(p: &[f32], j: u32) -> Dot
@@ -48,64 +64,62 @@ fn cross(o: Dot, a: Dot, b: Dot) -> f32
     (a.x - o.x) * (b.y - o.y) - (a.y - o.y) * (b.x - o.x)
 }
 
-fn in_tri(p: Dot, a: Dot, b: Dot, c: Dot) -> bool
-    ensures { result ≡ point_in_tri (spot_of p) (spot_of a) (spot_of b) (spot_of c) }
+fn in_tri(p: Dot, t: Triangle) -> bool
+    ensures { result ≡ point_in_tri (spot_of p) (spot_of t.a) (spot_of t.b) (spot_of t.c) }
 {
-    if !(cross(a, b, p) >= 0.0) {
+    if !(cross(t.a, t.b, p) >= 0.0) {
         return false;
     }
-    if !(cross(b, c, p) >= 0.0) {
+    if !(cross(t.b, t.c, p) >= 0.0) {
         return false;
     }
-    cross(c, a, p) >= 0.0
+    cross(t.c, t.a, p) >= 0.0
 }
 
-fn is_bent(p: &[f32], a: u32, b: u32, c: u32) -> bool
-    ensures { result ≡ le (cross2 (xy p.now a) (xy p.now b) (xy p.now c)) +0 }
+fn is_bent(p: &[f32], q: Corner) -> bool
+    ensures { result ≡ le (cross2 (xy p.now q.a) (xy p.now q.b) (xy p.now q.c)) +0 }
 {
-    cross(dot_at(p, a), dot_at(p, b), dot_at(p, c)) <= 0.0
+    cross(dot_at(p, q.a), dot_at(p, q.b), dot_at(p, q.c)) <= 0.0
 }
 
-fn is_in_way(k: Dot, a: Dot, b: Dot, c: Dot) -> bool
-    ensures { result ≡ in_way k a b c }
+fn is_in_way(k: Dot, t: Triangle) -> bool
+    ensures { result ≡ in_way k t.a t.b t.c }
 {
-    if k.j == a.j {
+    if k.j == t.a.j {
         return false;
     }
-    if k.j == b.j {
+    if k.j == t.b.j {
         return false;
     }
-    if k.j == c.j {
+    if k.j == t.c.j {
         return false;
     }
-    in_tri(k, a, b, c)
+    in_tri(k, t)
 }
 
 // ---- what is kept of earlier searches: the working slice `w` holds the working order, then a word for each corner, 1 while it is left, then three words for each
 
-fn is_hit(p: &[f32], left: &[u32], k: usize, a: Dot, b: Dot, c: Dot) -> bool
+fn is_hit(p: &[f32], left: &[u32], k: usize, t: Triangle) -> bool
     requires { k < 2 ^ 31 }
-    ensures { result ≡ hits left.now (λ j. in_way (dot_of (xy p.now) j) a b c) k }
+    ensures { result ≡ hits left.now (λ j. in_way (dot_of (xy p.now) j) t.a t.b t.c) k }
 {
     if get(left, k) != 1 {
         return false;
     }
-    is_in_way(dot_at(p, k as u32), a, b, c)
+    is_in_way(dot_at(p, k as u32), t)
 }
 
-// The first of the corners from `from` up to `to` that is left and lies in the triangle a b c.
-fn scan(p: &[f32], left: &[u32], from: usize, to: usize, a: Dot, b: Dot, c: Dot) -> usize
-    requires { to ≤ 2 ^ 31 }
-    ensures { result ≡ first (hits left.now (λ j. in_way (dot_of (xy p.now) j) a b c)) (to - from) from }
+// The first of the corners from `from` up to `to` that is left and lies in the triangle t.
+fn scan(p: &[f32], left: &[u32], from: usize, to: usize, t: Triangle) -> Option<usize>
+    requires { (from ≤ to) × (to ≤ 2 ^ 31) }
+    ensures { result ≡ found to (first (hits left.now (λ j. in_way (dot_of (xy p.now) j) t.a t.b t.c)) (to - from) from) }
 {
-    let mut k = from;
-    while k < to {
-        if is_hit(p, left, k, a, b, c) {
-            return k;
+    for k in from..to {
+        if is_hit(p, left, k, t) {
+            return Some(k);
         }
-        k += 1;
     }
-    k
+    None
 }
 
 // The corner k, whose coordinates are there.
@@ -120,95 +134,73 @@ fn dot_in(p: &[f32], k: usize) -> Dot
     }
 }
 
-// Whether d, which is left where f is 1, is not to the right of the sides b c and c a.
-fn is_near(f: u32, d: Dot, a: Dot, b: Dot, c: Dot) -> bool
-    ensures { result ≡ (eqb f 1 && (le +0 (cross2 (spot_of b) (spot_of c) (spot_of d)) && le +0 (cross2 (spot_of c) (spot_of a) (spot_of d)))) }
+// Whether d, which is left where f is 1, is not to the right of the sides b c and c a of t.
+fn is_near(f: u32, d: Dot, t: Triangle) -> bool
+    ensures { result ≡ (eqb f 1 && (le +0 (cross2 (spot_of t.b) (spot_of t.c) (spot_of d)) && le +0 (cross2 (spot_of t.c) (spot_of t.a) (spot_of d)))) }
 {
     if f != 1 {
         return false;
     }
-    if !(cross(b, c, d) >= 0.0) {
+    if !(cross(t.b, t.c, d) >= 0.0) {
         return false;
     }
-    cross(c, a, d) >= 0.0
+    cross(t.c, t.a, d) >= 0.0
 }
 
-fn one_if(b: bool) -> u32
-    ensures { result ≡ pick b 1 0 }
-{
-    if b {
-        return 1;
-    }
-    0
-}
-
-// How many of the corners from `from` up to `to` are near: the machine counts several at once. Where there is none, none of them lies in the triangle a b c.
-fn count_near(p: &[f32], left: &[u32], from: usize, to: usize, a: Dot, b: Dot, c: Dot) -> u32
+// How many of the corners from `from` up to `to` are near: the machine counts several at once. Where there is none, none of them lies in the triangle t.
+fn count_near(p: &[f32], left: &[u32], from: usize, to: usize, t: Triangle) -> u32
     requires { (to ≤ 2 ^ 31) × (to ≤ length left.now) × (to * 2 ≤ length p.now) }
-    ensures { result ≡ 0 → (j : ℕ) → from ≤ j → j < to → hits left.now (λ i. in_way (dot_of (xy p.now) i) a b c) j ≡ false }
+    ensures { result ≡ 0 → (j : ℕ) → from ≤ j → j < to → hits left.now (λ i. in_way (dot_of (xy p.now) i) t.a t.b t.c) j ≡ false }
 {
     let mut s: u32 = 0;
-    let mut k = from;
-    while k < to {
-        s += one_if(is_near(left[k], dot_in(p, k), a, b, c));
-        k += 1;
+    for k in from..to {
+        s += u32::from(is_near(left[k], dot_in(p, k), t));
     }
     s
 }
 
 // As `scan`, of a block of corners: it is passed as a whole where none of them is near. The last block may be short: then some before it are counted again.
-fn scan_block(p: &[f32], left: &[u32], from: usize, to: usize, a: Dot, b: Dot, c: Dot) -> usize
+fn scan_block(p: &[f32], left: &[u32], from: usize, to: usize, t: Triangle) -> Option<usize>
     requires { (from ≤ to) × (to ≤ from + 16) × (to ≤ 2 ^ 31) × (to ≤ length left.now) × (to * 2 ≤ length p.now) }
-    ensures { result ≡ first (hits left.now (λ j. in_way (dot_of (xy p.now) j) a b c)) (to - from) from }
+    ensures { result ≡ found to (first (hits left.now (λ j. in_way (dot_of (xy p.now) j) t.a t.b t.c)) (to - from) from) }
 {
     if BLOCK <= to {
-        if count_near(p, left, to - BLOCK, to, a, b, c) == 0 {
-            return to;
+        if count_near(p, left, to - BLOCK, to, t) == 0 {
+            return None;
         }
     }
-    scan(p, left, from, to, a, b, c)
-}
-
-// The end of the block from k on, of n corners.
-fn block_end(k: usize, n: usize) -> usize
-    requires { k < n }
-    ensures { (k < result) × (result ≤ n) × (result ≤ k + 16) }
-{
-    if n - k < BLOCK {
-        return n;
-    }
-    k + BLOCK
+    scan(p, left, from, to, t)
 }
 
 // As `scan`, of all corners from `from` on, block by block.
-fn scan_blocks(p: &[f32], left: &[u32], from: usize, a: Dot, b: Dot, c: Dot) -> usize
-    requires { (length left.now ≤ 2 ^ 31) × (length left.now * 2 ≤ length p.now) }
-    ensures { result ≡ first (hits left.now (λ j. in_way (dot_of (xy p.now) j) a b c)) (length left.now - from) from }
+fn scan_blocks(p: &[f32], left: &[u32], from: usize, t: Triangle) -> Option<usize>
+    requires { (from ≤ length left.now) × (length left.now ≤ 2 ^ 31) × (length left.now * 2 ≤ length p.now) }
+    ensures { result ≡ found (length left.now) (first (hits left.now (λ j. in_way (dot_of (xy p.now) j) t.a t.b t.c)) (length left.now - from) from) }
 {
-    let mut k = from;
-    while k < left.len() {
-        let e = block_end(k, left.len());
-        let h = scan_block(p, left, k, e, a, b, c);
-        if h < e {
-            return h;
+    let n = left.len();
+    for k in (from..n).step_by(BLOCK) {
+        let e = n.min(k + BLOCK);
+        if let Some(h) = scan_block(p, left, k, e, t) {
+            return Some(h);
         }
-        k = e;
     }
-    k
+    None
 }
 
-// The first corner from `from` on that is left and lies in the triangle a b c, which is read once.
-fn next_hit(p: &[f32], left: &[u32], from: usize, a: u32, b: u32, c: u32) -> usize
-    requires { length left.now ≤ 2 ^ 31 }
-    ensures { result ≡ first (hits left.now (blocks (xy p.now) a b c)) (length left.now - from) from }
+// The first corner from `from` on that is left and lies in the triangle q, which is read once.
+fn next_hit(p: &[f32], left: &[u32], from: usize, q: Corner) -> Option<usize>
+    requires { (from ≤ length left.now) × (length left.now ≤ 2 ^ 31) }
+    ensures { result ≡ found (length left.now) (first (hits left.now (blocks (xy p.now) q.a q.b q.c)) (length left.now - from) from) }
 {
-    let da = dot_at(p, a);
-    let db = dot_at(p, b);
-    let dc = dot_at(p, c);
+    let t = Triangle {
+        a: dot_at(p, q.a),
+        b: dot_at(p, q.b),
+        c: dot_at(p, q.c),
+    };
     if p.len() / 2 < left.len() {
-        return scan(p, left, from, left.len(), da, db, dc);
+        return scan(p, left, from, left.len(), t);
     }
-    scan_blocks(p, left, from, da, db, dc)
+    scan_blocks(p, left, from, t)
 }
 
 // A word becomes 0. What it was.
@@ -220,82 +212,82 @@ fn take_word(s: &mut [u32], k: usize) -> u32
     x
 }
 
-// As `next_hit`, with the flags of a, b and c put out meanwhile: they are always near, and would keep their blocks from being passed.
-fn other_hit(p: &[f32], left: &mut [u32], from: usize, a: u32, b: u32, c: u32) -> usize
-    requires { length left.old ≤ 2 ^ 31 }
-    ensures { (result ≡ first (hits left.old (blocks (xy p.now) a b c)) (length left.old - from) from) × (left.new ≡ left.old) }
+// As `next_hit`, with the flags of its corners put out meanwhile: they are always near, and would keep their blocks from being passed.
+fn other_hit(p: &[f32], left: &mut [u32], from: usize, q: Corner) -> Option<usize>
+    requires { (from ≤ length left.old) × (length left.old ≤ 2 ^ 31) }
+    ensures { (result ≡ found (length left.old) (first (hits left.old (blocks (xy p.now) q.a q.b q.c)) (length left.old - from) from)) × (left.new ≡ left.old) }
 {
-    let x = take_word(left, a as usize);
-    let y = take_word(left, b as usize);
-    let z = take_word(left, c as usize);
-    let k = next_hit(p, left, from, a, b, c);
-    put(left, c as usize, z);
-    put(left, b as usize, y);
-    put(left, a as usize, x);
+    let x = take_word(left, q.a as usize);
+    let y = take_word(left, q.b as usize);
+    let z = take_word(left, q.c as usize);
+    let k = next_hit(p, left, from, q);
+    put(left, q.c as usize, z);
+    put(left, q.b as usize, y);
+    put(left, q.a as usize, x);
     k
 }
 
-fn look(w: &[u32], n: usize, a: u32, b: u32, c: u32) -> u32
+// A word, not an enum: it is kept in the lent words.
+fn look(w: &[u32], n: usize, q: Corner) -> u32
     requires { n ≤ 2 ^ 31 }
-    ensures { result ≡ entry (kept n w.now) a b c }
+    ensures { result ≡ entry (kept n w.now) q.a q.b q.c }
 {
-    let k = n * 2 + b as usize * 3;
-    if get(w, k) != a {
+    let k = n * 2 + q.b as usize * 3;
+    if get(w, k) != q.a {
         return 0;
     }
-    if get(w, k + 1) != c {
+    if get(w, k + 1) != q.c {
         return 0;
     }
     get(w, k + 2)
 }
 
-fn store(w: &mut [u32], n: usize, a: u32, b: u32, c: u32, s: u32)
+fn store(w: &mut [u32], n: usize, q: Corner, s: u32)
     requires { n ≤ 2 ^ 31 }
-    ensures { w.new ≡ sets w.old (n + (n + b * 3)) (a ∷ c ∷ s ∷ []) }
+    ensures { w.new ≡ sets w.old (n + (n + q.b * 3)) (q.a ∷ q.c ∷ s ∷ []) }
 {
-    let k = n * 2 + b as usize * 3;
-    put(w, k, a);
-    put(w, k + 1, c);
+    let k = n * 2 + q.b as usize * 3;
+    put(w, k, q.a);
+    put(w, k + 1, q.c);
     put(w, k + 2, s);
 }
 
-// Whether b, which is convex, is an ear between a and c; no corner before `from` that is left lies in it.
-fn search(p: &[f32], w: &mut [u32], n: usize, a: u32, b: u32, c: u32, from: usize) -> bool
-    requires { (n ≤ 2 ^ 31) × (n * 2 ≤ length w.old) × (from ≤ n) × (le (cross2 (xy p.now a) (xy p.now b) (xy p.now c)) +0 ≡ false)
-        × Clear (xy p.now) (flags n w.old) a b c from × Sound (xy p.now) (flags n w.old) (kept n w.old) }
-    ensures { (result ≡ ear_of (xy p.now) (flags n w.old) a b c) × Searched (xy p.now) n w.old w.new }
+// Whether q, which is convex, is an ear; no corner before `from` that is left lies in it.
+fn search(p: &[f32], w: &mut [u32], n: usize, q: Corner, from: usize) -> bool
+    requires { (n ≤ 2 ^ 31) × (n * 2 ≤ length w.old) × (from ≤ n) × (le (cross2 (xy p.now q.a) (xy p.now q.b) (xy p.now q.c)) +0 ≡ false)
+        × Clear (xy p.now) (flags n w.old) q.a q.b q.c from × Sound (xy p.now) (flags n w.old) (kept n w.old) }
+    ensures { (result ≡ ear_of (xy p.now) (flags n w.old) q.a q.b q.c) × Searched (xy p.now) n w.old w.new }
 {
     let e = n * 2;
-    let k = other_hit(p, &mut w[n..e], from, a, b, c);
-    if n <= k {
+    let Some(k) = other_hit(p, &mut w[n..e], from, q) else {
         return true;
-    }
-    store(w, n, a, b, c, k as u32 + 2);
+    };
+    store(w, n, q, k as u32 + 2);
     false
 }
 
-// Whether b is an ear between a and c, of which s is known.
-fn decide(p: &[f32], w: &mut [u32], n: usize, a: u32, b: u32, c: u32, s: u32) -> bool
-    requires { (n ≤ 2 ^ 31) × (n * 2 ≤ length w.old) × Known (xy p.now) (flags n w.old) a b c s × Sound (xy p.now) (flags n w.old) (kept n w.old) }
-    ensures { (result ≡ ear_of (xy p.now) (flags n w.old) a b c) × Searched (xy p.now) n w.old w.new }
+// Whether q, of which s is known, is an ear.
+fn decide(p: &[f32], w: &mut [u32], n: usize, q: Corner, s: u32) -> bool
+    requires { (n ≤ 2 ^ 31) × (n * 2 ≤ length w.old) × Known (xy p.now) (flags n w.old) q.a q.b q.c s × Sound (xy p.now) (flags n w.old) (kept n w.old) }
+    ensures { (result ≡ ear_of (xy p.now) (flags n w.old) q.a q.b q.c) × Searched (xy p.now) n w.old w.new }
 {
     if s == 1 {
         return false;
     }
     if s == 0 {
-        if is_bent(p, a, b, c) {
-            store(w, n, a, b, c, 1);
+        if is_bent(p, q) {
+            store(w, n, q, 1);
             return false;
         }
-        return search(p, w, n, a, b, c, 0);
+        return search(p, w, n, q, 0);
     }
     if get(w, n + (s as usize - 2)) == 1 {
         return false;
     }
-    search(p, w, n, a, b, c, s as usize - 1)
+    search(p, w, n, q, s as usize - 1)
 }
 
-pub fn place_before(m: usize, i: usize) -> usize
+fn place_before(m: usize, i: usize) -> usize
     requires { i < m }
     ensures { result ≡ (i + m - 1) % m }
 {
@@ -305,7 +297,7 @@ pub fn place_before(m: usize, i: usize) -> usize
     i - 1
 }
 
-pub fn place_after(m: usize, i: usize) -> usize
+fn place_after(m: usize, i: usize) -> usize
     requires { i < m }
     ensures { result ≡ (i + 1) % m }
 {
@@ -315,29 +307,37 @@ pub fn place_after(m: usize, i: usize) -> usize
     i + 1
 }
 
+// The corner in the place i of the working order of m.
+pub fn corner_at(w: &[u32], m: usize, i: usize) -> Corner
+    requires { (i < m) × (m ≤ length w.now) }
+    ensures { triple result.a result.b result.c ≡ corner (take m w.now) i }
+{
+    Corner {
+        a: get(w, place_before(m, i)),
+        b: get(w, i),
+        c: get(w, place_after(m, i)),
+    }
+}
+
 fn is_ear(p: &[f32], w: &mut [u32], n: usize, m: usize, i: usize) -> bool
     requires { (i < m) × (m ≤ n) × (n ≤ 2 ^ 31) × (n * 2 ≤ length w.old) × Tells (flags n w.old) (take m w.old) × Sound (xy p.now) (flags n w.old) (kept n w.old) }
     ensures { (result ≡ is_ear (xy p.now) (take m w.old) i) × Searched (xy p.now) n w.old w.new }
 {
-    let a = get(w, place_before(m, i));
-    let b = get(w, i);
-    let c = get(w, place_after(m, i));
-    let s = look(w, n, a, b, c);
-    decide(p, w, n, a, b, c, s)
+    let q = corner_at(w, m, i);
+    let s = look(w, n, q);
+    decide(p, w, n, q, s)
 }
 
-pub fn first_ear(p: &[f32], w: &mut [u32], n: usize, m: usize) -> usize
+pub fn first_ear(p: &[f32], w: &mut [u32], n: usize, m: usize) -> Option<usize>
     requires { (m ≤ n) × (n ≤ 2 ^ 31) × (n * 2 ≤ length w.old) × Tells (flags n w.old) (take m w.old) × Sound (xy p.now) (flags n w.old) (kept n w.old) }
-    ensures { (result ≡ first_ear (xy p.now) (take m w.old)) × Searched (xy p.now) n w.old w.new }
+    ensures { (result ≡ found m (first_ear (xy p.now) (take m w.old))) × Searched (xy p.now) n w.old w.new }
 {
-    let mut i = 0;
-    while i < m {
+    for i in 0..m {
         if is_ear(p, w, n, m, i) {
-            return i;
+            return Some(i);
         }
-        i += 1;
     }
-    i
+    None
 }
 
 // The corner b is no longer left.

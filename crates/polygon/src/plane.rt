@@ -38,6 +38,7 @@ fn is_most(x: f32, y: f32, z: f32) -> bool
     false
 }
 
+// A number, not an enum: the two other axes are counted on from it.
 fn axis_of(n: V3) -> u32
     ensures is { result ≡ axis_of n }
     ensures small { result < 3 }
@@ -82,11 +83,9 @@ fn put_projection(points: &[u32], names: &[u32], axis: u32, flip: bool, out: &mu
     requires { (axis < 3) × (length names.now ≤ 2 ^ 31) }
     ensures { out.new ≡ sets out.old 0 (flat2 (map (projected axis flip) (spots points.now names.now))) }
 {
-    let mut i = 0;
-    while i < names.len() {
-        let p = spot(points, point_number(names[i]));
+    for (i, name) in names.iter().enumerate() {
+        let p = spot(points, point_number(*name));
         put_projected(out, i * 2, p, axis, flip);
-        i += 1;
     }
 }
 

@@ -64,12 +64,10 @@ pub fn put_textures<'a>(
     requires { Fitted work.old fit points spots corners places textures count }
     ensures { work.new ≡ spliced work.old textures (texture_words (set_texture block.now coord.now h s fit work.old points spots corners places) count) }
 {
-    let mut c = 0;
-    while c < count {
+    for c in 0..count {
         let p = PointNumber(wide(work[corners + c]));
         let place = wide(work[places + c]);
         let w = texture_at(block, coord, h, s, fit, work, points, spots, p, place);
         put2(work, textures + 2 * c, w);
-        c += 1;
     }
 }

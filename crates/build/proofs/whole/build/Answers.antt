@@ -1,5 +1,5 @@
 use mathlib.Core.Path.{◌∙◌}
-use Rattle.build.proofs.Asked.{ready_at, cornered_at, corners_ready, tables_kept, faces_ready, faces_room, indices_there, mending_ready}
+use Rattle.build.proofs.Asked.{ready_at, cornered_at, corners_ready, tables_kept, faces_ready, faces_room, mending_ready}
 use Rattle.build.proofs.Joined.{built}
 use Rattle.build.proofs.whole.build.Goals as goal
 
@@ -12,10 +12,6 @@ all_faces-k-requires c =
     let R = c.requires in
     let C = cornered_at _ c.corner_tables-tables.ensures c.all_vertices-n.ensures in
     (faces_ready R C, faces_room R C)
-
-pub slice_bounds-fix_zero_normals-end : goal.slice_bounds-fix_zero_normals-end
-slice_bounds-fix_zero_normals-end c =
-    indices_there c.requires (cornered_at _ c.corner_tables-tables.ensures c.all_vertices-n.ensures) c.all_faces-k.ensures
 
 pub fix_zero_normals-requires : goal.fix_zero_normals-requires
 fix_zero_normals-requires c =

@@ -1,11 +1,5 @@
-use mathlib.Core.Path.{◌≡◌}
-use Prim.Native.Nat.{◌-◌}
-use lib.ListN.{length}
 use Rattle.faces.proofs.Turning.{Facing}
 use Rattle.faces.proofs.indices.all_faces.Given as goal
 
 abbrev pub invariant-loop-g : goal.invariant-loop-g
-invariant-loop-g l = (length l.floats ≡ length l.initial.floats) × Facing l.initial.work l.t l.ccw l.convex l.initial.indices l.indices l.work l.initial.floats l.floats l.g l.at
-
-abbrev pub decreases-loop-g : goal.decreases-loop-g
-decreases-loop-g l = l.t.faces - l.g
+invariant-loop-g l = Facing l.initial.work l.t l.ccw l.convex l.initial.indices l.indices l.work l.initial.floats l.floats l.g l.at

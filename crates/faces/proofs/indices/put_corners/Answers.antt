@@ -1,16 +1,8 @@
-use mathlib.Core.Path.{refl}
 use Prim.Native.Nat.{◌+◌, ◌-◌, ◌*◌}
 use native.Mathlib.Omega.{arith}
 use Rattle.faces.proofs.Pieces.{corners_in, corners_put}
-use Rattle.lists.proofs.Keep.{part_length, kept_mid}
+use Rattle.lists.proofs.Keep.{kept_mid}
 use Rattle.faces.proofs.indices.put_corners.Goals as goal
-
-pub put_plane_where-requires : goal.put_plane_where-requires
-put_plane_where-requires c = (c.requires.0.sound, c.requires.1)
-
-pub triangulate-requires : goal.triangulate-requires
-triangulate-requires c =
-    let R = c.requires.0.sound.room in let e = part_length c.args.work.now c.args.t.places (c.args.t.places + c.args.n * 5) (c.args.n * 5) refl (omega (arith, c.requires.1, c.requires.0.scratch)) in (omega (arith, c.requires.1), omega (arith, c.put_plane_where.auto.floats, c.requires.0.plane, c.requires.1), omega (arith, e), c.requires.2)
 
 pub returns : goal.returns
 returns c =

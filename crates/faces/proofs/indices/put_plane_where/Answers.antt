@@ -5,9 +5,6 @@ pub returns-then-is_fan : goal.returns-then-is_fan
 unfolding corners_floats
 returns-then-is_fan c = rw (← c.is_fan.ensures, c.if-is_fan.true)
 
-pub put_plane-requires : goal.put_plane-requires
-put_plane-requires c = c.requires
-
 pub returns : goal.returns
 unfolding corners_floats
 returns c = rw (← c.is_fan.ensures, c.if-is_fan.false) c.put_plane.ensures

@@ -1,20 +1,10 @@
 use mathlib.Core.Path.{refl}
-use native.Mathlib.Omega.{arith}
-use Rattle.faces.proofs.Threes.{renaming_start, renaming_go, renaming_end}
+use Rattle.faces.proofs.Threes.{renaming_go, renaming_end}
 use Rattle.faces.proofs.naming.rename.Goals as goal
-
-pub loop-i-init : goal.loop-i-init
-loop-i-init c = renaming_start _ _ _ _ _
-
-pub overflow_mul-i : goal.overflow_mul-i
-overflow_mul-i c = omega (arith, c.loop-i.invariant.within)
 
 pub loop-i-preserved : goal.loop-i-preserved
 loop-i-preserved c =
     renaming_go _ _ _ _ _ _ _ _ _ c.loop-i-test.true refl c.requires c.name_tri.ensures c.loop-i.invariant
-
-pub shape_of-indices : goal.shape_of-indices
-shape_of-indices c = c.loop-i.invariant.long
 
 pub returns : goal.returns
 returns c = renaming_end _ _ _ _ _ _ _ c.loop-i-test.false c.requires c.loop-i.invariant

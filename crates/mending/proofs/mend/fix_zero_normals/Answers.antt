@@ -1,25 +1,31 @@
+use mathlib.Core.Path.{◌≡◌, sym, ap, ◌∙◌}
+use mathlib.Core.List.{[]}
 use native.Mathlib.Omega.{arith}
-use mathlib.Core.Path.{refl}
+use Rattle.math.specs.Vector.{unit_of}
+use Rattle.mesh.specs.Words.{floats, bits}
+use Rattle.mesh.specs.Mend.{first_normal, mend_by}
+use Rattle.mending.specs.Mend.{lent_frame, lent_keys, Served}
 use Rattle.mending.proofs.Fixing.{none_made, mending_start, mending_go, mending_end}
-use borrow.Author.Rules.{rules}
 use Rattle.mending.proofs.mend.fix_zero_normals.Goals as goal
+use Rattle.mending.proofs.mend.fix_zero_normals.Goals.{in-Some, in-None}
 
 pub loop-v-init : goal.loop-v-init
-loop-v-init c = (mending_start _ _ _ _, refl, none_made _ _ _ _)
-
-pub mend_one-r-requires : goal.mend_one-r-requires
-mend_one-r-requires c =
-    (c.requires.0, c.requires.1, omega arith, c.loop-v.invariant.2)
+loop-v-init c = (mending_start _ _ _ _, none_made _ _ _ _)
 
 pub loop-v-preserved : goal.loop-v-preserved
 loop-v-preserved c =
-    (mending_go _ _ _ _ _ _ _ _ _ c.loop-v-test.true c.words_at-w.ensures c.mend_one-r.ensures.0 c.put_words.auto.out c.put_words.ensures c.loop-v.invariant.0, search rules, c.mend_one-r.ensures.1)
-
-pub shape_of-normals : goal.shape_of-normals
-shape_of-normals c = c.loop-v.invariant.0.long
-
-pub shape_of-table : goal.shape_of-table
-shape_of-table c = c.loop-v.invariant.1
+    let w = c.words_at-w.result in
+    let made : c.match-rescaled.mended ≡ mend_by (unit_of (floats w)) w (first_normal (lent_frame c.args.positions.now) (lent_keys [] c.args.count) c.loop-v.v c.args.indices.now) =
+    elim c.match-rescaled.branch [
+      | in-Some s ↦ s.mended-is ∙ sym (s.in-Some.ensures _)
+      | in-None s ↦ s.mended-is ∙ s.words_of-mended.ensures ∙ ap bits s.replaced-u.ensures.0 ∙ sym (s.in-None.ensures _)
+    ] in
+    let served : Served c.match-rescaled.made c.args.positions.now c.args.indices.now c.args.count c.match-rescaled.table =
+    elim c.match-rescaled.branch [
+      | in-Some s ↦ rw (s.made-is, s.table-is) c.loop-v.invariant.1
+      | in-None s ↦ rw (s.made-is, s.table-is) s.replaced-u.ensures.1
+    ] in
+    (mending_go _ _ _ _ _ _ _ _ _ c.loop-v-test.true c.words_at-w.ensures made c.put_words.auto.out c.put_words.ensures c.loop-v.invariant.0, served)
 
 pub returns : goal.returns
 returns c = mending_end _ _ _ _ _ _ c.loop-v-test.false (omega arith) c.loop-v.invariant.0

@@ -1,13 +1,6 @@
-use mathlib.Core.Path.{◌≡◌}
-use Prim.Native.Nat.{◌-◌}
-use lib.ListN.{length}
 use Rattle.mending.specs.Mend.{Served}
 use Rattle.mending.proofs.Fixing.{Mending}
 use Rattle.mending.proofs.mend.fix_zero_normals.Given as goal
 
 abbrev pub invariant-loop-v : goal.invariant-loop-v
-invariant-loop-v l =
-    Mending l.positions l.indices l.initial.normals l.count l.normals l.v × (length l.table ≡ length l.initial.table) × Served l.made l.positions l.indices l.count l.table
-
-abbrev pub decreases-loop-v : goal.decreases-loop-v
-decreases-loop-v l = l.count - l.v
+invariant-loop-v l = Mending l.positions l.indices l.initial.normals l.count l.normals l.v × Served l.made l.positions l.indices l.count l.table

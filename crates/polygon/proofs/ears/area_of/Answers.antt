@@ -1,22 +1,15 @@
 use mathlib.Core.Path.{sym, ◌∙◌}
 use native.Mathlib.Nat.{sub-zero}
-use native.Mathlib.Omega.{arith}
 use Rattle.polygon.specs.Ears.{area}
 use Rattle.lists.proofs.Loops.{run_go, run_end}
 use Rattle.polygon.proofs.ears.area_of.Goals as goal
 
 pub loop-i-init : goal.loop-i-init
 unfolding area
-loop-i-init c = (omega arith, rw sub-zero)
-
-pub overflow_add-i : goal.overflow_add-i
-overflow_add-i c = omega arith
-
-pub loop-i-smaller : goal.loop-i-smaller
-loop-i-smaller c = omega arith
+loop-i-init c = rw sub-zero
 
 pub loop-i-preserved : goal.loop-i-preserved
-loop-i-preserved c = (omega arith, rw c.area_step-s.ensures (sym (run_go _ _ _ _ c.loop-i-test.true) ∙ c.loop-i.invariant.1))
+loop-i-preserved c = rw c.area_step-s.ensures (sym (run_go _ _ _ _ c.loop-i-test.true) ∙ c.loop-i.invariant)
 
 pub returns : goal.returns
-returns c = sym (run_end _ _ _ _ c.loop-i-test.false) ∙ c.loop-i.invariant.1
+returns c = sym (run_end _ _ _ _ c.loop-i-test.false) ∙ c.loop-i.invariant

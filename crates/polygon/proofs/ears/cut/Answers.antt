@@ -1,28 +1,16 @@
 use mathlib.Core.List.{◌∷◌, []}
-use mathlib.Core.Path.{◌≡◌, sym, ap, ◌∙◌}
+use mathlib.Core.Path.{ap, ◌∙◌}
 use Prim.Native.Nat.{◌*◌, ◌≤◌}
 use native.Mathlib.Omega.{arith}
-use lib.ListN.{length, take}
-use lib.Seq.{sets, length-take-le}
+use lib.ListN.{length}
+use lib.Seq.{sets}
 use Rattle.polygon.specs.Ears.{Tri, flat, turn}
-use Rattle.polygon.proofs.Turns.{corner_in_lem, gone_by}
+use Rattle.polygon.proofs.Turns.{gone_by}
 use Rattle.polygon.proofs.ears.cut.Goals as goal
-
-pub slice_bounds-take_out-end : goal.slice_bounds-take_out-end
-slice_bounds-take_out-end c = omega (arith, c.clear_flag.auto.w)
-
-pub slice_bounds-take_out-end-2 : goal.slice_bounds-take_out-end-2
-slice_bounds-take_out-end-2 c =
-    let h : c.args.m ≤ length c.clear_flag.new.w = omega (arith, c.clear_flag.auto.w) in sym (length-take-le c.args.m c.clear_flag.new.w h)
-
-pub take_out-requires : goal.take_out-requires
-take_out-requires c =
-    let h : c.args.m ≤ length c.clear_flag.new.w = omega (arith, c.clear_flag.auto.w) in let e : length (take c.args.m c.clear_flag.new.w) ≡ c.args.m = length-take-le c.args.m c.clear_flag.new.w h in omega arith
 
 pub returns : goal.returns
 returns c =
-    let h : c.args.m ≤ length c.clear_flag.new.w = omega (arith, c.clear_flag.auto.w) in
-    let f : c.args.m ≤ length c.args.w.now = omega arith in (
-      gone_by _ _ _ _ _ _ _ c.requires.0 c.requires.1 h c.get-b.ensures c.clear_flag.ensures c.take_out.ensures c.take_out.auto.idx,
-      c.put_tri.ensures ∙ ap (λ (q : Tri). sets c.args.out.now (c.args.t * 3) (flat (turn c.args.rev q ∷ []))) (corner_in_lem _ _ _ f c.requires.0 _ _ _ _ _ c.place_before.ensures c.get-a.ensures c.get-b.ensures c.place_after.ensures c.get-c.ensures),
+    let h : c.args.m ≤ length c.clear_flag.new.w = omega (arith, c.clear_flag.auto.w) in (
+      gone_by _ _ _ _ _ _ _ c.requires.1 h (ap (λ (q : Tri). q.b) c.corner_at-q.ensures) c.clear_flag.ensures c.take_out.ensures c.take_out.auto.idx,
+      c.put_tri.ensures ∙ ap (λ (q : Tri). sets c.args.out.now (c.args.t * 3) (flat (turn c.args.rev q ∷ []))) c.corner_at-q.ensures,
     )

@@ -1,20 +1,7 @@
 use Prim.Native.Nat.{◌*◌}
 use native.Mathlib.Numerals.{add-one, add-two}
-use native.Mathlib.Omega.{arith}
 use Rattle.polygon.specs.Ears.{flat, turn}
 use Rattle.polygon.proofs.ears.put_tri.Goals as goal
-
-pub overflow_add-t : goal.overflow_add-t
-overflow_add-t c = omega arith
-
-pub overflow_add-t-then-rev : goal.overflow_add-t-then-rev
-overflow_add-t-then-rev c = omega arith
-
-pub overflow_add-t-else-rev : goal.overflow_add-t-else-rev
-overflow_add-t-else-rev c = omega arith
-
-pub overflow_add-t-else-rev-2 : goal.overflow_add-t-else-rev-2
-overflow_add-t-else-rev-2 c = omega arith
 
 pub returns-then-rev : goal.returns-then-rev
 unfolding flat turn

@@ -1,13 +1,8 @@
 use mathlib.Core.Path.{◌≡◌}
-use Prim.Native.Nat.{◌-◌, ◌≤◌}
-use lib.ListN.{length}
 use lib.Seq.{sets}
 use Rattle.polygon.specs.Ears.{fan, outline, flat}
 use Rattle.polygon.proofs.Triangles.{Rest}
 use Rattle.polygon.proofs.face.put_outline_fan.Given as goal
 
 abbrev pub invariant-loop-t : goal.invariant-loop-t
-invariant-loop-t l = (l.t ≤ l.n) × (length l.out ≡ length l.initial.out) × (Rest l.n l.out l.t ≡ sets l.initial.out 0 (flat (fan (outline l.n))))
-
-abbrev pub decreases-loop-t : goal.decreases-loop-t
-decreases-loop-t l = l.n - l.t
+invariant-loop-t l = Rest l.n l.out l.t ≡ sets l.initial.out 0 (flat (fan (outline l.n)))

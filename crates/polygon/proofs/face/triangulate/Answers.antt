@@ -1,21 +1,11 @@
-use mathlib.Core.Path.{sym}
 use Prim.Native.Nat.{◌*◌}
 use native.Mathlib.Omega.{arith}
 use lib.ListN.{take}
-use lib.Seq.{length-take-le}
 use Rattle.lists.proofs.Stores.{tail_sets}
 use Rattle.polygon.specs.Ears.{flat}
 use Rattle.polygon.specs.Face.{face_tris}
 use Rattle.polygon.specs.Plane.{pairs}
 use Rattle.polygon.proofs.face.triangulate.Goals as goal
-
-pub slice_bounds-face_tris-end : goal.slice_bounds-face_tris-end
-slice_bounds-face_tris-end c =
-    sym (length-take-le (c.args.n * 2) c.args.plane.now c.requires.1)
-
-pub face_tris-requires : goal.face_tris-requires
-face_tris-requires c =
-    (c.requires.0, length-take-le (c.args.n * 2) c.args.plane.now c.requires.1, c.requires.2)
 
 pub returns : goal.returns
 returns c =

@@ -1,11 +1,7 @@
 use mathlib.Core.Path.{sym}
-use native.Mathlib.Omega.{arith}
 use lib.Ieee.{nan, div, of_bits}
 use lib.ListN.{get_or-eq_default}
 use Rattle.polygon.proofs.memo.coord.Goals as goal
-
-pub bounds-p-k : goal.bounds-p-k
-bounds-p-k c = omega arith
 
 pub returns : goal.returns
 unfolding div of_bits

@@ -1,29 +1,22 @@
-use mathlib.Core.Path.{refl, sym, ◌∙◌}
+use mathlib.Core.Path.{◌≡◌, refl, sym, ◌∙◌}
+use mathlib.Core.Bool.{Bool, true, false}
+use Prim.Native.Nat.{ℕ}
+use Rattle.std.specs.Int.{from_bool}
+use Rattle.lists.specs.Loops.{pick}
 use native.Mathlib.Omega.{arith}
 use Rattle.lists.proofs.Searches.{count_step, one_small}
 use Rattle.polygon.specs.Memo.{xy, dot_of, in_way, hits}
 use Rattle.polygon.proofs.Blocks.{not_in_way}
 use Rattle.polygon.proofs.memo.count_near.Goals as goal
 
-pub loop-k-init : goal.loop-k-init
-loop-k-init c = (omega arith, λ z j l b. let w : ⊥ = omega arith in absurd w)
-
-pub bounds-left-k : goal.bounds-left-k
-bounds-left-k c = omega arith
-
-pub dot_in-requires : goal.dot_in-requires
-dot_in-requires c = omega arith
-
-pub overflow_add-s : goal.overflow_add-s
-overflow_add-s c = omega (arith, one_small c.one_if-s.result c.is_near.result c.one_if-s.ensures)
-
-pub loop-k-smaller : goal.loop-k-smaller
-loop-k-smaller c = omega arith
+number_is : (o : ℕ) (r : Bool) → o ≡ from_bool r → o ≡ pick r 1 0
+number_is o true e = e
+number_is o false e = e
 
 pub loop-k-preserved : goal.loop-k-preserved
 loop-k-preserved c = (
-  omega (arith, one_small c.one_if-s.result c.is_near.result c.one_if-s.ensures),
-  count_step (hits c.args.left.now (λ i. in_way (dot_of (xy c.args.p.now) i) c.args.a c.args.b c.args.c)) _ _ _ _ c.is_near.result c.loop-k.invariant.1 c.one_if-s.ensures
+  omega (arith, one_small c.from-s.result c.is_near.result (number_is _ c.is_near.result c.from-s.ensures)),
+  count_step (hits c.args.left.now (λ i. in_way (dot_of (xy c.args.p.now) i) c.args.t.a c.args.t.b c.args.t.c)) _ _ _ _ c.is_near.result c.loop-k.invariant.1 (number_is _ c.is_near.result c.from-s.ensures)
       (λ e. not_in_way _ _ _ _ _ _ _ _ refl c.dot_in.ensures (sym c.is_near.ensures ∙ e)),
 )
 

@@ -1,12 +1,9 @@
 use mathlib.Core.Path.{◌≡◌}
 use mathlib.Core.Bool.{false}
-use Prim.Native.Nat.{ℕ, ◌-◌, ◌≤◌, ◌<◌}
+use Prim.Native.Nat.{ℕ, ◌≤◌, ◌<◌}
 use Rattle.polygon.specs.Memo.{xy, dot_of, in_way, hits}
 use Rattle.polygon.proofs.memo.count_near.Given as goal
 
 -- The count is 0 as long as no corner is near, and then none is in the way.
 abbrev pub invariant-loop-k : goal.invariant-loop-k
-invariant-loop-k l = (l.s ≤ l.k) × (l.s ≡ 0 → (j : ℕ) → l.from ≤ j → j < l.k → hits l.left (λ i. in_way (dot_of (xy l.p) i) l.a l.b l.c) j ≡ false)
-
-abbrev pub decreases-loop-k : goal.decreases-loop-k
-decreases-loop-k l = l.to - l.k
+invariant-loop-k l = (l.s ≤ l.k) × (l.s ≡ 0 → (j : ℕ) → l.from ≤ j → j < l.k → hits l.left (λ i. in_way (dot_of (xy l.p) i) l.t.a l.t.b l.t.c) j ≡ false)

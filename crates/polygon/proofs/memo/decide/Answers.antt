@@ -1,5 +1,5 @@
 use mathlib.Core.Path.{sym, ◌∙◌}
-use Prim.Native.Nat.{ℕ, ◌<◌}
+use Prim.Native.Nat.{◌<◌}
 use native.Mathlib.Omega.{arith}
 use Rattle.polygon.proofs.Turns.{decide_bent, decide_new, decide_blocked, decide_on, decide_from}
 use Rattle.polygon.proofs.memo.decide.Goals as goal
@@ -10,10 +10,6 @@ returns-then-s-eq1 c = decide_bent _ _ _ c.requires.1 c.requires.3 _ _ _ (c.requ
 pub returns-then-is_bent : goal.returns-then-is_bent
 returns-then-is_bent c =
     decide_new _ _ _ c.requires.1 c.requires.3 _ _ _ _ (sym c.is_bent.ensures ∙ c.if-is_bent.true) c.store.ensures
-
-pub search-requires : goal.search-requires
-search-requires c =
-    (c.requires.0, c.requires.1, omega arith, sym c.is_bent.ensures ∙ c.if-is_bent.false, (λ (j : ℕ) (h : j < 0). let z : ⊥ = omega arith in absurd z), c.requires.3)
 
 pub returns-then-get-eq1 : goal.returns-then-get-eq1
 returns-then-get-eq1 c =

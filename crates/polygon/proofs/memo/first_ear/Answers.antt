@@ -1,4 +1,4 @@
-use mathlib.Core.Path.{refl, sym, ◌∙◌}
+use mathlib.Core.Path.{◌≡◌, sym, ◌∙◌}
 use Prim.Native.Nat.{◌≤◌}
 use native.Mathlib.Nat.{sub-zero}
 use native.Mathlib.Omega.{arith}
@@ -8,30 +8,25 @@ use Rattle.polygon.specs.Ears.{first_ear}
 use Rattle.lists.proofs.Loops.{first_go, first_stop, first_end}
 use Rattle.polygon.proofs.Tables.{as_was}
 use Rattle.polygon.proofs.Turns.{searched_ear, searched_tells, searched_sound, searched_then}
+use Rattle.polygon.proofs.Blocks.{found_some, found_none}
 use Rattle.polygon.proofs.memo.first_ear.Goals as goal
 
 pub loop-i-init : goal.loop-i-init
 unfolding first_ear
 loop-i-init c =
-    let h : c.args.m ≤ length c.args.w.now = omega arith in (omega arith, rw (sub-zero, length-take-le c.args.m c.args.w.now h), refl, as_was _ _ _ c.requires.4)
+    let h : c.args.m ≤ length c.args.w.now = omega arith in (rw (sub-zero, length-take-le c.args.m c.args.w.now h), as_was _ _ _ c.requires.4)
 
 pub is_ear-requires : goal.is_ear-requires
 is_ear-requires c =
-    let S = c.loop-i.invariant.3 in (c.loop-i-test.true, c.requires.0, c.requires.1, omega arith, searched_tells _ _ _ _ S _ c.requires.0 c.requires.3, searched_sound _ _ _ _ S)
-
-pub shape_of-w-then-is_ear : goal.shape_of-w-then-is_ear
-shape_of-w-then-is_ear c = c.is_ear.auto.w ∙ c.loop-i.invariant.2
+    let S = c.loop-i.invariant.1 in (c.loop-i-test.true, c.requires.0, c.requires.1, omega arith, searched_tells _ _ _ _ S _ c.requires.0 c.requires.3, searched_sound _ _ _ _ S)
 
 pub returns-then-is_ear : goal.returns-then-is_ear
 returns-then-is_ear c =
-    let S = c.loop-i.invariant.3 in (sym (first_stop _ _ _ c.loop-i-test.true (searched_ear _ _ _ _ S _ c.requires.0 _ _ c.is_ear.ensures.0 ∙ c.if-is_ear.true)) ∙ c.loop-i.invariant.1, searched_then _ _ _ _ S _ c.is_ear.ensures.1)
+    let S = c.loop-i.invariant.1 in (found_some _ _ _ (sym (first_stop _ _ _ c.loop-i-test.true (searched_ear _ _ _ _ S _ c.requires.0 _ _ c.is_ear.ensures.0 ∙ c.if-is_ear.true)) ∙ c.loop-i.invariant.0) c.loop-i-test.true, searched_then _ _ _ _ S _ c.is_ear.ensures.1)
 
 pub loop-i-preserved : goal.loop-i-preserved
 loop-i-preserved c =
-    let S = c.loop-i.invariant.3 in (omega arith, sym (first_go _ _ _ c.loop-i-test.true (searched_ear _ _ _ _ S _ c.requires.0 _ _ c.is_ear.ensures.0 ∙ c.if-is_ear.false)) ∙ c.loop-i.invariant.1, c.is_ear.auto.w ∙ c.loop-i.invariant.2, searched_then _ _ _ _ S _ c.is_ear.ensures.1)
-
-pub shape_of-w : goal.shape_of-w
-shape_of-w c = c.loop-i.invariant.2
+    let S = c.loop-i.invariant.1 in (sym (first_go _ _ _ c.loop-i-test.true (searched_ear _ _ _ _ S _ c.requires.0 _ _ c.is_ear.ensures.0 ∙ c.if-is_ear.false)) ∙ c.loop-i.invariant.0, searched_then _ _ _ _ S _ c.is_ear.ensures.1)
 
 pub returns : goal.returns
-returns c = (sym (first_end _ _ _ c.loop-i-test.false) ∙ c.loop-i.invariant.1, c.loop-i.invariant.3)
+returns c = let e : c.args.m ≡ c.loop-i.i = omega arith in (found_none _ _ (e ∙ sym (first_end _ _ _ c.loop-i-test.false) ∙ c.loop-i.invariant.0), c.loop-i.invariant.1)

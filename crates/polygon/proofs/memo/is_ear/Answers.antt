@@ -1,5 +1,4 @@
 use mathlib.Core.Path.{◌∙◌}
-use native.Mathlib.Omega.{arith}
 use Rattle.polygon.proofs.Keep.{known_read}
 use Rattle.polygon.proofs.Turns.{ear_in}
 use Rattle.polygon.proofs.memo.is_ear.Goals as goal
@@ -10,4 +9,4 @@ decide-requires c =
 
 pub returns : goal.returns
 returns c =
-    (c.decide.ensures.0 ∙ ear_in c.args.w.now c.args.m _ (omega arith) c.requires.0 _ _ _ _ _ _ _ c.place_before.ensures c.get-a.ensures c.get-b.ensures c.place_after.ensures c.get-c.ensures c.requires.4, c.decide.ensures.1)
+    (c.decide.ensures.0 ∙ ear_in _ _ _ _ _ _ _ c.corner_at-q.ensures c.requires.4, c.decide.ensures.1)

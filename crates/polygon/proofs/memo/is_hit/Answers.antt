@@ -11,4 +11,4 @@ returns-then-get-ne1 c = simp (← c.get.ensures, ne_eqb _ _ c.if-get-ne1.true)
 pub returns : goal.returns
 unfolding hits
 returns c =
-    simp (← c.get.ensures, eq-eqb _ _ c.if-get-ne1.false) (c.is_in_way.ensures ∙ ap (λ (d : Dot). in_way d c.args.a c.args.b c.args.c) c.dot_at.ensures)
+    simp (← c.get.ensures, eq-eqb _ _ c.if-get-ne1.false) (c.is_in_way.ensures ∙ ap (λ (d : Dot). in_way d c.args.t.a c.args.t.b c.args.t.c) c.dot_at.ensures)

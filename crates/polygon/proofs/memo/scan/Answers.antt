@@ -1,19 +1,14 @@
-use mathlib.Core.Path.{refl, sym, ◌∙◌}
+use mathlib.Core.Path.{◌≡◌, sym, ◌∙◌}
 use native.Mathlib.Omega.{arith}
 use Rattle.lists.proofs.Loops.{first_go, first_stop, first_end}
+use Rattle.polygon.proofs.Blocks.{found_some, found_none}
 use Rattle.polygon.proofs.memo.scan.Goals as goal
 
-pub loop-k-init : goal.loop-k-init
-loop-k-init c = refl
-
-pub is_hit-requires : goal.is_hit-requires
-is_hit-requires c = omega arith
-
 pub returns-then-is_hit : goal.returns-then-is_hit
-returns-then-is_hit c = sym (first_stop _ _ _ c.loop-k-test.true (sym c.is_hit.ensures ∙ c.if-is_hit.true)) ∙ c.loop-k.invariant
+returns-then-is_hit c = found_some _ _ _ (sym (first_stop _ _ _ c.loop-k-test.true (sym c.is_hit.ensures ∙ c.if-is_hit.true)) ∙ c.loop-k.invariant) c.loop-k-test.true
 
 pub loop-k-preserved : goal.loop-k-preserved
 loop-k-preserved c = sym (first_go _ _ _ c.loop-k-test.true (sym c.is_hit.ensures ∙ c.if-is_hit.false)) ∙ c.loop-k.invariant
 
 pub returns : goal.returns
-returns c = sym (first_end _ _ _ c.loop-k-test.false) ∙ c.loop-k.invariant
+returns c = let e : c.args.to ≡ c.loop-k.k = omega arith in found_none _ _ (e ∙ sym (first_end _ _ _ c.loop-k-test.false) ∙ c.loop-k.invariant)

@@ -6,7 +6,4 @@ use Rattle.polygon.proofs.memo.scan.Given as goal
 
 abbrev pub invariant-loop-k : goal.invariant-loop-k
 invariant-loop-k l =
-    first (hits l.left (λ j. in_way (dot_of (xy l.p) j) l.a l.b l.c)) (l.to - l.k) l.k ≡ first (hits l.left (λ j. in_way (dot_of (xy l.p) j) l.a l.b l.c)) (l.to - l.from) l.from
-
-abbrev pub decreases-loop-k : goal.decreases-loop-k
-decreases-loop-k l = l.to - l.k
+    first (hits l.left (λ j. in_way (dot_of (xy l.p) j) l.t.a l.t.b l.t.c)) (l.to - l.k) l.k ≡ first (hits l.left (λ j. in_way (dot_of (xy l.p) j) l.t.a l.t.b l.t.c)) (l.to - l.from) l.from

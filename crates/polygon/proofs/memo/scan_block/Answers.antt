@@ -1,18 +1,10 @@
 use native.Mathlib.Omega.{arith}
 use Rattle.lists.proofs.Searches.{none_to}
 use Rattle.polygon.specs.Memo.{xy, dot_of, in_way, hits}
+use Rattle.polygon.proofs.Blocks.{found_none}
 use Rattle.polygon.proofs.memo.scan_block.Goals as goal
-
-pub count_near-requires : goal.count_near-requires
-count_near-requires c = omega arith
 
 pub returns-then-count_near-eq0 : goal.returns-then-count_near-eq0
 returns-then-count_near-eq0 c =
-    none_to (hits c.args.left.now (λ i. in_way (dot_of (xy c.args.p.now) i) c.args.a c.args.b c.args.c)) c.args.from c.args.to (omega arith)
-    (λ j l b. c.count_near.ensures c.if-count_near-eq0.true j (omega arith) b)
-
-pub scan-requires : goal.scan-requires
-scan-requires c = omega arith
-
-pub returns : goal.returns
-returns c = c.scan.ensures
+    found_none _ _ (none_to (hits c.args.left.now (λ i. in_way (dot_of (xy c.args.p.now) i) c.args.t.a c.args.t.b c.args.t.c)) c.args.from c.args.to (omega arith)
+    (λ j l b. c.count_near.ensures c.if-count_near-eq0.true j (omega arith) b))

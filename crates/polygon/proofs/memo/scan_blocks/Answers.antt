@@ -1,34 +1,24 @@
-use mathlib.Core.Path.{refl, sym, ◌∙◌}
-use Prim.Native.Nat.{◌≤◌}
+use mathlib.Core.Path.{◌≡◌, refl, sym, ap, ◌∙◌}
+use Prim.Native.Nat.{ℕ, ◌+◌, ◌-◌}
 use native.Mathlib.Omega.{arith}
 use lib.ListN.{length}
+use Rattle.lists.specs.Loops.{first}
 use Rattle.lists.proofs.Loops.{first_end}
 use Rattle.lists.proofs.Searches.{block_hit, block_past}
+use Rattle.polygon.specs.Memo.{xy, dot_of, in_way, hits}
+use Rattle.polygon.proofs.Blocks.{found_some, found_none, some_found, none_found}
 use Rattle.polygon.proofs.memo.scan_blocks.Goals as goal
 
-pub loop-k-init : goal.loop-k-init
-loop-k-init c = refl
-
-pub block_end-e-requires : goal.block_end-e-requires
-block_end-e-requires c = omega arith
-
-pub scan_block-h-requires : goal.scan_block-h-requires
-scan_block-h-requires c = omega arith
-
-pub returns-then-h-e : goal.returns-then-h-e
-returns-then-h-e c =
-    let up : c.loop-k.k ≤ c.block_end-e.result = omega arith in
-    let within : c.block_end-e.result ≤ length c.args.left.now = omega arith in
-    block_hit _ _ _ _ _ up within c.scan_block-h.ensures c.if-h-e.true ∙ c.loop-k.invariant
-
-pub loop-k-smaller : goal.loop-k-smaller
-loop-k-smaller c = omega arith
+pub returns-in-Some : goal.returns-in-Some
+returns-in-Some c =
+    let s = some_found _ _ c.in-Some.h c.in-Some.ensures in
+    found_some _ _ _ (block_hit _ _ _ _ _ (omega arith) (omega arith) s.0 s.1 ∙ c.loop-k.invariant.1) (omega (arith, s.1))
 
 pub loop-k-preserved : goal.loop-k-preserved
 loop-k-preserved c =
-    let up : c.loop-k.k ≤ c.block_end-e.result = omega arith in
-    let within : c.block_end-e.result ≤ length c.args.left.now = omega arith in
-    sym (block_past _ _ _ _ _ up within c.scan_block-h.ensures c.if-h-e.false) ∙ c.loop-k.invariant
+    let f = hits c.args.left.now (λ j. in_way (dot_of (xy c.args.p.now) j) c.args.t.a c.args.t.b c.args.t.c) in
+    let e : c.min-e.result ≡ c.loop-k.k + 16 = omega arith in
+    (omega arith, sym (block_past f _ _ _ _ (omega arith) (omega arith) refl (none_found _ _ (sym c.in_default.is ∙ c.scan_block.ensures)) ∙ ap (λ (k : ℕ). first f (length c.args.left.now - k) k) e) ∙ c.loop-k.invariant.1)
 
 pub returns : goal.returns
-returns c = sym (first_end _ _ _ c.loop-k-test.false) ∙ c.loop-k.invariant
+returns c = let e : length c.args.left.now ≡ c.loop-k.k = omega arith in found_none _ _ (e ∙ sym (first_end _ _ _ c.loop-k-test.false) ∙ c.loop-k.invariant.1)

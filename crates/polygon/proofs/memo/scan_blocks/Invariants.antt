@@ -1,5 +1,5 @@
 use mathlib.Core.Path.{◌≡◌}
-use Prim.Native.Nat.{◌-◌}
+use Prim.Native.Nat.{◌-◌, ◌≤◌}
 use lib.ListN.{length}
 use Rattle.lists.specs.Loops.{first}
 use Rattle.polygon.specs.Memo.{xy, dot_of, in_way, hits}
@@ -7,8 +7,5 @@ use Rattle.polygon.proofs.memo.scan_blocks.Given as goal
 
 -- What is left to be searched gives what was to be found.
 abbrev pub invariant-loop-k : goal.invariant-loop-k
-invariant-loop-k l =
-    first (hits l.left (λ j. in_way (dot_of (xy l.p) j) l.a l.b l.c)) (length l.left - l.k) l.k ≡ first (hits l.left (λ j. in_way (dot_of (xy l.p) j) l.a l.b l.c)) (length l.left - l.from) l.from
-
-abbrev pub decreases-loop-k : goal.decreases-loop-k
-decreases-loop-k l = length l.left - l.k
+invariant-loop-k l = (l.k ≤ length l.left) × (
+    first (hits l.left (λ j. in_way (dot_of (xy l.p) j) l.t.a l.t.b l.t.c)) (length l.left - l.k) l.k ≡ first (hits l.left (λ j. in_way (dot_of (xy l.p) j) l.t.a l.t.b l.t.c)) (length l.left - l.from) l.from)

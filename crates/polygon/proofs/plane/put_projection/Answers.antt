@@ -1,22 +1,12 @@
-use mathlib.Core.Path.{refl, sym, ◌∙◌}
-use borrow.Author.Rules.{rules}
+use mathlib.Core.Path.{sym, ◌∙◌}
 use Rattle.polygon.specs.Plane.{projected}
 use Rattle.polygon.proofs.Projection.{projected_go, projected_end}
 use Rattle.polygon.proofs.plane.put_projection.Goals as goal
 
-pub loop-i-init : goal.loop-i-init
-loop-i-init c = (search rules, refl, refl)
-
-pub spot-p-requires : goal.spot-p-requires
-spot-p-requires c = c.point_number.ensures.1
-
 pub loop-i-preserved : goal.loop-i-preserved
 loop-i-preserved c =
-    (search rules, c.put_projected.auto.out ∙ c.loop-i.invariant.1, rw (c.put_projected.ensures, c.spot-p.ensures, c.point_number.ensures.0) (projected_go _ _ _ _ _ c.loop-i-test.true ∙ c.loop-i.invariant.2))
-
-pub shape_of-out : goal.shape_of-out
-shape_of-out c = c.loop-i.invariant.1
+    rw (c.put_projected.ensures, c.spot-p.ensures, c.point_number.ensures.0) (projected_go _ _ _ _ _ c.loop-i-test.true ∙ c.loop-i.invariant)
 
 pub returns : goal.returns
 returns c =
-    sym (projected_end (projected c.args.axis c.args.flip) c.args.points.now _ _ c.loop-i.i c.loop-i-test.false) ∙ c.loop-i.invariant.2
+    sym (projected_end (projected c.args.axis c.args.flip) c.args.points.now _ _ c.loop-i.i c.loop-i-test.false) ∙ c.loop-i.invariant

@@ -1,14 +1,11 @@
 use mathlib.Core.List.{map}
 use mathlib.Core.Path.{◌≡◌}
-use Prim.Native.Nat.{◌≤◌, ◌-◌, ◌*◌}
-use lib.ListN.{length, drop}
+use Prim.Native.Nat.{◌*◌}
+use lib.ListN.{drop}
 use lib.Seq.{sets}
 use Rattle.polygon.specs.Plane.{flat2, projected}
 use Rattle.polygon.specs.Points.{spots}
 use Rattle.polygon.proofs.plane.put_projection.Given as goal
 
 abbrev pub invariant-loop-i : goal.invariant-loop-i
-invariant-loop-i l = (l.i ≤ length l.names) × (length l.out ≡ length l.initial.out) × (sets l.out (l.i * 2) (flat2 (map (projected l.axis l.flip) (spots l.points (drop l.i l.names)))) ≡ sets l.initial.out 0 (flat2 (map (projected l.axis l.flip) (spots l.points l.names))))
-
-abbrev pub decreases-loop-i : goal.decreases-loop-i
-decreases-loop-i l = length l.names - l.i
+invariant-loop-i l = sets l.out (l.i * 2) (flat2 (map (projected l.axis l.flip) (spots l.points (drop l.i l.names)))) ≡ sets l.initial.out 0 (flat2 (map (projected l.axis l.flip) (spots l.points l.names)))

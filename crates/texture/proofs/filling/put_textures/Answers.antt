@@ -1,58 +1,19 @@
 use Rattle.texture.proofs.Filled.{point_within, texture_read}
 use mathlib.Core.Path.{ap, refl}
 use native.Mathlib.Omega.{arith}
-use Rattle.lists.proofs.Pieces.{pieces_none, pieces_more, pieces_all, pieces_kept}
+use Rattle.lists.proofs.Pieces.{pieces_none, pieces_more, pieces_kept}
 use Rattle.mesh.specs.Words.{words2}
 use Rattle.texture.proofs.filling.put_textures.Goals as goal
 
 pub loop-c-init : goal.loop-c-init
 loop-c-init c = pieces_none
 
-pub overflow_add-corners : goal.overflow_add-corners
-overflow_add-corners c = omega (arith, c.requires.corners_below, c.requires.room, c.loop-c-test.true)
-
-pub bounds-work-corners : goal.bounds-work-corners
-bounds-work-corners c = omega (arith, c.requires.corners_below, c.requires.room, c.loop-c-test.true, c.loop-c.invariant.size)
-
-pub overflow_add-places : goal.overflow_add-places
-overflow_add-places c =
-    omega (arith, c.requires.places_below, c.requires.room, c.loop-c-test.true)
-
-pub bounds-work-places : goal.bounds-work-places
-bounds-work-places c =
-    omega (arith, c.requires.places_below, c.requires.room, c.loop-c-test.true, c.loop-c.invariant.size)
-
 pub texture_at-w-requires : goal.texture_at-w-requires
 texture_at-w-requires c =
     (c.requires.first, c.requires.second, rw c.wide.ensures (point_within _ _ _ _ _ _ _ _ _ _ c.requires (pieces_kept c.loop-c.invariant (omega (arith, c.requires.room))) c.loop-c-test.true), omega (arith, c.requires.points_below, c.requires.room, c.loop-c.invariant.size))
-
-pub overflow_mul-c : goal.overflow_mul-c
-overflow_mul-c c =
-    omega (arith, c.requires.room, c.loop-c-test.true)
-
-pub overflow_add-textures : goal.overflow_add-textures
-overflow_add-textures c =
-    omega (arith, c.requires.room, c.loop-c-test.true)
-
-pub put2-requires : goal.put2-requires
-put2-requires c =
-    omega (arith, c.requires.room, c.loop-c-test.true, c.loop-c.invariant.size)
-
-pub overflow_add-c : goal.overflow_add-c
-overflow_add-c c =
-    omega (arith, c.requires.few, c.loop-c-test.true)
-
-pub loop-c-smaller : goal.loop-c-smaller
-loop-c-smaller c = omega (arith, c.loop-c-test.true)
 
 pub loop-c-preserved : goal.loop-c-preserved
 loop-c-preserved c =
     let T = c.loop-c.invariant in
     let r = texture_read _ _ _ _ _ _ _ _ _ _ c.requires (pieces_kept T (omega (arith, c.requires.room))) c.loop-c-test.true _ _ _ _ _ _ _ c.wide.ensures c.wide-place.ensures c.texture_at-w.ensures in
     pieces_more 2 (λ t. refl) (omega (arith, c.requires.room)) T c.loop-c-test.true (omega arith) (ap words2 r) c.put2.ensures
-
-pub shape_of-work : goal.shape_of-work
-shape_of-work c = c.loop-c.invariant.size
-
-pub returns : goal.returns
-returns c = pieces_all c.loop-c.invariant c.loop-c-test.false

@@ -1,8 +1,0 @@
-use Rattle.mending.proofs.Fixing.{made_here}
-use Rattle.mending.proofs.mend.make_table.Goals as goal
-
-pub returns-then-made : goal.returns-then-made
-returns-then-made c = made_here _ _ _ _ _ c.requires.2 c.if-made.true
-
-pub returns : goal.returns
-returns c = c.first_normals.ensures

@@ -1,0 +1,13 @@
+use mathlib.Core.Path.{sym, ◌∙◌}
+use Rattle.mending.proofs.Fixing.{mend_scaled, mend_none}
+use Rattle.mending.proofs.NearOne.{near_kept}
+use Rattle.mending.proofs.mend.rescaled.Goals as goal
+
+pub returns-then-is_near_one : goal.returns-then-is_near_one
+returns-then-is_near_one c = λ other. sym (near_kept _ _ other _ _ c.floats_of-n.ensures c.dot.ensures c.bits_of.ensures (sym c.is_near_one.ensures ∙ c.if-is_near_one.true))
+
+pub returns-in_default : goal.returns-in_default
+returns-in_default c = λ other. mend_none _ _ other _ c.floats_of-n.ensures c.len-l.ensures (sym c.unit_by.ensures ∙ c.in_default.is)
+
+pub returns : goal.returns
+returns c = λ other. sym (mend_scaled _ _ _ _ other _ c.floats_of-n.ensures c.len-l.ensures (sym c.unit_by.ensures ∙ c.in-Some.is) c.scaled.ensures)
