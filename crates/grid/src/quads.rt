@@ -45,11 +45,9 @@ fn put_corners(work: &mut [u32], a: usize, n: usize, xd: usize)
     requires { (2 ≤ xd) × (xd ≤ most) × (n ≤ most) × ((c : ℕ) → c < n → corner_point xd c ≤ most) × (a + n ≤ length work.old) }
     ensures { work.new ≡ spliced work.old a (tab (corner_point xd) n 0) }
 {
-    let mut c = 0;
-    while c < n {
+    for c in 0..n {
         let p = corner_point(xd, CornerNumber(c));
         work[a + c] = narrow(p.0);
-        c += 1;
     }
 }
 
@@ -58,10 +56,8 @@ fn put_multiples(work: &mut [u32], a: usize, n: usize, by: usize)
     requires { (by * n ≤ most + by) × (a + n ≤ length work.old) }
     ensures { work.new ≡ spliced work.old a (tab (λ (j : ℕ). by * j) n 0) }
 {
-    let mut j = 0;
-    while j < n {
+    for j in 0..n {
         work[a + j] = narrow(by * j);
-        j += 1;
     }
 }
 

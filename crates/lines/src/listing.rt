@@ -65,10 +65,8 @@ fn list_run(
 {
     let n = run.len() / 4;
     let mut c = first;
-    let mut j = 0;
-    while j < n {
+    for j in 0..n {
         c = list_entry(work, t, wide(points), c, point_at(run, j), start + j, line);
-        j += 1;
     }
     c
 }

@@ -91,10 +91,8 @@ fn put_run(
         after: false,
         last: VertexNumber(0),
     };
-    let mut j = 0;
-    while j < n {
+    for j in 0..n {
         w = put_entry(point_at(run, j), wide(points), numbers, w, indices);
-        j += 1;
     }
     w
 }

@@ -31,9 +31,6 @@ grid_point-requires c =
 pub put3-requires : goal.put3-requires
 put3-requires c = omega (arith, c.loop-k.invariant.0, c.loop-k.invariant.2.size, c.requires.2)
 
-pub overflow_add-k : goal.overflow_add-k
-overflow_add-k c = omega (arith, c.loop-k.invariant.0, c.requires.0.few)
-
 pub loop-k-preserved : goal.loop-k-preserved
 loop-k-preserved c =
     let I = c.loop-k.invariant in

@@ -1,10 +1,6 @@
 use Rattle.grid.specs.Listings.{corner_point}
 use Rattle.lists.proofs.Pieces.{Singles}
-use Prim.Native.Nat.{◌-◌}
 use Rattle.grid.proofs.quads.put_corners.Given as goal
 
 abbrev pub invariant-loop-c : goal.invariant-loop-c
 invariant-loop-c l = Singles (corner_point l.xd) l.n l.initial.work l.a l.c l.work
-
-abbrev pub decreases-loop-c : goal.decreases-loop-c
-decreases-loop-c l = l.n - l.c

@@ -30,13 +30,6 @@ pub put2-requires : goal.put2-requires
 put2-requires c =
     omega (arith, c.requires.1.room, c.loop-c-test.true, c.loop-c.invariant.size)
 
-pub overflow_add-c : goal.overflow_add-c
-overflow_add-c c =
-    omega (arith, c.requires.1.few, c.loop-c-test.true)
-
-pub loop-c-smaller : goal.loop-c-smaller
-loop-c-smaller c = omega (arith, c.loop-c-test.true)
-
 pub loop-c-preserved : goal.loop-c-preserved
 loop-c-preserved c =
     let T = c.loop-c.invariant in
