@@ -18,10 +18,7 @@ fn closes(section: &[u8], m: usize) -> bool
     if 2 < m {
         let p = pair_at(section, m, 0);
         let q = pair_at(section, m, m - 1);
-        if p.s == q.s {
-            return p.t == q.t;
-        }
-        return false;
+        return p.s == q.s && p.t == q.t;
     }
     false
 }
@@ -66,12 +63,10 @@ fn section_fit(section: &[u8], m: usize) -> Fit
 {
     let mut a = nowhere();
     let mut b = nowhere();
-    let mut j = 0;
-    while j < m {
+    for j in 0..m {
         let p = pair_at(section, m, j);
         a = widen(a, p.s);
         b = widen(b, p.t);
-        j += 1;
     }
     Fit {
         s_axis: 0,

@@ -20,13 +20,7 @@ pub fn or(a: Unit, b: Unit) -> Unit
 fn same_point(a: V3, b: V3) -> bool
     ensures { result ≡ same3 a b }
 {
-    if a.x == b.x {
-        if a.y == b.y {
-            return a.z == b.z;
-        }
-        return false;
-    }
-    false
+    a.x == b.x && a.y == b.y && a.z == b.z
 }
 
 fn is_closed(s: &[u8], n: usize) -> bool
@@ -43,10 +37,7 @@ fn is_end(n: usize, i: usize) -> bool
     requires { 2 ≤ n }
     ensures { result ≡ is_end n i }
 {
-    if i == 0 {
-        return true;
-    }
-    i == n - 1
+    i == 0 || i == n - 1
 }
 
 // From point a to point b.
@@ -85,10 +76,8 @@ pub fn first_y(s: &[u8], n: usize) -> Unit
     ensures { result ≡ first_y (threes s.now n) }
 {
     let mut y = Unit::Nothing;
-    let mut i = 0;
-    while i < n {
+    for i in 0..n {
         y = or(y, y_own(s, n, i));
-        i += 1;
     }
     y
 }
@@ -132,10 +121,8 @@ pub fn first_z(s: &[u8], n: usize) -> Unit
     ensures { result ≡ first_z (threes s.now n) }
 {
     let mut z = Unit::Nothing;
-    let mut i = 0;
-    while i < n {
+    for i in 0..n {
         z = or(z, z_own(s, n, i));
-        i += 1;
     }
     z
 }

@@ -102,11 +102,9 @@ fn put_row(
     requires { (8 * m ≤ length section.now) × (k + 3 * m ≤ length work.old) }
     ensures { work.new ≡ spliced work.old k (row_words o (axes_of f) q sc (twos section.now m)) }
 {
-    let mut j = 0;
-    while j < m {
+    for j in 0..m {
         let p = placed(o, f, local(q, sc, pair_at(section, m, j)));
         put_point(work, k + j * 3, p);
-        j += 1;
     }
 }
 
@@ -133,8 +131,7 @@ fn put_rows(
     let y0 = first_y(spine, n);
     let mut y = y0;
     let mut prev = Unit::Nothing;
-    let mut i = 0;
-    while i < n {
+    for i in 0..n {
         y = or(y_own(spine, n, i), y);
         let z = pick_z(first, prev, z_own(spine, n, i));
         prev = Unit::Of(z);
@@ -149,7 +146,6 @@ fn put_rows(
             work,
             k + i * w,
         );
-        i += 1;
     }
 }
 

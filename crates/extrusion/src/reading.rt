@@ -10,12 +10,7 @@ ghost use Rattle.extrusion.specs.Given.{scale_count, turn_count};
 
 use block::{Header, Pair};
 use math::{Quat, V3};
-
-fn wide(n: u32) -> usize
-    ensures { result ≡ n }
-{
-    n as usize
-}
+use tables::wide;
 
 pub fn spine_count(h: Header) -> usize
     ensures { result ≡ spine_count h }

@@ -97,12 +97,10 @@ pub fn put_textures(
     requires { Measured block.now h floats.now at fit × (s ≡ settings_of block.now) × Cornered h corners numbers textures count work.old }
     ensures { work.new ≡ spliced work.old textures (texture_words (extrusion_texture (extrusion_of block.now) work.old corners numbers) count) }
 {
-    let mut c = 0;
-    while c < count {
+    for c in 0..count {
         let p = PointNumber(tables::wide(work[corners + c]));
         let f = tables::wide(work[numbers + c]);
         let w = corner_texture(block, h, s, floats, at, fit, f, p);
         put2(work, textures + 2 * c, w);
-        c += 1;
     }
 }

@@ -8,8 +8,8 @@ pub returns-then-p-q : goal.returns-then-p-q
 returns-then-p-q c =
     and_on _ _ c.if-p-q.true ∙ closes_long _ _ _ _ (count2 _ _) c.if-m-gt2.true c.pair_at-p.ensures c.pair_at-q.ensures
 
-pub returns-then-m-gt2 : goal.returns-then-m-gt2
-returns-then-m-gt2 c = and_off _ _ c.if-p-q.false ∙ closes_long _ _ _ _ (count2 _ _) c.if-m-gt2.true c.pair_at-p.ensures c.pair_at-q.ensures
+pub returns-else-p-q : goal.returns-else-p-q
+returns-else-p-q c = c.if-p-q.false ∙ and_off _ _ c.if-p-q.false ∙ closes_long _ _ _ _ (count2 _ _) c.if-m-gt2.true c.pair_at-p.ensures c.pair_at-q.ensures
 
 pub returns : goal.returns
 returns c = closes_short _ _ (count2 _ _) c.if-m-gt2.false

@@ -8,16 +8,15 @@ use native.Mathlib.Omega.{arith}
 use Rattle.extrusion.proofs.caps.section_fit.Goals as goal
 
 pub loop-j-init : goal.loop-j-init
-loop-j-init c = (omega arith, span_none _ _ _ c.nowhere-a.ensures, span_none _ _ _ c.nowhere-b.ensures)
+loop-j-init c = (span_none _ _ _ c.nowhere-a.ensures, span_none _ _ _ c.nowhere-b.ensures)
 
 pub loop-j-preserved : goal.loop-j-preserved
 loop-j-preserved c = (
-  omega arith,
-  span_more _ _ _ _ _ c.loop-j.invariant.1 (ap (λ (p : Pair). p.s) c.pair_at-p.ensures) c.widen-a.ensures,
-  span_more _ _ _ _ _ c.loop-j.invariant.2 (ap (λ (p : Pair). p.t) c.pair_at-p.ensures) c.widen-b.ensures,
+  span_more _ _ _ _ _ c.loop-j.invariant.0 (ap (λ (p : Pair). p.s) c.pair_at-p.ensures) c.widen-a.ensures,
+  span_more _ _ _ _ _ c.loop-j.invariant.1 (ap (λ (p : Pair). p.t) c.pair_at-p.ensures) c.widen-b.ensures,
 )
 
 pub returns : goal.returns
 returns c =
     let e : c.loop-j.j ≡ length (twos c.args.section.now c.args.m) = omega (arith, count2 c.args.section.now c.args.m) in
-    fit_is _ c.loop-j.j _ _ _ _ e c.loop-j.invariant.1 c.loop-j.invariant.2 c.max.ensures c.divisor_of.ensures
+    fit_is _ c.loop-j.j _ _ _ _ e c.loop-j.invariant.0 c.loop-j.invariant.1 c.max.ensures c.divisor_of.ensures

@@ -7,7 +7,7 @@ use native.Mathlib.Omega.{arith}
 use Rattle.extrusion.proofs.points.put_rows.Goals as goal
 
 pub loop-i-init : goal.loop-i-init
-loop-i-init c = (omega arith, omega arith, walk_start _ _ _ _ _ _ _ _ c.first_y-y0.ensures)
+loop-i-init c = walk_start _ _ _ _ _ _ _ _ c.first_y-y0.ensures
 
 pub y_own-requires : goal.y_own-requires
 y_own-requires c =
@@ -28,32 +28,21 @@ scale_at-requires c = c.requires.2
 
 pub overflow_mul-i : goal.overflow_mul-i
 overflow_mul-i c =
-    let r = piece_room _ _ (3 * c.args.m) _ _ c.requires.5 c.loop-i-test.true in omega (arith, r, c.loop-i.invariant.0)
+    let r = piece_room _ _ (3 * c.args.m) _ _ c.requires.5 c.loop-i-test.true in omega (arith, r)
 
 pub overflow_add-k : goal.overflow_add-k
 overflow_add-k c =
-    let r = piece_room _ _ (3 * c.args.m) _ _ c.requires.5 c.loop-i-test.true in omega (arith, r, c.loop-i.invariant.0)
+    let r = piece_room _ _ (3 * c.args.m) _ _ c.requires.5 c.loop-i-test.true in omega (arith, r)
 
 pub put_row-requires : goal.put_row-requires
 put_row-requires c =
-    let r = piece_room _ _ (3 * c.args.m) _ _ c.requires.5 c.loop-i-test.true in (c.requires.1, omega (arith, r, c.loop-i.invariant.2.rows.size))
-
-pub overflow_add-i : goal.overflow_add-i
-overflow_add-i c =
-    omega (arith, c.loop-i-test.true, c.loop-i.invariant.1)
-
-pub loop-i-smaller : goal.loop-i-smaller
-loop-i-smaller c = omega (arith, c.loop-i-test.true)
+    let r = piece_room _ _ (3 * c.args.m) _ _ c.requires.5 c.loop-i-test.true in (c.requires.1, omega (arith, r, c.loop-i.invariant.rows.size))
 
 pub loop-i-preserved : goal.loop-i-preserved
-loop-i-preserved c = (
-  c.loop-i.invariant.0,
-  c.loop-i.invariant.1,
-  walk_step _ _ _ _ _ _ _ _ _ _ _ _ _ _ _ _ _ _ _ _ _ _ _ c.loop-i.invariant.2 (count2 _ _) c.requires.5 c.loop-i-test.true c.first_z-first.ensures c.first_y-y0.ensures c.y_own.ensures c.or-y.ensures c.z_own.ensures c.pick_z-z.ensures c.axes_by-f.ensures c.spine_at.ensures c.turn_at.ensures c.scale_at.ensures c.put_row.ensures,
-)
+loop-i-preserved c = walk_step _ _ _ _ _ _ _ _ _ _ _ _ _ _ _ _ _ _ _ _ _ _ _ c.loop-i.invariant (count2 _ _) c.requires.5 c.loop-i-test.true c.first_z-first.ensures c.first_y-y0.ensures c.y_own.ensures c.or-y.ensures c.z_own.ensures c.pick_z-z.ensures c.axes_by-f.ensures c.spine_at.ensures c.turn_at.ensures c.scale_at.ensures c.put_row.ensures
 
 pub shape_of-work : goal.shape_of-work
-shape_of-work c = c.loop-i.invariant.2.rows.size
+shape_of-work c = c.loop-i.invariant.rows.size
 
 pub returns : goal.returns
-returns c = pieces_all c.loop-i.invariant.2.rows c.loop-i-test.false
+returns c = pieces_all c.loop-i.invariant.rows c.loop-i-test.false
