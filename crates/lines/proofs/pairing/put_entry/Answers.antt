@@ -26,4 +26,4 @@ returns-then-e-points c =
 pub returns : goal.returns
 unfolding last_of
 returns c =
-    let v = vertex_past c.args.points c.args.numbers.now c.args.w.corner.0 c.if-e-points.false in record { added = rw v (line_none (last_of c.args.w.after c.args.w.last.0) _ _); corner = sym (corner_past _ _ c.if-e-points.false); last = sym v; fits = omega arith }
+    let v = vertex_past c.args.points c.args.numbers.now c.args.w.corner.0 c.if-e-points.false in record { added = rw v (line_none (last_of c.args.w.last) _ _); corner = sym (corner_past _ _ c.if-e-points.false); last = sym v; fits = omega arith }
