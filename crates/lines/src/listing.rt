@@ -81,6 +81,7 @@ pub fn list_entries(coord: &[u8], points: u32, work: &mut [u32], t: CornerTables
     let mut c = CornerNumber(0);
     let mut line = 0;
     let mut start = 0;
+    // A while: the next start is where the run ends, so no range counts it.
     while start < n {
         let run = run_at(coord, start);
         c = list_run(run, points, work, t, c, start, line);

@@ -110,6 +110,7 @@ pub fn put_lines(
         last: None,
     };
     let mut start = 0;
+    // A while: the next start is where the run ends, so no range counts it.
     while start < n {
         let run = run_at(coord, start);
         w = put_run(run, points, &work[named..to], w, indices);
