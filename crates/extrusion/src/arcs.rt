@@ -1,30 +1,30 @@
 // FORMAT 8.4, arc_params: how far along the cross-section, and along the spine, each of its points is.
-ghost use Rattle.std.specs.Prelude.{◌≡◌, ℕ, Float, ◌++◌, ◌+◌, ◌-◌, ◌*◌, ◌≤◌, ◌<◌, length, pos};
+ghost use Rattle.std.specs.Prelude.{◌≡◌, ℕ, Float, ◌++◌, ◌+◌, ◌-◌, ◌^◌, ◌≤◌, ◌<◌, length, pos};
 ghost use Rattle.std.specs.Float.{binary32};
 ghost use Rattle.std.specs.Float.Ieee.{of_int};
 ghost use Rattle.mesh.specs.Arcs as spec;
 ghost use Rattle.mesh.specs.Arcs.{step2, step3, length_to, arcs, arcs2, arcs3};
-ghost use Rattle.mesh.specs.Extrusion.{spine_count, section_count, threes, twos, extrusion_of};
+ghost use Rattle.mesh.specs.Extrusion.{spine_count, section_count, extrusion_of};
 ghost use Rattle.lists.specs.Parts.{spliced};
 ghost use Rattle.extrusion.specs.Given.{Given};
 
 use crate::frames::step;
-use crate::reading::{pair_at, section_count, spine_count};
+use crate::reading::{Pairs, Points, section_of, spine_of};
 use block::Header;
 
-fn spine_step(b: &[u8], n: usize, i: usize) -> f32
-    requires { (12 * n ≤ length b.now) × (i + 1 < n) }
-    ensures { result ≡ step3 (threes b.now n) i }
+fn spine_step(spine: &Points, i: usize) -> f32
+    requires { (i + 1 < length spine.now) × (length spine.now < 2 ^ 64) }
+    ensures { result ≡ step3 spine.now i }
 {
-    math::len(step(b, n, i, i + 1))
+    math::len(step(spine, i, i + 1))
 }
 
-fn section_step(b: &[u8], n: usize, i: usize) -> f32
-    requires { (8 * n ≤ length b.now) × (i + 1 < n) }
-    ensures { result ≡ step2 (twos b.now n) i }
+fn section_step(section: &Pairs, i: usize) -> f32
+    requires { (i + 1 < length section.now) × (length section.now < 2 ^ 64) }
+    ensures { result ≡ step2 section.now i }
 {
-    let p = pair_at(b, n, i + 1);
-    let q = pair_at(b, n, i);
+    let p = section.at(i + 1);
+    let q = section.at(i);
     let x = p.s - q.s;
     let y = p.t - q.t;
     math::root(x * x + y * y)
@@ -95,10 +95,9 @@ pub fn put_arcs(block: &[u8], h: Header, floats: &mut [f32], at: usize)
     ensures { floats.new ≡ spliced floats.old at
         (arcs2 (extrusion_of block.now).section ++ arcs3 (extrusion_of block.now).spine) }
 {
-    let n = spine_count(h);
-    let m = section_count(h);
-    let spine = block::list_part(block, h, 0);
-    let section = block::list_part(block, h, 1);
-    put_params(m, |i| section_step(section, m, i), floats, at);
-    put_params(n, |i| spine_step(spine, n, i), floats, at + m);
+    let spine = spine_of(block, h);
+    let section = section_of(block, h);
+    let m = section.len();
+    put_params(m, |i| section_step(&section, i), floats, at);
+    put_params(spine.len(), |i| spine_step(&spine, i), floats, at + m);
 }

@@ -10,7 +10,7 @@ ghost use Rattle.lists.specs.Parts.{spliced};
 ghost use Rattle.texture.specs.Textured.{texture_words};
 ghost use Rattle.extrusion.specs.Corners.{texture_of, extrusion_corner, extrusion_texture, Measured, Cornered};
 
-use crate::reading::{pair_at, section_count, spine_count};
+use crate::reading::{section_count, section_of, spine_count};
 use bits::Words2;
 use block::{Header, Pair, PointNumber, Settings};
 use mesh::Fit;
@@ -55,7 +55,7 @@ fn plain_texture(
     if number < (n - 1) * (m - 1) {
         return side_texture(floats, at + col, at + (m + point.0 / m));
     }
-    cap_texture(fit, pair_at(block::list_part(block, h, 1), m, col))
+    cap_texture(fit, section_of(block, h).at(col))
 }
 
 // The texture words of a corner, by its face's number and its point.

@@ -1,6 +1,4 @@
 use Rattle.extrusion.proofs.Planes.{first_step}
-use Rattle.extrusion.proofs.Values.{count3}
-use Rattle.mesh.specs.Extrusion.{threes}
 use Rattle.mesh.specs.Frames.{first_of, first_z}
 use lib.ListN.{length}
 use mathlib.Core.Path.{◌≡◌, refl}
@@ -17,4 +15,4 @@ loop-i-preserved c = first_step _ _ _ _ _ c.loop-i.invariant c.z_own.ensures c.o
 pub returns : goal.returns
 unfolding first_z
 returns c =
-    let e : c.loop-i.i ≡ length (threes c.args.s.now c.args.n) = omega (arith, count3 c.args.s.now c.args.n) in rw e at c.loop-i.invariant
+    let e : c.loop-i.i ≡ length c.args.s.now = omega arith in rw e at c.loop-i.invariant

@@ -1,6 +1,5 @@
 use Rattle.lists.proofs.Pieces.{singles_none, singles_more, singles_all}
 use mathlib.Core.Path.{◌∙◌}
-use native.Mathlib.Omega.{arith}
 use Rattle.tables.proofs.each.put_each.Goals as goal
 
 pub loop-j-init : goal.loop-j-init
