@@ -97,6 +97,7 @@ pub fn put_textures(
     requires { Measured block.now h floats.now at fit × (s ≡ settings_of block.now) × Cornered h corners numbers textures count work.old }
     ensures { work.new ≡ spliced work.old textures (texture_words (extrusion_texture (extrusion_of block.now) work.old corners numbers) count) }
 {
+    // A loop of its own, as in texture and grid: each reads other tables of `work`, and a shared one would take this body back as a closure.
     for c in 0..count {
         let p = PointNumber(tables::wide(work[corners + c]));
         let f = tables::wide(work[numbers + c]);
