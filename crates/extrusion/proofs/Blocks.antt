@@ -18,7 +18,9 @@ use Rattle.block.proofs.ExtentLaws.{widths_of, size_by, list_length}
 use Rattle.lists.specs.Loops.{tab}
 use Rattle.lists.proofs.Tabs.{tab_same}
 use Rattle.lists.specs.Lists.{flat}
-use Rattle.mesh.specs.Extrusion.{spine_count, section_count, threes, twos, turn_in, section_of, extrusion_of, row_at, extrusion_points}
+use Rattle.math.specs.declared.vector.V3.{V3}
+use Rattle.block.specs.declared.texture.Pair.{Pair}
+use Rattle.mesh.specs.Extrusion.{Extrusion as Whole, spine_count, section_count, threes, twos, turn_in, section_of, extrusion_of, row_at, extrusion_points}
 use Rattle.mesh.specs.Sizes.{extrusion_sizes, is_no_extrusion, is_no_shape}
 use Rattle.mesh.proofs.Sizes.{extrusion_points_lem}
 use Rattle.lists.specs.Parts.{spliced}
@@ -46,33 +48,29 @@ module _ {bs : List ℕ} {h : Header} (G : Given bs h) where
   pub turn_room : (b : List ℕ) (n : ℕ) → b ≡ list_bytes bs h 3 → n ≡ turn_count h → 20 * n ≤ length b
   turn_room b n e q = omega (arith, ap length e, list_size_lem 3)
 
--- the points of the block
-by_header : (bs : List ℕ) → rows_by (threes (list_bytes bs (header_of bs) 0) (spine_count (header_of bs))) (twos (list_bytes bs (header_of bs) 1) (section_count (header_of bs)))
-    (twos (list_bytes bs (header_of bs) 2) (scale_count (header_of bs))) (tab (turn_in (list_bytes bs (header_of bs) 3)) (turn_count (header_of bs)) 0) (spine_count (header_of bs))
-    ≡ extrusion_points (extrusion_of bs)
-unfolding extrusion_points extrusion_of section_of row_at row_by
-by_header bs =
-    ap flat (tab_same _ (row_at (extrusion_of bs)) (spine_count (header_of bs)) (λ i l. refl)
-    ∙ ap (λ (n : ℕ). tab (row_at (extrusion_of bs)) n 0) (count3 (list_bytes bs (header_of bs) 0) (spine_count (header_of bs))))
-
-points_of_lem : (bs : List ℕ) (h : Header) → h ≡ header_of bs
-    → rows_by (threes (list_bytes bs h 0) (spine_count h)) (twos (list_bytes bs h 1) (section_count h)) (twos (list_bytes bs h 2) (scale_count h)) (tab (turn_in (list_bytes bs h 3)) (turn_count h) 0)
-    (spine_count h) ≡ extrusion_points (extrusion_of bs)
-points_of_lem bs h e =
-    ap (λ (h : Header).
-    rows_by (threes (list_bytes bs h 0) (spine_count h)) (twos (list_bytes bs h 1) (section_count h)) (twos (list_bytes bs h 2) (scale_count h)) (tab (turn_in (list_bytes bs h 3)) (turn_count h) 0)
-    (spine_count h)) e
-    ∙ by_header bs
+-- the points, by the lists
+points_by : (E : Whole) → rows_by E.spine E.section E.scales E.turns (length E.spine) ≡ extrusion_points E
+unfolding extrusion_points row_at row_by
+points_by E = ap flat (tab_same _ (row_at E) (length E.spine) (λ i l. refl))
 
 pub points_length : (bs : List ℕ) (h : Header) → h ≡ header_of bs → length (extrusion_points (extrusion_of bs)) ≡ 3 * (spine_count h * section_count h)
 unfolding extrusion_sizes
 points_length bs h e = extrusion_points_lem bs ∙ ap (λ (h : Header). 3 * (spine_count h * section_count h)) (sym e)
 
-pub points_put : {bs : List ℕ} {h : Header} (G : Given bs h) (l made a b c d : List ℕ) (n m i j k : ℕ)
-    → a ≡ list_bytes bs h 0 → n ≡ spine_count h → b ≡ list_bytes bs h 1 → m ≡ section_count h → c ≡ list_bytes bs h 2 → i ≡ scale_count h → d ≡ list_bytes bs h 3 → j ≡ turn_count h
-    → made ≡ spliced l k (rows_by (threes a n) (twos b m) (twos c i) (tab (turn_in d) j 0) n) → made ≡ spliced l k (extrusion_points (extrusion_of bs))
-points_put {bs} {h} G l made a b c d n m i j k ea en eb em ec ei ed ej e =
-    e ∙ (λ t. spliced l k (rows_by (threes (ea t) (en t)) (twos (eb t) (em t)) (twos (ec t) (ei t)) (tab (turn_in (ed t)) (ej t) 0) (en t))) ∙ ap (spliced l k) (points_of_lem bs h G.head)
+pub scales_of : (bs : List ℕ) (h : Header) → h ≡ header_of bs → twos (list_bytes bs h 2) (scale_count h) ≡ (extrusion_of bs).scales
+unfolding extrusion_of
+scales_of bs h e = ap (λ (h : Header). twos (list_bytes bs h 2) (scale_count h)) e
+
+turns_of : (bs : List ℕ) (h : Header) → h ≡ header_of bs → tab (turn_in (list_bytes bs h 3)) (turn_count h) 0 ≡ (extrusion_of bs).turns
+unfolding extrusion_of
+turns_of bs h e = ap (λ (h : Header). tab (turn_in (list_bytes bs h 3)) (turn_count h) 0) e
+
+pub points_put : (bs : List ℕ) (h : Header) → h ≡ header_of bs → (l made d : List ℕ) (sp : List V3) (cs scs : List Pair) (j k : ℕ)
+    → sp ≡ (extrusion_of bs).spine → cs ≡ (extrusion_of bs).section → scs ≡ (extrusion_of bs).scales → d ≡ list_bytes bs h 3 → j ≡ turn_count h
+    → made ≡ spliced l k (rows_by sp cs scs (tab (turn_in d) j 0) (length sp)) → made ≡ spliced l k (extrusion_points (extrusion_of bs))
+points_put bs h e l made d sp cs scs j k es ec ef ed ej em =
+    let et : tab (turn_in d) j 0 ≡ (extrusion_of bs).turns = (λ t. tab (turn_in (ed t)) (ej t) 0) ∙ turns_of bs h e in
+    em ∙ (λ t. spliced l k (rows_by (es t) (ec t) (ef t) (et t) (length (es t)))) ∙ ap (spliced l k) (points_by (extrusion_of bs))
 
 -- a count is small enough to be a float
 module _ {bs : List ℕ} {h : Header} (G : Given bs h) where
@@ -85,6 +83,10 @@ module _ {bs : List ℕ} {h : Header} (G : Given bs h) where
 pub section_of_lem : (bs : List ℕ) (h : Header) → h ≡ header_of bs → twos (list_bytes bs h 1) (section_count h) ≡ (extrusion_of bs).section
 unfolding extrusion_of section_of
 section_of_lem bs h e = ap (λ (h : Header). twos (list_bytes bs h 1) (section_count h)) e
+
+pub section_same : (bs : List ℕ) (h : Header) → h ≡ header_of bs → (extrusion_of bs).section ≡ section_of bs h
+unfolding section_of
+section_same bs h e = sym (section_of_lem bs h e)
 
 pub spine_of : (bs : List ℕ) (h : Header) → h ≡ header_of bs → threes (list_bytes bs h 0) (spine_count h) ≡ (extrusion_of bs).spine
 unfolding extrusion_of

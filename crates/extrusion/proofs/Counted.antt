@@ -1,5 +1,5 @@
 -- FORMAT 4, 8.4: the listed faces have as many corners as C says, three or more each, and each corner names one of P points.
-use mathlib.Core.Path.{◌≡◌, refl, ap, ◌∙◌}
+use mathlib.Core.Path.{◌≡◌, refl, ◌∙◌}
 use mathlib.Core.Bool.{Bool, true, false}
 use mathlib.Core.List.{List}
 use Prim.Native.Nat.{ℕ, ◌+◌, ◌*◌, ◌≤◌, ◌<◌}
@@ -43,6 +43,3 @@ faces_third h cap = go (has_cap h.begin_cap cap) (has_cap h.end_cap cap) refl re
     go true false p q = let c = three_there cap h.begin_cap p in omega arith
     go false true p q = let c = three_there cap h.end_cap q in omega arith
     go false false p q = omega arith
-
-pub caps_by : (h : Header) (cap : ℕ) {x y : Bool} {a b : ℕ} → x ≡ has_cap h.begin_cap cap → a ≡ one x → y ≡ has_cap h.end_cap cap → b ≡ one y → a + b ≡ cap_count h cap
-caps_by h cap ex ea ey eb = λ i. (ea ∙ ap one ex) i + (eb ∙ ap one ey) i

@@ -1,5 +1,5 @@
 -- FORMAT 8.4: laws of the caps: whether the cross-section closes, and how it fits the texture.
-use mathlib.Core.Path.{◌≡◌, refl, ap, ◌∙◌}
+use mathlib.Core.Path.{◌≡◌, refl}
 use mathlib.Core.Bool.{Bool, true, false, ◌&&◌}
 use mathlib.Core.List.{List}
 use Prim.Native.Nat.{ℕ, ◌+◌, ◌-◌, ◌≤◌, ◌<◌}
@@ -8,14 +8,12 @@ use borrow.Author.Tests.{lt-ltb, le-ltb}
 use lib.ListN.{length}
 use lib.Ieee.{Float, binary32, sub, eq}
 use Rattle.math.specs.Order.{max_of}
-use Rattle.block.specs.declared.header.Header.{Header}
 use Rattle.block.specs.declared.texture.Pair.{Pair}
-use Rattle.block.specs.Extents.{list_bytes}
 use Rattle.mesh.specs.declared.texture.Span.{Span}
 use Rattle.mesh.specs.declared.texture.Fit.{Fit}
 use Rattle.mesh.specs.Texture.{widened, span_of, divisor}
 use Rattle.mesh.specs.Arcs.{at2}
-use Rattle.mesh.specs.Extrusion.{section_count, twos, section_of, closes, ring_of, cap_length, cap_fit}
+use Rattle.mesh.specs.Extrusion.{closes, ring_of, cap_length, cap_fit}
 
 pub closes_long : (l : List Pair) (m : ℕ) (p q : Pair) → m ≡ length l → 2 < m → p ≡ at2 l 0 → q ≡ at2 l (m - 1) → (eq p.s q.s && eq p.t q.t) ≡ closes l
 unfolding closes
@@ -25,35 +23,22 @@ pub closes_short : (l : List Pair) (m : ℕ) → m ≡ length l → m ≤ 2 → 
 unfolding closes
 closes_short l m em h = rw (← em, le-ltb 2 m h) refl
 
--- the cross-section by its bytes
-module _ (bs : List ℕ) (h : Header) (b : List ℕ) (m : ℕ) (eb : b ≡ list_bytes bs h 1) (em : m ≡ section_count h) where
-  section_by : twos b m ≡ section_of bs h
-  unfolding section_of
-  section_by = λ t. twos (eb t) (em t)
+module _ (l : List Pair) (m : ℕ) (t : Bool) (et : t ≡ closes l) where
+  pub cap_closed : m ≡ length l → t ≡ true → m - 1 ≡ cap_length l
+  unfolding cap_length
+  cap_closed el e = rw (← et, e, ← el) refl
 
-  pub cap_closed : (t : Bool) → m ≡ length (twos b m) → t ≡ closes (twos b m) → t ≡ true → m - 1 ≡ cap_length (section_of bs h)
-  cap_closed t el et e = go (twos b m) el et ∙ ap cap_length section_by
-    where
-      go : (l : List Pair) → m ≡ length l → t ≡ closes l → m - 1 ≡ cap_length l
-      go l el et = unfold cap_length in rw (← et, e, ← el) refl
+  pub cap_open : m ≡ length l → t ≡ false → m ≡ cap_length l
+  unfolding cap_length
+  cap_open el e = rw (← et, e, ← el) refl
 
-  pub cap_open : (t : Bool) → m ≡ length (twos b m) → t ≡ closes (twos b m) → t ≡ false → m ≡ cap_length (section_of bs h)
-  cap_open t el et e = go (twos b m) el et ∙ ap cap_length section_by
-    where
-      go : (l : List Pair) → m ≡ length l → t ≡ closes l → m ≡ cap_length l
-      go l el et = unfold cap_length in rw (← et, e, ← el) refl
+  pub ring_closed : m ≡ length l → t ≡ true → m ≡ ring_of l
+  unfolding ring_of
+  ring_closed el e = rw (← et, e, ← el) refl
 
-  pub ring_closed : (t : Bool) → m ≡ length (twos b m) → t ≡ closes (twos b m) → t ≡ true → m ≡ ring_of (section_of bs h)
-  ring_closed t el et e = go (twos b m) el et ∙ ap ring_of section_by
-    where
-      go : (l : List Pair) → m ≡ length l → t ≡ closes l → m ≡ ring_of l
-      go l el et = unfold ring_of in rw (← et, e, ← el) refl
-
-  pub ring_open : (t : Bool) → t ≡ closes (twos b m) → t ≡ false → 0 ≡ ring_of (section_of bs h)
-  ring_open t et e = go (twos b m) et ∙ ap ring_of section_by
-    where
-      go : (l : List Pair) → t ≡ closes l → 0 ≡ ring_of l
-      go l et = unfold ring_of in rw (← et, e) refl
+  pub ring_open : t ≡ false → 0 ≡ ring_of l
+  unfolding ring_of
+  ring_open e = rw (← et, e) refl
 
 pub span_none : (s : Span) (f g : ℕ → Float) → s ≡ span_of f 0 → s ≡ span_of g 0
 unfolding span_of

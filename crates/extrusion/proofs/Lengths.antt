@@ -1,8 +1,8 @@
 -- FORMAT 8.4: laws of arc parameters.
 use mathlib.Core.Path.{◌≡◌, refl, ap, ◌∙◌}
-use mathlib.Core.Bool.{Bool, true, false}
+use mathlib.Core.Bool.{true, false}
 use mathlib.Core.List.{List, ◌++◌}
-use Prim.Native.Nat.{ℕ, ◌+◌, ◌-◌, ◌*◌, ◌≤◌}
+use Prim.Native.Nat.{ℕ, ◌+◌, ◌-◌, ◌≤◌}
 use native.Mathlib.Numerals.{add-one}
 use native.Mathlib.Omega.{arith}
 use lib.ListN.{length}
@@ -13,15 +13,12 @@ use Rattle.math.specs.declared.vector.V3.{V3}
 use Rattle.math.specs.Vector.{zero_f, vlen}
 use Rattle.block.specs.declared.header.Header.{Header}
 use Rattle.block.specs.declared.texture.Pair.{Pair}
-use Rattle.block.specs.Extents.{list_bytes}
 use Rattle.mesh.specs.Frames.{step}
 use Rattle.mesh.specs.Arcs.{at2, counted, length_to, share, arcs, step2, step3, hypot, arcs2, arcs3}
-use Rattle.mesh.specs.Extrusion.{spine_count, section_count, threes, twos, extrusion_of}
+use Rattle.mesh.specs.Extrusion.{spine_count, section_count, extrusion_of}
 use Rattle.lists.specs.Parts.{spliced}
 use Rattle.extrusion.specs.Given.{Given}
-use Rattle.extrusion.specs.Steps.{step_of, bytes_of}
-use Rattle.extrusion.proofs.Values.{count2, count3}
-use Rattle.extrusion.proofs.Blocks.{section_of_lem, spine_of}
+use Rattle.extrusion.proofs.Blocks.{section_long, spine_long}
 use Rattle.lists.proofs.Splices.{splice_more}
 use Rattle.lists.proofs.Pieces.{Singles, singles_all}
 
@@ -32,21 +29,6 @@ step3_is l i v r ev er = er ∙ ap vlen ev
 pub step2_is : (l : List Pair) (i : ℕ) (p q : Pair) (r : Float) → p ≡ at2 l (i + 1) → q ≡ at2 l i → r ≡ hypot (sub binary32 p.s q.s) (sub binary32 p.t q.t) → r ≡ step2 l i
 unfolding step2
 step2_is l i p q r ep eq er = rw (er, ep, eq) refl
-
-module _ (w : Bool) (b : List ℕ) (n : ℕ) where
-  pub three_room : w ≡ true → bytes_of w * n ≤ length b → 12 * n ≤ length b
-  three_room e h = rw e at h
-
-  pub two_room : w ≡ false → bytes_of w * n ≤ length b → 8 * n ≤ length b
-  two_room e h = rw e at h
-
-  pub step_three : (i : ℕ) (r : Float) → w ≡ true → r ≡ step3 (threes b n) i → r ≡ step_of w b n i
-  unfolding step_of
-  step_three i r e er = rw (er, e) refl
-
-  pub step_two : (i : ℕ) (r : Float) → w ≡ false → r ≡ step2 (twos b n) i → r ≡ step_of w b n i
-  unfolding step_of
-  step_two i r e er = rw (er, e) refl
 
 pub length_start : (d : ℕ → Float) → zero_f ≡ length_to d 0
 unfolding length_to
@@ -82,22 +64,15 @@ length_arcs d n = length_tab (λ i. share (length_to d (n - 1)) (n - 1) i (lengt
 
 -- ---- of a block
 
-section_arcs : (b : List ℕ) (n : ℕ) → arcs (step_of false b n) n ≡ arcs2 (twos b n)
-unfolding step_of
-section_arcs b n = ap (arcs (step2 (twos b n))) (count2 b n)
-
-spine_arcs : (b : List ℕ) (n : ℕ) → arcs (step_of true b n) n ≡ arcs3 (threes b n)
-unfolding step_of
-spine_arcs b n = ap (arcs (step3 (threes b n))) (count3 b n)
-
-pub arcs_put : {bs : List ℕ} {h : Header} (G : Given bs h) (l l' l'' : List Float) (a b : List ℕ) (n m k : ℕ) → a ≡ list_bytes bs h 1 → m ≡ section_count h → b ≡ list_bytes bs h 0 → n ≡ spine_count h
-    → k + (m + n) ≤ length l → l' ≡ spliced l k (arcs (step_of false a m) m) → l'' ≡ spliced l' (k + m) (arcs (step_of true b n) n)
+pub arcs_put : {bs : List ℕ} {h : Header} (G : Given bs h) (l l' l'' : List Float) (cs : List Pair) (sp : List V3) (m n k : ℕ) → cs ≡ (extrusion_of bs).section → m ≡ length cs → sp ≡ (extrusion_of bs).spine → n ≡ length sp
+    → k + (section_count h + spine_count h) ≤ length l → l' ≡ spliced l k (arcs (step2 cs) m) → l'' ≡ spliced l' (k + m) (arcs (step3 sp) n)
     → l'' ≡ spliced l k (arcs2 (extrusion_of bs).section ++ arcs3 (extrusion_of bs).spine)
-arcs_put {bs} {h} G l l' l'' a b n m k ea em eb en room e f =
-    let p = arcs (step_of false a m) m in
-    let q = arcs (step_of true b n) n in
-    let lp = length_arcs (step_of false a m) m in
-    let lq = length_arcs (step_of true b n) n in
-    let ep : p ≡ arcs2 (extrusion_of bs).section = section_arcs a m ∙ ap arcs2 ((λ t. twos (ea t) (em t)) ∙ section_of_lem bs h G.head) in
-    let eq : q ≡ arcs3 (extrusion_of bs).spine = spine_arcs b n ∙ ap arcs3 ((λ t. threes (eb t) (en t)) ∙ spine_of bs h G.head) in
+arcs_put {bs} {h} G l l' l'' cs sp m n k ec em es en room e f =
+    let p = arcs (step2 cs) m in
+    let q = arcs (step3 sp) n in
+    let lp = length_arcs (step2 cs) m in
+    let lq = length_arcs (step3 sp) n in
+    let ep : p ≡ arcs2 (extrusion_of bs).section = ap (arcs (step2 cs)) em ∙ ap arcs2 ec in
+    let eq : q ≡ arcs3 (extrusion_of bs).spine = ap (arcs (step3 sp)) en ∙ ap arcs3 es in
+    let fits : k + (m + n) ≤ length l = omega (arith, em, en, ap length ec, ap length es, section_long G, spine_long G) in
     f ∙ ap (λ (r : List Float). spliced r (k + m) q) e ∙ splice_more l k (k + m) p q (omega arith) (omega arith) ∙ (λ t. spliced l k (ep t ++ eq t))

@@ -5,7 +5,6 @@ use mathlib.Core.List.{List, [], ◌++◌, append_assoc, append-nil, reverse}
 use Prim.Native.Nat.{ℕ, suc, ◌+◌, ◌-◌, ◌*◌, ◌≤◌, ◌<◌}
 use native.Mathlib.Nat.{suc-mul, mul-le-mul_right}
 use native.Mathlib.Omega.{arith}
-use lib.Dec.{leb}
 use lib.ListN.{length, set, length-append}
 use Rattle.lists.specs.Loops.{tab}
 use Rattle.lists.specs.Lists.{flat}
@@ -43,12 +42,6 @@ rows_most n m i h l =
     omega (arith, suc-mul (suc i) m, suc-mul i m)
 
 -- ---- caps
-
-pub cap_yes : (w : Bool) (cap : ℕ) (r : Bool) → w ≡ true → r ≡ leb 3 cap → r ≡ has_cap w cap
-cap_yes w cap r e f = rw e f
-
-pub cap_no : (w : Bool) (cap : ℕ) → w ≡ false → false ≡ has_cap w cap
-cap_no w cap e = rw e refl
 
 module _ (w : Bool) (cap : ℕ) (t : Bool) (e : t ≡ has_cap w cap) where
   pub begin_yes : t ≡ true → flat (begin_points w cap) ≡ tab (λ j. cap - 1 - j) cap 0

@@ -158,9 +158,6 @@ module _ {h : Header} {cap len : ℕ} {t : Plan} (P : Planned h cap len t) where
   pub room_places : t.places + t.count ≤ len
   room_places = let R = P.room in omega arith
 
-  pub room_numbers : t.numbers + t.faces ≤ len
-  room_numbers = let R = P.room in omega arith
-
 -- the counts of the plan are those of the faces, for n spine and m cross-section points
 module _ {h : Header} {cap len : ℕ} {t : Plan} (P : Planned h cap len t) (n m : ℕ) (en : n ≡ spine_count h) (em : m ≡ section_count h) where
   faces_planned : t.faces ≡ length (face_points n m cap h.begin_cap h.end_cap)

@@ -16,11 +16,10 @@ use Rattle.block.specs.declared.settings.Settings.{Settings}
 use Rattle.block.specs.declared.texture.Pair.{Pair}
 use Rattle.block.specs.Settings.{settings_of}
 use Rattle.block.specs.Texture.{uv_words}
-use Rattle.block.specs.Extents.{list_bytes}
 use Rattle.mesh.specs.declared.texture.Fit.{Fit}
 use Rattle.mesh.specs.Words.{no2}
 use Rattle.mesh.specs.Arcs.{at2, step2, step3, arcs2, arcs3}
-use Rattle.mesh.specs.Extrusion.{Extrusion, spine_count, section_count, twos, extrusion_of, side_texture, cap_fit, cap_texture, corner_at}
+use Rattle.mesh.specs.Extrusion.{Extrusion, spine_count, section_count, extrusion_of, side_texture, cap_fit, cap_texture, corner_at}
 use Rattle.lists.specs.Parts.{spliced, Kept}
 use Rattle.lists.proofs.Keep.{kept_at}
 use Rattle.lists.proofs.Splices.{put_part}
@@ -28,7 +27,7 @@ use Rattle.lists.proofs.Lists.{get_d_any}
 use Rattle.extrusion.specs.Given.{Given}
 use Rattle.extrusion.specs.Listings.{use_of}
 use Rattle.extrusion.specs.Corners.{texture_of, extrusion_corner, extrusion_texture, Measured, Cornered}
-use Rattle.extrusion.proofs.Blocks.{section_of_lem, spine_few, section_few, section_long, spine_long, head_is, settings_are}
+use Rattle.extrusion.proofs.Blocks.{spine_few, section_few, section_long, spine_long, head_is, settings_are}
 use Rattle.extrusion.proofs.Lengths.{length_arcs}
 
 -- the product of the sides fits
@@ -116,10 +115,9 @@ module _ {bs : List ℕ} {h : Header} {floats : List Float} {at : ℕ} {fit : Fi
       texture_side (extrusion_of bs) number p n m (en ∙ spine_long T.given) (em ∙ section_long T.given) r k
       (side_is T (p / m) (p % m) r (omega (arith, row_under)) (omega (arith, column_lt)) es (et ∙ ap (λ (x : ℕ). to_bits binary32 (get_or floats (at + (x + p / m)) nan)) em))
 
-  pub on_cap : (b : List ℕ) (q : Pair) (r : Words2) → (n - 1) * (m - 1) ≤ number → b ≡ list_bytes bs h 1 → q ≡ at2 (twos b m) (p % m) → r ≡ cap_texture fit q
+  pub on_cap : (cs : List Pair) (q : Pair) (r : Words2) → (n - 1) * (m - 1) ≤ number → cs ≡ (extrusion_of bs).section → q ≡ at2 cs (p % m) → r ≡ cap_texture fit q
       → r ≡ texture_of (extrusion_of bs) number p
-  on_cap b q r k eb eq er =
-      let c : twos b m ≡ (extrusion_of bs).section = (λ t. twos (eb t) (em t)) ∙ section_of_lem bs h T.given.head in
+  on_cap cs q r k c eq er =
       texture_cap (extrusion_of bs) number p n m (en ∙ spine_long T.given) (em ∙ section_long T.given) r k
       (er ∙ ap₂ cap_texture T.fitted (eq ∙ ap (λ (x : List Pair). at2 x (p % m)) c))
 

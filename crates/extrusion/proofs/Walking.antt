@@ -1,6 +1,6 @@
 -- FORMAT 8.4: the loops that write the points.
 use mathlib.Core.Path.{◌≡◌, refl, sym, ap, ◌∙◌}
-use mathlib.Core.List.{List}
+use mathlib.Core.List.{List, map}
 use Prim.Native.Nat.{ℕ, suc, ◌+◌, ◌*◌, ◌≤◌, ◌<◌}
 use native.Mathlib.Numerals.{add-one}
 use lib.ListN.{length}
@@ -9,21 +9,18 @@ use Rattle.std.specs.Prelude.{Option}
 use Rattle.std.specs.Prelude.{Some, None}
 use Rattle.math.specs.declared.quaternion.Quat.{Quat}
 use Rattle.block.specs.declared.texture.Pair.{Pair}
-use Rattle.block.specs.Value.{words2}
-use Rattle.block.specs.Texture.{pair_of}
 use Rattle.lists.specs.Loops.{tab}
-use Rattle.lists.proofs.Tabs.{tab_same, map_tab}
+use Rattle.lists.proofs.Tabs.{map_tab, tab_list}
 use Rattle.lists.specs.Lists.{flat}
 use Rattle.mesh.specs.Words.{words3, bits}
 use Rattle.mesh.specs.Frames.{Axes, at, or, last_of, first_y, y_own, y_at, first_z, z_own, pick_z, prev_z, axes_by, axes_at}
 use Rattle.mesh.specs.Arcs.{at2}
-use Rattle.mesh.specs.Extrusion.{twos, local, placed, row_words, turn_at, scale_at}
+use Rattle.mesh.specs.Extrusion.{local, placed, row_words, turn_at, scale_at}
 use Rattle.lists.proofs.Lists.{length_words}
 use Rattle.lists.specs.Parts.{spliced}
 use Rattle.extrusion.specs.declared.axes.PlaneAxes.{PlaneAxes}
 use Rattle.extrusion.specs.Rows.{axes_of, row_by}
 use Rattle.lists.proofs.Pieces.{Pieces, pieces_none, pieces_more}
-use Rattle.extrusion.proofs.Values.{at2_in}
 use Rattle.extrusion.proofs.Planes.{last_step}
 
 -- ---- one row
@@ -45,11 +42,9 @@ module _ (o : V3) (a : Axes) (q : Quat) (sc : Pair) where
   unfolding spot_of spot_words
   spot_is cs j p u v ep eu ev = rw (ev, eu, ep) refl
 
-  pub row_is : (b : List ℕ) (m : ℕ) → flat (tab (spot_of (twos b m)) m 0) ≡ row_words o a q sc (twos b m)
-  unfolding row_words spot_of spot_words
-  row_is b m =
-      ap flat (tab_same (λ j. spot_words (at2 (twos b m) j)) (λ j. spot_words (pair_of (words2 b j))) m (λ j l. ap spot_words (at2_in b m j l))
-      ∙ sym (map_tab (λ j. pair_of (words2 b j)) spot_words m 0))
+  pub row_is : (cs : List Pair) (m : ℕ) → length cs ≡ m → flat (tab (spot_of cs) m 0) ≡ row_words o a q sc cs
+  unfolding row_words spot_of spot_words at2
+  row_is cs m e = ap flat (sym (map_tab (λ j. at2 cs j) spot_words m 0) ∙ ap (map spot_words) (tab_list _ cs m e))
 
 pub row_length : (sp : List V3) (cs scs : List Pair) (qs : List Quat) (m i : ℕ) → m ≡ length cs → length (row_by sp cs scs qs i) ≡ 3 * m
 unfolding row_by row_words

@@ -1,45 +1,33 @@
 // FORMAT 8.4, arc_params: how far along the cross-section, and along the spine, each of its points is.
-ghost use Rattle.std.specs.Prelude.{◌≡◌, ◌++◌, ◌+◌, ◌-◌, ◌*◌, ◌≤◌, ◌<◌, length, pos};
+ghost use Rattle.std.specs.Prelude.{◌≡◌, ℕ, Float, ◌++◌, ◌+◌, ◌-◌, ◌^◌, ◌≤◌, ◌<◌, length, pos};
 ghost use Rattle.std.specs.Float.{binary32};
 ghost use Rattle.std.specs.Float.Ieee.{of_int};
 ghost use Rattle.mesh.specs.Arcs as spec;
 ghost use Rattle.mesh.specs.Arcs.{step2, step3, length_to, arcs, arcs2, arcs3};
-ghost use Rattle.mesh.specs.Extrusion.{spine_count, section_count, threes, twos, extrusion_of};
+ghost use Rattle.mesh.specs.Extrusion.{spine_count, section_count, extrusion_of};
 ghost use Rattle.lists.specs.Parts.{spliced};
 ghost use Rattle.extrusion.specs.Given.{Given};
-ghost use Rattle.extrusion.specs.Steps.{step_of, bytes_of};
 
 use crate::frames::step;
-use crate::reading::{pair_at, section_count, spine_count};
+use crate::reading::{Pairs, Points, section_of, spine_of};
 use block::Header;
 
-fn spine_step(b: &[u8], n: usize, i: usize) -> f32
-    requires { (12 * n ≤ length b.now) × (i + 1 < n) }
-    ensures { result ≡ step3 (threes b.now n) i }
+fn spine_step(spine: &Points, i: usize) -> f32
+    requires { (i + 1 < length spine.now) × (length spine.now < 2 ^ 64) }
+    ensures { result ≡ step3 spine.now i }
 {
-    math::len(step(b, n, i, i + 1))
+    math::len(step(spine, i, i + 1))
 }
 
-fn section_step(b: &[u8], n: usize, i: usize) -> f32
-    requires { (8 * n ≤ length b.now) × (i + 1 < n) }
-    ensures { result ≡ step2 (twos b.now n) i }
+fn section_step(section: &Pairs, i: usize) -> f32
+    requires { (i + 1 < length section.now) × (length section.now < 2 ^ 64) }
+    ensures { result ≡ step2 section.now i }
 {
-    let p = pair_at(b, n, i + 1);
-    let q = pair_at(b, n, i);
+    let p = section.at(i + 1);
+    let q = section.at(i);
     let x = p.s - q.s;
     let y = p.t - q.t;
     math::root(x * x + y * y)
-}
-
-// The step from point i of a spine, or of a cross-section, to the next.
-fn step_of(spine: bool, b: &[u8], n: usize, i: usize) -> f32
-    requires { (bytes_of spine * n ≤ length b.now) × (i + 1 < n) }
-    ensures { result ≡ step_of spine b.now n i }
-{
-    if spine {
-        return spine_step(b, n, i);
-    }
-    section_step(b, n, i)
 }
 
 // A step that is not finite counts for nothing.
@@ -52,16 +40,15 @@ fn counted(d: f32) -> f32
     0.0
 }
 
-// The whole length.
-fn arc_total(spine: bool, b: &[u8], n: usize) -> f32
-    requires { (bytes_of spine * n ≤ length b.now) × (2 ≤ n) × (n < 65536) }
-    ensures { result ≡ length_to (step_of spine b.now n) (n - 1) }
+// The whole length of n points, by the step from each to the next.
+fn arc_total<F: Fn(usize) -> f32>(n: usize, step: F) -> f32
+    requires some { 2 ≤ n }
+    requires called { (i : ℕ) → i + 1 < n → F.pre step i }
+    ensures { (value : ℕ → Float) → ((i : ℕ) (d : Float) → i + 1 < n → F.post step i d → d ≡ value i) → result ≡ length_to value (n - 1) }
 {
     let mut x = 0.0;
-    let mut j = 0;
-    while j + 1 < n {
-        x = x + counted(step_of(spine, b, n, j));
-        j += 1;
+    for j in 0..n - 1 {
+        x = x + counted(step(j));
     }
     x
 }
@@ -84,20 +71,22 @@ fn share(t: f32, m: usize, i: usize, x: f32) -> f32
     whole(i) / whole(m)
 }
 
-// The parameters of n points, into floats from place k.
-fn put_params(spine: bool, b: &[u8], n: usize, floats: &mut [f32], k: usize)
-    requires { (bytes_of spine * n ≤ length b.now) × (2 ≤ n) × (n < 65536) × (k + n ≤ length floats.old) }
-    ensures { floats.new ≡ spliced floats.old k (arcs (step_of spine b.now n) n) }
+// The parameters of n points, by the step from each to the next, into floats from place k.
+fn put_params<F: Fn(usize) -> f32>(n: usize, step: F, floats: &mut [f32], k: usize)
+    requires some { 2 ≤ n }
+    requires few { n < 65536 }
+    requires room { k + n ≤ length floats.old }
+    requires called { (i : ℕ) → i + 1 < n → F.pre step i }
+    ensures { (value : ℕ → Float) → ((i : ℕ) (d : Float) → i + 1 < n → F.post step i d → d ≡ value i) → floats.new ≡ spliced floats.old k (arcs value n) }
 {
-    let t = arc_total(spine, b, n);
+    let t = arc_total(n, &step);
     let mut x = 0.0;
-    let mut j = 0;
-    while j + 1 < n {
-        floats[k + j] = share(t, n - 1, j, x);
-        x = x + counted(step_of(spine, b, n, j));
-        j += 1;
+    let last = n - 1;
+    for j in 0..last {
+        floats[k + j] = share(t, last, j, x);
+        x = x + counted(step(j));
     }
-    floats[k + j] = share(t, n - 1, j, x);
+    floats[k + last] = share(t, last, last, x);
 }
 
 // The cross-section's parameters, then the spine's, into floats from place `at`.
@@ -106,8 +95,9 @@ pub fn put_arcs(block: &[u8], h: Header, floats: &mut [f32], at: usize)
     ensures { floats.new ≡ spliced floats.old at
         (arcs2 (extrusion_of block.now).section ++ arcs3 (extrusion_of block.now).spine) }
 {
-    let n = spine_count(h);
-    let m = section_count(h);
-    put_params(false, block::list_part(block, h, 1), m, floats, at);
-    put_params(true, block::list_part(block, h, 0), n, floats, at + m);
+    let spine = spine_of(block, h);
+    let section = section_of(block, h);
+    let m = section.len();
+    put_params(m, |i| section_step(&section, i), floats, at);
+    put_params(spine.len(), |i| spine_step(&spine, i), floats, at + m);
 }

@@ -1,27 +1,25 @@
 // FORMAT 8.4, extrusion (cap_len, lo, span): the corners of a cap, and how the cross-section fits its texture.
-ghost use Rattle.std.specs.Prelude.{◌≡◌, ℕ, ◌*◌, ◌≤◌, length};
+ghost use Rattle.std.specs.Prelude.{◌≡◌, ℕ, ◌≤◌, length};
 ghost use Rattle.math.specs.Vector.{zero_f};
 ghost use Rattle.mesh.specs.Extrusion as spec;
-ghost use Rattle.mesh.specs.Extrusion.{twos, section_of, extrusion_of, ring_of, cap_length, cap_fit};
+ghost use Rattle.mesh.specs.Extrusion.{section_of, extrusion_of, ring_of, cap_length, cap_fit};
 ghost use Rattle.mesh.specs.Texture.{span_of};
 ghost use Rattle.extrusion.specs.Given.{Given};
 
-use crate::reading::{pair_at, section_count};
+use crate::reading::{Pairs, section_of};
 use block::Header;
 use mesh::{Fit, Span};
 use texture::{divisor_of, widen};
 
-fn closes(section: &[u8], m: usize) -> bool
-    requires { (8 * m ≤ length section.now) × (2 ≤ m) }
-    ensures { result ≡ spec.closes (twos section.now m) }
+fn closes(section: &Pairs) -> bool
+    requires { 2 ≤ length section.now }
+    ensures { result ≡ spec.closes section.now }
 {
+    let m = section.len();
     if 2 < m {
-        let p = pair_at(section, m, 0);
-        let q = pair_at(section, m, m - 1);
-        if p.s == q.s {
-            return p.t == q.t;
-        }
-        return false;
+        let p = section.at(0);
+        let q = section.at(m - 1);
+        return p.s == q.s && p.t == q.t;
     }
     false
 }
@@ -31,8 +29,9 @@ pub fn cap_length(block: &[u8], h: Header) -> usize
     requires { Given block.now h }
     ensures { result ≡ cap_length (section_of block.now h) }
 {
-    let m = section_count(h);
-    if closes(block::list_part(block, h, 1), m) {
+    let section = section_of(block, h);
+    let m = section.len();
+    if closes(&section) {
         return m - 1;
     }
     m
@@ -43,9 +42,9 @@ pub fn ring_width(block: &[u8], h: Header) -> usize
     requires { Given block.now h }
     ensures { result ≡ ring_of (section_of block.now h) }
 {
-    let m = section_count(h);
-    if closes(block::list_part(block, h, 1), m) {
-        return m;
+    let section = section_of(block, h);
+    if closes(&section) {
+        return section.len();
     }
     0
 }
@@ -60,18 +59,15 @@ fn nowhere() -> Span
     }
 }
 
-fn section_fit(section: &[u8], m: usize) -> Fit
-    requires { 8 * m ≤ length section.now }
-    ensures { result ≡ cap_fit (twos section.now m) }
+fn section_fit(section: &Pairs) -> Fit
+    ensures { result ≡ cap_fit section.now }
 {
     let mut a = nowhere();
     let mut b = nowhere();
-    let mut j = 0;
-    while j < m {
-        let p = pair_at(section, m, j);
+    for j in 0..section.len() {
+        let p = section.at(j);
         a = widen(a, p.s);
         b = widen(b, p.t);
-        j += 1;
     }
     Fit {
         s_axis: 0,
@@ -87,5 +83,5 @@ pub fn cap_fit(block: &[u8], h: Header) -> Fit
     requires { Given block.now h }
     ensures { result ≡ cap_fit (extrusion_of block.now).section }
 {
-    section_fit(block::list_part(block, h, 1), section_count(h))
+    section_fit(&section_of(block, h))
 }

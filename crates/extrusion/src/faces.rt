@@ -1,5 +1,5 @@
 // FORMAT 8.4, extrusion (pm.faces): the points of the corners, face by face: sides, then caps.
-ghost use Rattle.std.specs.Prelude.{◌≡◌, ◌+◌, ◌-◌, ◌*◌, ◌≤◌, ◌<◌, length, set};
+ghost use Rattle.std.specs.Prelude.{◌≡◌, ℕ, ◌+◌, ◌-◌, ◌*◌, ◌≤◌, ◌<◌, length, set};
 ghost use Rattle.lists.specs.Loops.{tab};
 ghost use Rattle.lists.specs.Lists.{flat};
 ghost use Rattle.mesh.specs.Quads.{quad};
@@ -10,7 +10,7 @@ ghost use Rattle.lists.specs.Parts.{spliced};
 ghost use Rattle.extrusion.specs.Listings.{side_points, begin_points, end_points, face_points};
 
 use block::{Header, PointNumber};
-use tables::narrow;
+use tables::{narrow, put_each};
 
 // The point in row i, column j, of rows of m.
 fn point_at(m: usize, i: usize, j: usize) -> PointNumber
@@ -43,10 +43,8 @@ fn put_quad_row(work: &mut [u32], k: usize, m: usize, i: usize)
     requires { (2 ≤ m) × (k + (m - 1) * 4 ≤ length work.old) × (i * m + m + m ≤ most) }
     ensures { work.new ≡ spliced work.old k (flat (tab (quad (point_number m) i) (m - 1) 0)) }
 {
-    let mut j = 0;
-    while j < m - 1 {
+    for j in 0..m - 1 {
         put_quad(work, k + j * 4, m, i, j);
-        j += 1;
     }
 }
 
@@ -56,10 +54,8 @@ fn put_sides(work: &mut [u32], k: usize, n: usize, m: usize)
     ensures { work.new ≡ spliced work.old k (flat (side_points n m)) }
 {
     let w = (m - 1) * 4;
-    let mut i = 0;
-    while i < n - 1 {
+    for i in 0..n - 1 {
         put_quad_row(work, k + i * w, m, i);
-        i += 1;
     }
 }
 
@@ -67,50 +63,14 @@ fn put_sides(work: &mut [u32], k: usize, n: usize, m: usize)
 fn has_cap(wanted: bool, cap: usize) -> bool
     ensures { result ≡ has_cap wanted cap }
 {
-    if wanted {
-        return 3 <= cap;
-    }
-    false
-}
-
-fn one_if(there: bool) -> usize
-    ensures { (result ≡ one there) × (result ≤ 1) }
-{
-    if there {
-        return 1;
-    }
-    0
+    wanted && 3 <= cap
 }
 
 // How many caps of `cap` corners there are.
 pub fn cap_count(h: Header, cap: usize) -> usize
     ensures { (result ≡ cap_count h cap) × (result ≤ 2) }
 {
-    one_if(has_cap(h.begin_cap, cap)) + one_if(has_cap(h.end_cap, cap))
-}
-
-// The points cap - 1, .. 1, 0.
-fn put_down(work: &mut [u32], k: usize, cap: usize)
-    requires { (cap ≤ most) × (k + cap ≤ length work.old) }
-    ensures { work.new ≡ spliced work.old k (tab (λ j. cap - 1 - j) cap 0) }
-{
-    let mut j = 0;
-    while j < cap {
-        put_point_number(work, k + j, PointNumber(cap - 1 - j));
-        j += 1;
-    }
-}
-
-// The points p, p + 1, ..
-fn put_up(work: &mut [u32], k: usize, p: PointNumber, cap: usize)
-    requires { (p.0 + cap ≤ most) × (k + cap ≤ length work.old) }
-    ensures { work.new ≡ spliced work.old k (tab (λ j. p.0 + j) cap 0) }
-{
-    let mut j = 0;
-    while j < cap {
-        put_point_number(work, k + j, PointNumber(p.0 + j));
-        j += 1;
-    }
+    usize::from(has_cap(h.begin_cap, cap)) + usize::from(has_cap(h.end_cap, cap))
 }
 
 // The begin cap, where there is one; the place behind it.
@@ -119,7 +79,7 @@ fn put_begin(work: &mut [u32], k: usize, wanted: bool, cap: usize) -> usize
     ensures { (work.new ≡ spliced work.old k (flat (begin_points wanted cap))) × (result ≡ k + length (flat (begin_points wanted cap))) }
 {
     if has_cap(wanted, cap) {
-        put_down(work, k, cap);
+        put_each(work, k, cap, |j| cap - 1 - j);
         return k + cap;
     }
     k
@@ -131,7 +91,7 @@ fn put_end(work: &mut [u32], k: usize, wanted: bool, p: PointNumber, cap: usize)
     ensures { work.new ≡ spliced work.old k (flat (end_points wanted p.0 cap)) }
 {
     if has_cap(wanted, cap) {
-        put_up(work, k, p, cap);
+        put_each(work, k, cap, |j| p.0 + j);
         return;
     }
 }

@@ -1,10 +1,9 @@
 // FORMAT 8.4, extrusion_frames (ys, zs): the Y and the Z axis that each spine point has of itself, and the first of all.
-ghost use Rattle.std.specs.Prelude.{◌≡◌, ◌*◌, ◌≤◌, ◌<◌, length};
+ghost use Rattle.std.specs.Prelude.{◌≡◌, ◌≤◌, ◌<◌, length};
 ghost use Rattle.mesh.specs.Frames as spec;
 ghost use Rattle.mesh.specs.Frames.{same3, closed, is_end, along_end, y_own, first_y, bend, z_end, z_own, first_z};
-ghost use Rattle.mesh.specs.Extrusion.{threes};
 
-use crate::reading::spine_at;
+use crate::reading::Points;
 use math::V3;
 
 // The first of two that is there.
@@ -20,21 +19,16 @@ pub fn or(a: Option<V3>, b: Option<V3>) -> Option<V3>
 fn same_point(a: V3, b: V3) -> bool
     ensures { result ≡ same3 a b }
 {
-    if a.x == b.x {
-        if a.y == b.y {
-            return a.z == b.z;
-        }
-        return false;
-    }
-    false
+    a.x == b.x && a.y == b.y && a.z == b.z
 }
 
-fn is_closed(s: &[u8], n: usize) -> bool
-    requires { (12 * n ≤ length s.now) × (2 ≤ n) }
-    ensures { result ≡ closed (threes s.now n) }
+fn is_closed(s: &Points) -> bool
+    requires { 2 ≤ length s.now }
+    ensures { result ≡ closed s.now }
 {
+    let n = s.len();
     if 2 < n {
-        return same_point(spine_at(s, n, 0), spine_at(s, n, n - 1));
+        return same_point(s.at(0), s.at(n - 1));
     }
     false
 }
@@ -43,99 +37,94 @@ fn is_end(n: usize, i: usize) -> bool
     requires { 2 ≤ n }
     ensures { result ≡ is_end n i }
 {
-    if i == 0 {
-        return true;
-    }
-    i == n - 1
+    i == 0 || i == n - 1
 }
 
 // From point a to point b.
-pub fn step(s: &[u8], n: usize, a: usize, b: usize) -> V3
-    requires { (12 * n ≤ length s.now) × (a < n) × (b < n) }
-    ensures { result ≡ spec.step (threes s.now n) a b }
+pub fn step(s: &Points, a: usize, b: usize) -> V3
+    requires { (a < length s.now) × (b < length s.now) }
+    ensures { result ≡ spec.step s.now a b }
 {
-    math::sub(spine_at(s, n, b), spine_at(s, n, a))
+    math::sub(s.at(b), s.at(a))
 }
 
-fn along_end(s: &[u8], n: usize, i: usize) -> V3
-    requires { (12 * n ≤ length s.now) × (2 ≤ n) }
-    ensures { result ≡ along_end (threes s.now n) n i }
+fn along_end(s: &Points, i: usize) -> V3
+    requires { 2 ≤ length s.now }
+    ensures { result ≡ along_end s.now (length s.now) i }
 {
-    if is_closed(s, n) {
-        return step(s, n, n - 2, 1);
+    let n = s.len();
+    if is_closed(s) {
+        return step(s, n - 2, 1);
     }
     if i == 0 {
-        return step(s, n, 0, 1);
+        return step(s, 0, 1);
     }
-    step(s, n, n - 2, n - 1)
+    step(s, n - 2, n - 1)
 }
 
-pub fn y_own(s: &[u8], n: usize, i: usize) -> Option<V3>
-    requires { (12 * n ≤ length s.now) × (2 ≤ n) × (i < n) }
-    ensures { result ≡ y_own (threes s.now n) i }
+pub fn y_own(s: &Points, i: usize) -> Option<V3>
+    requires { (2 ≤ length s.now) × (i < length s.now) }
+    ensures { result ≡ y_own s.now i }
 {
-    if is_end(n, i) {
-        return math::normalize(along_end(s, n, i));
+    if is_end(s.len(), i) {
+        return math::normalize(along_end(s, i));
     }
-    math::normalize(step(s, n, i - 1, i + 1))
+    math::normalize(step(s, i - 1, i + 1))
 }
 
-pub fn first_y(s: &[u8], n: usize) -> Option<V3>
-    requires { (12 * n ≤ length s.now) × (2 ≤ n) }
-    ensures { result ≡ first_y (threes s.now n) }
+pub fn first_y(s: &Points) -> Option<V3>
+    requires { 2 ≤ length s.now }
+    ensures { result ≡ first_y s.now }
 {
     let mut y = None;
-    let mut i = 0;
-    while i < n {
-        y = or(y, y_own(s, n, i));
-        i += 1;
+    for i in 0..s.len() {
+        y = or(y, y_own(s, i));
     }
     y
 }
 
 // The normal of the plane of point i and its neighbours a and b.
-fn plane(s: &[u8], n: usize, a: usize, i: usize, b: usize) -> Option<V3>
-    requires { (12 * n ≤ length s.now) × (a < n) × (i < n) × (b < n) }
-    ensures { result ≡ bend (threes s.now n) a i b }
+fn plane(s: &Points, a: usize, i: usize, b: usize) -> Option<V3>
+    requires { (a < length s.now) × (i < length s.now) × (b < length s.now) }
+    ensures { result ≡ bend s.now a i b }
 {
-    math::normalize(math::cross(step(s, n, i, b), step(s, n, i, a)))
+    math::normalize(math::cross(step(s, i, b), step(s, i, a)))
 }
 
-fn z_end(s: &[u8], n: usize, i: usize) -> Option<V3>
-    requires { (12 * n ≤ length s.now) × (2 ≤ n) }
-    ensures { result ≡ z_end (threes s.now n) n i }
+fn z_end(s: &Points, i: usize) -> Option<V3>
+    requires { 2 ≤ length s.now }
+    ensures { result ≡ z_end s.now (length s.now) i }
 {
-    if is_closed(s, n) {
-        return plane(s, n, n - 2, 0, 1);
+    let n = s.len();
+    if is_closed(s) {
+        return plane(s, n - 2, 0, 1);
     }
     if 2 < n {
         if i == 0 {
-            return plane(s, n, 0, 1, 2);
+            return plane(s, 0, 1, 2);
         }
-        return plane(s, n, n - 3, n - 2, n - 1);
+        return plane(s, n - 3, n - 2, n - 1);
     }
     None
 }
 
-pub fn z_own(s: &[u8], n: usize, i: usize) -> Option<V3>
-    requires { (12 * n ≤ length s.now) × (2 ≤ n) × (i < n) }
-    ensures { result ≡ z_own (threes s.now n) i }
+pub fn z_own(s: &Points, i: usize) -> Option<V3>
+    requires { (2 ≤ length s.now) × (i < length s.now) }
+    ensures { result ≡ z_own s.now i }
 {
-    if is_end(n, i) {
-        return z_end(s, n, i);
+    if is_end(s.len(), i) {
+        return z_end(s, i);
     }
-    plane(s, n, i - 1, i, i + 1)
+    plane(s, i - 1, i, i + 1)
 }
 
-pub fn first_z(s: &[u8], n: usize) -> Option<V3>
-    requires { (12 * n ≤ length s.now) × (2 ≤ n) }
-    ensures { result ≡ first_z (threes s.now n) }
+pub fn first_z(s: &Points) -> Option<V3>
+    requires { 2 ≤ length s.now }
+    ensures { result ≡ first_z s.now }
 {
     let mut z = None;
-    let mut i = 0;
-    while i < n {
-        z = or(z, z_own(s, n, i));
-        i += 1;
+    for i in 0..s.len() {
+        z = or(z, z_own(s, i));
     }
     z
 }

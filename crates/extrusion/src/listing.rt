@@ -10,7 +10,7 @@ ghost use Rattle.extrusion.specs.Listings.{extrusion_listings, size_at, start_at
 use crate::faces::put_uses;
 use crate::reading::{section_count, spine_count};
 use block::Header;
-use tables::{Plan, narrow};
+use tables::{Plan, narrow, put_each};
 
 fn size_at(sides: usize, cap: usize, j: usize) -> usize
     ensures { result ≡ size_at sides cap j }
@@ -27,23 +27,9 @@ fn put_starts(work: &mut [u32], k: usize, sides: usize, faces: usize, cap: usize
     ensures { work.new ≡ spliced work.old k (tab (start_at sides cap) (faces + 1) 0) }
 {
     let mut c = 0;
-    let mut j = 0;
-    while j < faces + 1 {
+    for j in 0..faces + 1 {
         work[k + j] = narrow(c);
         c += size_at(sides, cap, j);
-        j += 1;
-    }
-}
-
-// 0, 1, ..
-fn put_numbers(work: &mut [u32], k: usize, faces: usize)
-    requires { (faces ≤ most) × (k + faces ≤ length work.old) }
-    ensures { work.new ≡ spliced work.old k (tab (λ j. j) faces 0) }
-{
-    let mut j = 0;
-    while j < faces {
-        work[k + j] = narrow(j);
-        j += 1;
     }
 }
 
@@ -58,5 +44,5 @@ pub fn list_faces(h: Header, cap: usize, work: &mut [u32], t: Plan)
     put_uses(work, t.corners, n, m, cap, h.begin_cap, h.end_cap);
     put_starts(work, t.starts, (n - 1) * (m - 1), t.faces, cap);
     put_uses(work, t.places, n, m, cap, h.begin_cap, h.end_cap);
-    put_numbers(work, t.numbers, t.faces);
+    put_each(work, t.numbers, t.faces, |j| j);
 }

@@ -2,7 +2,7 @@
 ghost use Rattle.std.specs.Prelude.{◌≡◌, ◌+◌, ◌*◌, ◌≤◌, length};
 ghost use Rattle.mesh.specs.Words.{words3, bits};
 ghost use Rattle.mesh.specs.Extrusion as spec;
-ghost use Rattle.mesh.specs.Extrusion.{spine_count, section_count, threes, twos, turn_in, scale_at, turn_at, row_words, extrusion_of, extrusion_points};
+ghost use Rattle.mesh.specs.Extrusion.{spine_count, section_count, turn_in, scale_at, turn_at, row_words, extrusion_of, extrusion_points};
 ghost use Rattle.lists.specs.Loops.{tab};
 ghost use Rattle.lists.specs.Parts.{spliced};
 ghost use Rattle.extrusion.specs.Given.{Given};
@@ -10,22 +10,20 @@ ghost use Rattle.extrusion.specs.Rows.{axes_of, rows_by};
 
 use crate::axes::{PlaneAxes, axes_by, pick_z};
 use crate::frames::{first_y, first_z, or, y_own, z_own};
-use crate::reading::{
-    pair_at, scale_count, section_count, spine_at, spine_count, turn_count, turn_in,
-};
+use crate::reading::{Pairs, Points, scales_of, section_of, spine_of, turn_count, turn_in};
 use block::{Header, Pair};
 use math::{Quat, V3};
 
-// The scale at point i, of k: the first where there are too few.
-fn scale_at(scales: &[u8], k: usize, i: usize) -> Pair
-    requires { 8 * k ≤ length scales.now }
-    ensures { result ≡ scale_at (twos scales.now k) i }
+// The scale at point i: the first where there are too few.
+fn scale_at(scales: &Pairs, i: usize) -> Pair
+    ensures { result ≡ scale_at scales.now i }
 {
+    let k = scales.len();
     if i < k {
-        return pair_at(scales, k, i);
+        return scales.at(i);
     }
     if 0 < k {
-        return pair_at(scales, k, 0);
+        return scales.at(0);
     }
     Pair { s: 1.0, t: 1.0 }
 }
@@ -89,67 +87,48 @@ fn put_point(work: &mut [u32], k: usize, v: V3)
 }
 
 // The points of one spine point o.
-fn put_row(
-    section: &[u8],
-    m: usize,
-    o: V3,
-    f: PlaneAxes,
-    q: Quat,
-    sc: Pair,
-    work: &mut [u32],
-    k: usize,
-)
-    requires { (8 * m ≤ length section.now) × (k + 3 * m ≤ length work.old) }
-    ensures { work.new ≡ spliced work.old k (row_words o (axes_of f) q sc (twos section.now m)) }
+fn put_row(section: &Pairs, o: V3, f: PlaneAxes, q: Quat, sc: Pair, work: &mut [u32], k: usize)
+    requires { k + 3 * length section.now ≤ length work.old }
+    ensures { work.new ≡ spliced work.old k (row_words o (axes_of f) q sc section.now) }
 {
-    let mut j = 0;
-    while j < m {
-        let p = placed(o, f, local(q, sc, pair_at(section, m, j)));
+    for j in 0..section.len() {
+        let p = placed(o, f, local(q, sc, section.at(j)));
         put_point(work, k + j * 3, p);
-        j += 1;
     }
 }
 
-// The points of n spine points, into work from place k. The Y axis is the last one seen, and begins with the first of all.
+// The points of all spine points, into work from place k. The Y axis is the last one seen, and begins with the first of all.
 fn put_rows(
-    spine: &[u8],
-    n: usize,
-    section: &[u8],
-    m: usize,
-    scales: &[u8],
-    scale_count: usize,
+    spine: &Points,
+    section: &Pairs,
+    scales: &Pairs,
     turns: &[u8],
     turn_count: usize,
     work: &mut [u32],
     k: usize,
 )
-    requires { (12 * n ≤ length spine.now) × (8 * m ≤ length section.now) × (8 * scale_count ≤ length scales.now) × (20 * turn_count ≤ length turns.now)
-        × (2 ≤ n) × (k + n * (3 * m) ≤ length work.old) }
-    ensures { work.new ≡ spliced work.old k (rows_by (threes spine.now n) (twos section.now m)
-        (twos scales.now scale_count) (tab (turn_in turns.now) turn_count 0) n) }
+    requires { (20 * turn_count ≤ length turns.now) × (2 ≤ length spine.now) × (k + length spine.now * (3 * length section.now) ≤ length work.old) }
+    ensures { work.new ≡ spliced work.old k (rows_by spine.now section.now scales.now (tab (turn_in turns.now) turn_count 0) (length spine.now)) }
 {
-    let w = 3 * m;
-    let first = first_z(spine, n);
-    let y0 = first_y(spine, n);
+    let w = 3 * section.len();
+    let first = first_z(spine);
+    let y0 = first_y(spine);
     let mut y = y0;
     let mut prev = None;
-    let mut i = 0;
-    while i < n {
-        y = or(y_own(spine, n, i), y);
-        let z = pick_z(first, prev, z_own(spine, n, i));
+    for i in 0..spine.len() {
+        y = or(y_own(spine, i), y);
+        let z = pick_z(first, prev, z_own(spine, i));
         prev = Some(z);
         let f = axes_by(first, y0, y, z);
         put_row(
             section,
-            m,
-            spine_at(spine, n, i),
+            spine.at(i),
             f,
             turn_at(turns, turn_count, i),
-            scale_at(scales, scale_count, i),
+            scale_at(scales, i),
             work,
             k + i * w,
         );
-        i += 1;
     }
 }
 
@@ -158,18 +137,11 @@ pub fn put_points(block: &[u8], h: Header, work: &mut [u32], at: usize)
     requires { Given block.now h × (at + 3 * (spine_count h * section_count h) ≤ length work.old) }
     ensures { work.new ≡ spliced work.old at (extrusion_points (extrusion_of block.now)) }
 {
-    let spine = block::list_part(block, h, 0);
-    let section = block::list_part(block, h, 1);
-    let scales = block::list_part(block, h, 2);
-    let turns = block::list_part(block, h, 3);
     put_rows(
-        spine,
-        spine_count(h),
-        section,
-        section_count(h),
-        scales,
-        scale_count(h),
-        turns,
+        &spine_of(block, h),
+        &section_of(block, h),
+        &scales_of(block, h),
+        block::list_part(block, h, 3),
         turn_count(h),
         work,
         at,

@@ -10,7 +10,7 @@ ghost use Rattle.lists.specs.Parts.{spliced};
 ghost use Rattle.texture.specs.Textured.{texture_words};
 ghost use Rattle.extrusion.specs.Corners.{texture_of, extrusion_corner, extrusion_texture, Measured, Cornered};
 
-use crate::reading::{pair_at, section_count, spine_count};
+use crate::reading::{section_count, section_of, spine_count};
 use bits::Words2;
 use block::{Header, Pair, PointNumber, Settings};
 use mesh::Fit;
@@ -55,7 +55,7 @@ fn plain_texture(
     if number < (n - 1) * (m - 1) {
         return side_texture(floats, at + col, at + (m + point.0 / m));
     }
-    cap_texture(fit, pair_at(block::list_part(block, h, 1), m, col))
+    cap_texture(fit, section_of(block, h).at(col))
 }
 
 // The texture words of a corner, by its face's number and its point.
@@ -97,12 +97,11 @@ pub fn put_textures(
     requires { Measured block.now h floats.now at fit × (s ≡ settings_of block.now) × Cornered h corners numbers textures count work.old }
     ensures { work.new ≡ spliced work.old textures (texture_words (extrusion_texture (extrusion_of block.now) work.old corners numbers) count) }
 {
-    let mut c = 0;
-    while c < count {
+    // A loop of its own, as in texture and grid: each reads other tables of `work`, and a shared one would take this body back as a closure.
+    for c in 0..count {
         let p = PointNumber(tables::wide(work[corners + c]));
         let f = tables::wide(work[numbers + c]);
         let w = corner_texture(block, h, s, floats, at, fit, f, p);
         put2(work, textures + 2 * c, w);
-        c += 1;
     }
 }

@@ -56,9 +56,7 @@ pub fn put_points(block: &[u8], h: Header, s: Settings, work: &mut [u32], at: us
     let counts = h.counts;
     let n = wide(counts[0]) * wide(counts[1]);
     let heights = list_part(block, h, 3);
-    let mut k = 0;
-    while k < n {
+    for k in 0..n {
         put3(work, at + 3 * k, grid_point(heights, h, s, k));
-        k += 1;
     }
 }

@@ -9,7 +9,7 @@ ghost use Rattle.grid.specs.Sides.{Planned};
 ghost use Rattle.grid.specs.Listings.{corner_point, grid_listings};
 
 use block::{CornerNumber, Header, PointNumber};
-use tables::{Plan, narrow, wide};
+use tables::{Plan, put_each, wide};
 
 // The number of the point in column i of row j.
 fn point_at(xd: usize, i: usize, j: usize) -> PointNumber
@@ -45,24 +45,7 @@ fn put_corners(work: &mut [u32], a: usize, n: usize, xd: usize)
     requires { (2 ≤ xd) × (xd ≤ most) × (n ≤ most) × ((c : ℕ) → c < n → corner_point xd c ≤ most) × (a + n ≤ length work.old) }
     ensures { work.new ≡ spliced work.old a (tab (corner_point xd) n 0) }
 {
-    let mut c = 0;
-    while c < n {
-        let p = corner_point(xd, CornerNumber(c));
-        work[a + c] = narrow(p.0);
-        c += 1;
-    }
-}
-
-// 0, by, 2 * by, ..: n of them, from place a on.
-fn put_multiples(work: &mut [u32], a: usize, n: usize, by: usize)
-    requires { (by * n ≤ most + by) × (a + n ≤ length work.old) }
-    ensures { work.new ≡ spliced work.old a (tab (λ (j : ℕ). by * j) n 0) }
-{
-    let mut j = 0;
-    while j < n {
-        work[a + j] = narrow(by * j);
-        j += 1;
-    }
+    put_each(work, a, n, |c| corner_point(xd, CornerNumber(c)).0);
 }
 
 // Quad q has number q and the corners from 4 * q on; a corner's place is its point.
@@ -73,7 +56,7 @@ pub fn list_faces(h: Header, work: &mut [u32], t: Plan)
     let counts = h.counts;
     let xd = wide(counts[0]);
     put_corners(work, t.corners, t.count, xd);
-    put_multiples(work, t.starts, t.faces + 1, 4);
+    put_each(work, t.starts, t.faces + 1, |j| 4 * j);
     put_corners(work, t.places, t.count, xd);
-    put_multiples(work, t.numbers, t.faces, 1);
+    put_each(work, t.numbers, t.faces, |j| j);
 }

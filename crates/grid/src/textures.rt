@@ -56,10 +56,9 @@ pub fn put_textures(
     requires { Sides h × Placed h work.old corners textures count }
     ensures { work.new ≡ spliced work.old textures (texture_words (λ (c : ℕ). grid_texture block.now h s (get_or work.old (corners + c) 0)) count) }
 {
-    let mut c = 0;
-    while c < count {
+    // A loop of its own, as in texture and extrusion: each reads other tables of `work`, and a shared one would take this body back as a closure.
+    for c in 0..count {
         let p = PointNumber(wide(work[corners + c]));
         put2(work, textures + 2 * c, texture_of(block, h, s, p));
-        c += 1;
     }
 }

@@ -1,6 +1,8 @@
 -- The loops that put the lines: over the entries of a run, and over the runs.
 use mathlib.Core.Path.{◌≡◌, sym, ap, ◌∙◌}
-use mathlib.Core.Bool.{Bool, true, false}
+use Rattle.std.specs.Prelude.{Option as Maybe, None, Some, IfSome}
+use Rattle.block.specs.declared.number.VertexNumber.{VertexNumber}
+use mathlib.Core.Bool.{false}
 use mathlib.Core.Option.{Option, none, some}
 use mathlib.Core.List.{List, []}
 use Prim.Native.Nat.{ℕ, ◌+◌, ◌*◌, ◌/◌, ◌^◌, ◌≤◌, ◌<◌}
@@ -26,19 +28,19 @@ use Rattle.lists.proofs.Putting.{Split, splices, Left, left_here, left_spliced, 
 
 -- ---- one line
 
-module _ (last next : ℕ) {after : Bool} where
-  pub line_two : after ≡ true → length (line (last_of after last) (some next)) ≡ 2
+module _ (v : VertexNumber) (next : ℕ) {last : Maybe VertexNumber} where
+  pub line_two : last ≡ Some v → length (line (last_of last) (some next)) ≡ 2
   unfolding last_of
   line_two e = rw e
 
-  pub line_put : after ≡ true → (l : List ℕ) (at : ℕ) → at + length (line (last_of after last) (some next)) ≤ length l
-      → set (set l at last) (at + 1) next ≡ spliced l at (line (last_of after last) (some next))
+  pub line_put : last ≡ Some v → (l : List ℕ) (at : ℕ) → at + length (line (last_of last) (some next)) ≤ length l
+      → set (set l at v.0) (at + 1) next ≡ spliced l at (line (last_of last) (some next))
   unfolding last_of
-  line_put e l at h = let r : at + 2 ≤ length l = omega (arith, line_two e, h) in rw e (put_two l at last next r)
+  line_put e l at h = let r : at + 2 ≤ length l = omega (arith, line_two e, h) in rw e (put_two l at v.0 next r)
 
-  pub line_left : after ≡ false → (l : List ℕ) (at : ℕ) → Added spliced (line (last_of after last) (some next)) at l at l
-  unfolding last_of
-  line_left e l at = rw e (record { next = sym (add-zero at); made = splice_start l at })
+pub line_left : (next : ℕ) {last : Maybe VertexNumber} → last ≡ None → (l : List ℕ) (at : ℕ) → Added spliced (line (last_of last) (some next)) at l at l
+unfolding last_of
+line_left next e l at = rw e (record { next = sym (add-zero at); made = splice_start l at })
 
 pub line_none : (prev : Option ℕ) (l : List ℕ) (at : ℕ) → Added spliced (line prev none) at l at l
 line_none none l at = record { next = sym (add-zero at); made = splice_start l at }
@@ -68,17 +70,17 @@ module _ (p c : ℕ) {e : ℕ} where
 
 -- the first k entries of the run es are passed, since the progress was f and the indices were o₀
 pub record Pairing (p : ℕ) (es numbers : List ℕ) (f : Progress) (o₀ : List ℕ) (k : ℕ) (w : Progress) (o : List ℕ) : Type 0 where
-  pub fits : w.last.0 < 2 ^ 32
+  pub fits : IfSome w.last (λ v. v.0 < 2 ^ 32)
   pub corners : w.corner.0 + named p (drop k es) ≡ f.corner.0 + named p es
-  pub left : Left spliced (pairs p numbers f.corner.0 none es) f.at o₀ (pairs p numbers w.corner.0 (last_of w.after w.last.0) (drop k es)) w.at o
+  pub left : Left spliced (pairs p numbers f.corner.0 none es) f.at o₀ (pairs p numbers w.corner.0 (last_of w.last) (drop k es)) w.at o
 
 module _ {p : ℕ} {es numbers : List ℕ} {f : Progress} {o₀ : List ℕ} {k : ℕ} {w : Progress} {o : List ℕ} (P : Pairing p es numbers f o₀ k w o) where
   module _ (h : k < length es) where
-    next_line : Split (pairs p numbers w.corner.0 (last_of w.after w.last.0) (drop k es))
-        (line (last_of w.after w.last.0) (vertex_at p numbers w.corner.0 (get_or es k 0)))
+    next_line : Split (pairs p numbers w.corner.0 (last_of w.last) (drop k es))
+        (line (last_of w.last) (vertex_at p numbers w.corner.0 (get_or es k 0)))
         (pairs p numbers (corner_after p w.corner.0 (get_or es k 0)) (vertex_at p numbers w.corner.0 (get_or es k 0)) (drop (k + 1) es))
     unfolding pairs
-    next_line = record { is = ap (pairs p numbers w.corner.0 (last_of w.after w.last.0)) (drop_next 0 es k h) }
+    next_line = record { is = ap (pairs p numbers w.corner.0 (last_of w.last)) (drop_next 0 es k h) }
 
     corners_next : corner_after p w.corner.0 (get_or es k 0) + named p (drop (k + 1) es) ≡ f.corner.0 + named p es
     unfolding corner_after named
@@ -90,7 +92,7 @@ module _ {p : ℕ} {es numbers : List ℕ} {f : Progress} {o₀ : List ℕ} {k :
     pairing_here q l = omega (arith, corner_here p w.corner.0 l, corners_next)
 
     pub pairing_room : f.at + length (pairs p numbers f.corner.0 none es) ≤ length o₀
-        → w.at + length (line (last_of w.after w.last.0) (vertex_at p numbers w.corner.0 (get_or es k 0))) ≤ length o
+        → w.at + length (line (last_of w.last) (vertex_at p numbers w.corner.0 (get_or es k 0))) ≤ length o
     pairing_room q = omega (arith, left_here P.left next_line, P.left.len)
 
     pub pairing_next : f.at + length (pairs p numbers f.corner.0 none es) ≤ length o₀ → {r : Progress} {o' : List ℕ} → Stepped p (get_or es k 0) numbers w o r o' → Pairing p es numbers f o₀ (k + 1) r o'
@@ -106,7 +108,7 @@ module _ {p : ℕ} {es numbers : List ℕ} {f : Progress} {o₀ : List ℕ} {k :
   pairing_end h =
       let d : drop k es ≡ [] = drop_of_length-le es h in
       record {
-        added = left_end P.left splices (ap (pairs p numbers w.corner.0 (last_of w.after w.last.0)) d);
+        added = left_end P.left splices (ap (pairs p numbers w.corner.0 (last_of w.last)) d);
         corner = omega (arith, P.corners, ap (named p) d);
       }
 

@@ -1,6 +1,7 @@
 -- FORMAT 6.3: the lines, one entry after another and one run after another.
-use Rattle.std.specs.Prelude.{◌≡◌, Bool, cond, List, [], ◌∷◌, ◌++◌, ℕ, suc, ◌+◌, ◌^◌, ◌<◌, ltb, length, get_or, drop}
+use Rattle.std.specs.Prelude.{◌≡◌, Option as Maybe, None, Some, IfSome, cond, List, [], ◌∷◌, ◌++◌, ℕ, suc, ◌+◌, ◌^◌, ◌<◌, ltb, length, get_or, drop}
 use Rattle.std.proofs.Math.Option.{Option, none, some}
+use Rattle.block.specs.declared.number.VertexNumber.{VertexNumber}
 use Rattle.block.specs.Runs.{Run}
 use Rattle.mesh.specs.Lines.{line}
 use Rattle.mesh.specs.Sizes.{named}
@@ -8,8 +9,9 @@ use Rattle.lists.specs.Parts.{spliced, Added}
 use Rattle.lines.specs.declared.pairing.Progress.{Progress}
 
 -- FORMAT 6.3, indexed_line_set (prev): the vertex of the entry before, where that names a point
-unfoldable pub last_of : Bool → ℕ → Option ℕ
-last_of after last = cond after (some last) none
+unfoldable pub last_of : Maybe VertexNumber → Option ℕ
+last_of None = none
+last_of (Some v) = some v.0
 
 -- FORMAT 6.3, indexed_line_set (idx): the vertex of entry e, where it names one of p points: `numbers` has the vertices of those that do, of which this is number c
 unfoldable pub vertex_at : ℕ → List ℕ → ℕ → ℕ → Option ℕ
@@ -31,10 +33,10 @@ run_pairs p numbers c (r ∷ rs) = pairs p numbers c none r.items ++ run_pairs p
 
 -- one entry: from the progress w and the indices o to r and o'
 pub record Stepped (p e : ℕ) (numbers : List ℕ) (w : Progress) (o : List ℕ) (r : Progress) (o' : List ℕ) : Type 0 where
-  pub added : Added spliced (line (last_of w.after w.last.0) (vertex_at p numbers w.corner.0 e)) w.at o r.at o'
+  pub added : Added spliced (line (last_of w.last) (vertex_at p numbers w.corner.0 e)) w.at o r.at o'
   pub corner : r.corner.0 ≡ corner_after p w.corner.0 e
-  pub last : last_of r.after r.last.0 ≡ vertex_at p numbers w.corner.0 e
-  pub fits : r.last.0 < 2 ^ 32
+  pub last : last_of r.last ≡ vertex_at p numbers w.corner.0 e
+  pub fits : IfSome r.last (λ v. v.0 < 2 ^ 32)
 
 -- one run, of the entries es
 pub record RunPut (p : ℕ) (es numbers : List ℕ) (w : Progress) (o : List ℕ) (r : Progress) (o' : List ℕ) : Type 0 where

@@ -65,10 +65,8 @@ fn list_run(
 {
     let n = run.len() / 4;
     let mut c = first;
-    let mut j = 0;
-    while j < n {
+    for j in 0..n {
         c = list_entry(work, t, wide(points), c, point_at(run, j), start + j, line);
-        j += 1;
     }
     c
 }
@@ -83,6 +81,7 @@ pub fn list_entries(coord: &[u8], points: u32, work: &mut [u32], t: CornerTables
     let mut c = CornerNumber(0);
     let mut line = 0;
     let mut start = 0;
+    // A while: the next start is where the run ends, so no range counts it.
     while start < n {
         let run = run_at(coord, start);
         c = list_run(run, points, work, t, c, start, line);

@@ -1,5 +1,5 @@
 // FORMAT 6.3: the lines in pairs of vertex numbers, run by run.
-ghost use Rattle.std.specs.Prelude.{◌≡◌, false, ◌+◌, ◌*◌, ◌^◌, ◌<◌, ◌≤◌, length};
+ghost use Rattle.std.specs.Prelude.{◌≡◌, false, IfSome, ◌+◌, ◌*◌, ◌^◌, ◌<◌, ◌≤◌, length};
 ghost use Rattle.std.proofs.Math.Option.{none, some};
 ghost use Rattle.bits.specs.Bits.{entries};
 ghost use Rattle.block.specs.Runs.{runs, sum_over};
@@ -11,32 +11,27 @@ ghost use Rattle.lines.specs.Steps.{last_of, vertex_at, pairs, run_pairs, Steppe
 use block::{CornerNumber, PointNumber, VertexNumber, next_start, point_at, run_at};
 use tables::wide;
 
-// How far the lines are put: the next place for an index, the next corner, and whether the entry before names a point, with its vertex number.
+// How far the lines are put: the next place for an index, the next corner, and the vertex of the entry before, where that names a point.
 #[derive(Clone, Copy)]
 pub struct Progress {
     pub at: usize,
     pub corner: CornerNumber,
-    pub after: bool,
-    pub last: VertexNumber,
+    pub last: Option<VertexNumber>,
 }
 
 // The line from the entry before to vertex `next`, if that entry names a point. The next place.
-fn put_line(
-    indices: &mut [u32],
-    at: usize,
-    after: bool,
-    last: VertexNumber,
-    next: VertexNumber,
-) -> usize
-    requires { (at + length (line (last_of after last.0) (some next.0)) ≤ length indices.old) × (last.0 < 2 ^ 32) × (next.0 < 2 ^ 32) }
-    ensures { Added spliced (line (last_of after last.0) (some next.0)) at indices.old result indices.new }
+fn put_line(indices: &mut [u32], at: usize, last: Option<VertexNumber>, next: VertexNumber) -> usize
+    requires { (at + length (line (last_of last) (some next.0)) ≤ length indices.old) × IfSome last (λ v. v.0 < 2 ^ 32) × (next.0 < 2 ^ 32) }
+    ensures { Added spliced (line (last_of last) (some next.0)) at indices.old result indices.new }
 {
-    if after {
-        indices[at] = last.0 as u32;
-        indices[at + 1] = next.0 as u32;
-        return at + 2;
+    match last {
+        Some(v) => {
+            indices[at] = v.0 as u32;
+            indices[at + 1] = next.0 as u32;
+            at + 2
+        }
+        None => at,
     }
-    at
 }
 
 // One entry, read as a point. `numbers` has the vertex numbers of the corners.
@@ -47,27 +42,25 @@ fn put_entry(
     w: Progress,
     indices: &mut [u32],
 ) -> Progress
-    requires { (e.0 < points → w.corner.0 < length numbers.now) × (w.last.0 < 2 ^ 32)
-        × (w.at + length (line (last_of w.after w.last.0) (vertex_at points numbers.now w.corner.0 e.0)) ≤ length indices.old) }
+    requires { (e.0 < points → w.corner.0 < length numbers.now) × IfSome w.last (λ v. v.0 < 2 ^ 32)
+        × (w.at + length (line (last_of w.last) (vertex_at points numbers.now w.corner.0 e.0)) ≤ length indices.old) }
     ensures { Stepped points e.0 numbers.now w indices.old result indices.new }
 {
     let corner = w.corner;
     if e.0 < points {
         let c = corner.0;
         let next = VertexNumber(wide(numbers[c]));
-        let at = put_line(indices, w.at, w.after, w.last, next);
+        let at = put_line(indices, w.at, w.last, next);
         return Progress {
             at,
             corner: CornerNumber(c + 1),
-            after: true,
-            last: next,
+            last: Some(next),
         };
     }
     Progress {
         at: w.at,
         corner,
-        after: false,
-        last: VertexNumber(0),
+        last: None,
     }
 }
 
@@ -88,13 +81,10 @@ fn put_run(
     let mut w = Progress {
         at: from.at,
         corner,
-        after: false,
-        last: VertexNumber(0),
+        last: None,
     };
-    let mut j = 0;
-    while j < n {
+    for j in 0..n {
         w = put_entry(point_at(run, j), wide(points), numbers, w, indices);
-        j += 1;
     }
     w
 }
@@ -117,10 +107,10 @@ pub fn put_lines(
     let mut w = Progress {
         at: 0,
         corner: CornerNumber(0),
-        after: false,
-        last: VertexNumber(0),
+        last: None,
     };
     let mut start = 0;
+    // A while: the next start is where the run ends, so no range counts it.
     while start < n {
         let run = run_at(coord, start);
         w = put_run(run, points, &work[named..to], w, indices);

@@ -35,13 +35,11 @@ fn run_totals(run: &[u8], points: u32) -> LineTotals
     let mut corners: usize = 0;
     let mut lines: usize = 0;
     let mut after = false;
-    let mut j = 0;
-    while j < n {
+    for j in 0..n {
         let here = bits::entry(run, j) < points;
         corners = counted(corners, true, here);
         lines = counted(lines, after, here);
         after = here;
-        j += 1;
     }
     LineTotals { corners, lines }
 }
@@ -55,6 +53,7 @@ pub fn line_totals(list: &[u8], points: u32) -> LineTotals
     let mut start: usize = 0;
     let mut corners: usize = 0;
     let mut lines: usize = 0;
+    // A while: the next start is where the run ends, so no range counts it.
     while start < n {
         let run = run_at(list, start);
         let t = run_totals(run, points);

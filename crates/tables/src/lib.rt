@@ -1,10 +1,12 @@
 // Where the tables of a soup lie in the one working slice of words (FORMAT 4), and how they are read and filled.
 #![tactic(auto)]
 
+pub mod each;
 pub mod layout;
 pub mod reading;
 pub mod writing;
 
+pub use each::put_each;
 pub use layout::{Plan, plan_of};
 pub use reading::{Stretch, gather_of, owner_of, stretch_of, wide};
 pub use writing::{clear_floats, clear_words, fill, narrow};

@@ -2,4 +2,4 @@ use Rattle.extrusion.proofs.Lengths.{step2_is}
 use Rattle.extrusion.proofs.arcs.section_step.Goals as goal
 
 pub returns : goal.returns
-returns c = step2_is _ _ _ _ _ c.pair_at-p.ensures c.pair_at-q.ensures c.root.ensures.is
+returns c = step2_is _ _ _ _ _ c.at-p.ensures c.at-q.ensures c.root.ensures.is

@@ -1,17 +1,21 @@
-use Rattle.extrusion.proofs.Blocks.{section_room}
+use Rattle.extrusion.proofs.Blocks.{section_long, section_same}
 use Rattle.extrusion.proofs.Fitting.{cap_closed, cap_open}
-use Rattle.extrusion.proofs.Values.{count2}
+use Rattle.mesh.specs.Extrusion.{cap_length}
+use lib.ListN.{length}
+use mathlib.Core.Path.{◌∙◌, ap}
 use native.Mathlib.Omega.{arith}
 use Rattle.extrusion.proofs.caps.cap_length.Goals as goal
 
 pub closes-requires : goal.closes-requires
-closes-requires c = (section_room c.requires _ _ c.list_part.ensures c.section_count-m.ensures, rw c.section_count-m.ensures c.requires.section)
+closes-requires c = omega (arith, ap length c.section_of-section.ensures, section_long c.requires, c.requires.section)
 
 pub overflow_sub-result : goal.overflow_sub-result
-overflow_sub-result c = omega (arith, c.section_count-m.ensures, c.requires.section)
+overflow_sub-result c = omega (arith, c.len-m.ensures, ap length c.section_of-section.ensures, section_long c.requires, c.requires.section)
 
 pub returns-then-closes : goal.returns-then-closes
-returns-then-closes c = cap_closed _ _ _ _ c.list_part.ensures c.section_count-m.ensures _ (count2 _ _) c.closes.ensures c.if-closes.true
+returns-then-closes c =
+    cap_closed _ _ _ c.closes.ensures c.len-m.ensures c.if-closes.true ∙ ap cap_length (c.section_of-section.ensures ∙ section_same _ _ c.requires.head)
 
 pub returns : goal.returns
-returns c = cap_open _ _ _ _ c.list_part.ensures c.section_count-m.ensures _ (count2 _ _) c.closes.ensures c.if-closes.false
+returns c =
+    cap_open _ _ _ c.closes.ensures c.len-m.ensures c.if-closes.false ∙ ap cap_length (c.section_of-section.ensures ∙ section_same _ _ c.requires.head)

@@ -1,13 +1,17 @@
-use Rattle.extrusion.proofs.Blocks.{section_room}
+use Rattle.extrusion.proofs.Blocks.{section_long, section_same}
 use Rattle.extrusion.proofs.Fitting.{ring_closed, ring_open}
-use Rattle.extrusion.proofs.Values.{count2}
+use Rattle.mesh.specs.Extrusion.{ring_of}
+use lib.ListN.{length}
+use mathlib.Core.Path.{◌∙◌, ap}
+use native.Mathlib.Omega.{arith}
 use Rattle.extrusion.proofs.caps.ring_width.Goals as goal
 
 pub closes-requires : goal.closes-requires
-closes-requires c = (section_room c.requires _ _ c.list_part.ensures c.section_count-m.ensures, rw c.section_count-m.ensures c.requires.section)
+closes-requires c = omega (arith, ap length c.section_of-section.ensures, section_long c.requires, c.requires.section)
 
 pub returns-then-closes : goal.returns-then-closes
-returns-then-closes c = ring_closed _ _ _ _ c.list_part.ensures c.section_count-m.ensures _ (count2 _ _) c.closes.ensures c.if-closes.true
+returns-then-closes c =
+    ring_closed _ _ _ c.closes.ensures c.len.ensures c.if-closes.true ∙ ap ring_of (c.section_of-section.ensures ∙ section_same _ _ c.requires.head)
 
 pub returns : goal.returns
-returns c = ring_open _ _ _ _ c.list_part.ensures c.section_count-m.ensures _ c.closes.ensures c.if-closes.false
+returns c = ring_open _ 0 _ c.closes.ensures c.if-closes.false ∙ ap ring_of (c.section_of-section.ensures ∙ section_same _ _ c.requires.head)

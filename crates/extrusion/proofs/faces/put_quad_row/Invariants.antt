@@ -6,6 +6,3 @@ use Rattle.extrusion.proofs.faces.put_quad_row.Given as goal
 
 abbrev pub invariant-loop-j : goal.invariant-loop-j
 invariant-loop-j l = Pieces (quad (point_number l.m) l.i) (l.m - 1) l.initial.work l.k l.j l.work
-
-abbrev pub decreases-loop-j : goal.decreases-loop-j
-decreases-loop-j l = l.m - l.j

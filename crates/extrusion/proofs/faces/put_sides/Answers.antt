@@ -2,22 +2,13 @@ use Prim.Native.Nat.{◌*◌, ◌-◌}
 use Rattle.lists.proofs.Pieces.{pieces_all, pieces_more, pieces_none}
 use Rattle.extrusion.proofs.Sides.{row_width, rows_most, sides_are}
 use Rattle.lists.specs.Parts.{spliced}
-use Rattle.lists.proofs.Numbers.{piece_room, rows_least}
+use Rattle.lists.proofs.Numbers.{piece_room}
 use mathlib.Core.Path.{◌∙◌, ap, refl}
 use native.Mathlib.Omega.{arith}
 use Rattle.extrusion.proofs.faces.put_sides.Goals as goal
 
-pub overflow_mul-w : goal.overflow_mul-w
-overflow_mul-w c = omega (arith, rows_least c.args.n c.args.m c.requires.0, c.requires.2)
-
 pub loop-i-init : goal.loop-i-init
 loop-i-init c = pieces_none
-
-pub overflow_mul-i : goal.overflow_mul-i
-overflow_mul-i c = omega (arith, piece_room _ _ ((c.args.m - 1) * 4) _ _ c.requires.3 c.loop-i-test.true)
-
-pub overflow_add-k : goal.overflow_add-k
-overflow_add-k c = omega (arith, piece_room _ _ ((c.args.m - 1) * 4) _ _ c.requires.3 c.loop-i-test.true)
 
 pub put_quad_row-requires : goal.put_quad_row-requires
 put_quad_row-requires c =
@@ -26,9 +17,6 @@ put_quad_row-requires c =
 pub loop-i-preserved : goal.loop-i-preserved
 loop-i-preserved c =
     pieces_more ((c.args.m - 1) * 4) (row_width _) c.requires.3 c.loop-i.invariant c.loop-i-test.true refl refl c.put_quad_row.ensures
-
-pub shape_of-work : goal.shape_of-work
-shape_of-work c = c.loop-i.invariant.size
 
 pub returns : goal.returns
 returns c = pieces_all c.loop-i.invariant c.loop-i-test.false ∙ ap (spliced c.args.work.now c.args.k) (sides_are _ _)

@@ -8,6 +8,3 @@ use Rattle.extrusion.proofs.faces.put_sides.Given as goal
 
 abbrev pub invariant-loop-i : goal.invariant-loop-i
 invariant-loop-i l = Pieces (λ i. flat (tab (quad (point_number l.m) i) (l.m - 1) 0)) (l.n - 1) l.initial.work l.k l.i l.work
-
-abbrev pub decreases-loop-i : goal.decreases-loop-i
-decreases-loop-i l = l.n - l.i

@@ -8,23 +8,9 @@ use Rattle.extrusion.proofs.faces.put_uses.Goals as goal
 pub put_sides-requires : goal.put_sides-requires
 put_sides-requires c = (c.requires.0, c.requires.1, c.requires.3, sides_room _ _ _ _ _ _ _ c.requires.4)
 
-pub overflow_mul-m : goal.overflow_mul-m
-overflow_mul-m c =
-    omega (arith, rows_least c.args.n c.args.m c.requires.0, c.requires.3)
-
-pub overflow_mul-n : goal.overflow_mul-n
-overflow_mul-n c = omega (arith, sides_room _ _ _ _ _ _ _ c.requires.4)
-
-pub overflow_add-k : goal.overflow_add-k
-overflow_add-k c = omega (arith, sides_room _ _ _ _ _ _ _ c.requires.4)
-
 pub put_begin-next-requires : goal.put_begin-next-requires
 put_begin-next-requires c =
     (omega (arith, rows_least c.args.n c.args.m c.requires.0, c.requires.2, c.requires.3), omega (arith, begin_room _ _ _ _ _ _ _ c.requires.4))
-
-pub point_at-requires : goal.point_at-requires
-point_at-requires c =
-    omega (arith, last_row c.args.n c.args.m c.requires.0, c.requires.3)
 
 pub put_end-requires : goal.put_end-requires
 put_end-requires c =

@@ -1,6 +1,4 @@
 use Rattle.extrusion.proofs.Planes.{first_step}
-use Rattle.extrusion.proofs.Values.{count3}
-use Rattle.mesh.specs.Extrusion.{threes}
 use Rattle.mesh.specs.Frames.{first_of, first_y}
 use lib.ListN.{length}
 use mathlib.Core.Path.{◌≡◌, refl}
@@ -9,12 +7,12 @@ use Rattle.extrusion.proofs.frames.first_y.Goals as goal
 
 pub loop-i-init : goal.loop-i-init
 unfolding first_of
-loop-i-init c = (omega arith, refl)
+loop-i-init c = refl
 
 pub loop-i-preserved : goal.loop-i-preserved
-loop-i-preserved c = (omega arith, first_step _ _ _ _ _ c.loop-i.invariant.1 c.y_own.ensures c.or-y.ensures)
+loop-i-preserved c = first_step _ _ _ _ _ c.loop-i.invariant c.y_own.ensures c.or-y.ensures
 
 pub returns : goal.returns
 unfolding first_y
 returns c =
-    let e : c.loop-i.i ≡ length (threes c.args.s.now c.args.n) = omega (arith, count3 c.args.s.now c.args.n) in rw e at c.loop-i.invariant.1
+    let e : c.loop-i.i ≡ length c.args.s.now = omega arith in rw e at c.loop-i.invariant

@@ -1,11 +1,6 @@
-use Prim.Native.Nat.{◌-◌, ◌≤◌}
-use Rattle.mesh.specs.Extrusion.{threes}
 use Rattle.mesh.specs.Frames.{first_of, z_own}
 use mathlib.Core.Path.{◌≡◌}
 use Rattle.extrusion.proofs.frames.first_z.Given as goal
 
 abbrev pub invariant-loop-i : goal.invariant-loop-i
-invariant-loop-i l = (l.i ≤ l.n) × (l.z ≡ first_of (z_own (threes l.s l.n)) l.i)
-
-abbrev pub decreases-loop-i : goal.decreases-loop-i
-decreases-loop-i l = l.n - l.i
+invariant-loop-i l = l.z ≡ first_of (z_own l.s) l.i

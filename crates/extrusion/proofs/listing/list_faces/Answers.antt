@@ -1,4 +1,5 @@
-use Rattle.extrusion.proofs.Tabled.{faces_put, room_corners, room_numbers, room_places, room_starts, sides_most, starts_room, uses_room}
+use Rattle.extrusion.proofs.Tabled.{faces_put, room_corners, room_places, room_starts, sides_most, starts_room, uses_room}
+use Rattle.std.proofs.Common.{rules}
 use mathlib.Core.Path.{refl}
 use native.Mathlib.Omega.{arith}
 use Rattle.extrusion.proofs.listing.list_faces.Goals as goal
@@ -18,10 +19,6 @@ pub put_uses-requires-2 : goal.put_uses-requires-2
 put_uses-requires-2 c =
     uses_room c.requires _ _ c.spine_count-n.ensures c.section_count-m.ensures _ _ (omega (arith, room_places c.requires))
 
-pub put_numbers-requires : goal.put_numbers-requires
-put_numbers-requires c =
-    (c.requires.room.many, omega (arith, room_numbers c.requires))
-
 pub returns : goal.returns
 returns c =
-    faces_put c.requires _ _ c.spine_count-n.ensures c.section_count-m.ensures _ _ _ _ _ refl c.put_uses.ensures c.put_starts.ensures c.put_uses-2.ensures c.put_numbers.ensures
+    faces_put c.requires _ _ c.spine_count-n.ensures c.section_count-m.ensures _ _ _ _ _ refl c.put_uses.ensures c.put_starts.ensures c.put_uses-2.ensures (c.put_each.ensures (λ j. j) (λ j r b p. search rules))

@@ -1,17 +1,17 @@
+use Rattle.extrusion.proofs.Blocks.{points_put, turn_room, section_long, spine_long}
+use lib.ListN.{length}
 use Rattle.lists.proofs.Numbers.{rows_room}
-use Rattle.extrusion.proofs.Blocks.{points_put, scale_room, section_room, spine_room, turn_room}
+use mathlib.Core.Path.{◌∙◌, ap, sym}
+use native.Mathlib.Omega.{arith}
 use Rattle.extrusion.proofs.points.put_points.Goals as goal
 
 pub put_rows-requires : goal.put_rows-requires
 put_rows-requires c = (
-  spine_room c.requires.0 _ _ c.list_part-spine.ensures c.spine_count.ensures,
-  section_room c.requires.0 _ _ c.list_part-section.ensures c.section_count.ensures,
-  scale_room c.requires.0 _ _ c.list_part-scales.ensures c.scale_count.ensures,
-  turn_room c.requires.0 _ _ c.list_part-turns.ensures c.turn_count.ensures,
-  rw c.spine_count.ensures c.requires.0.spine,
-  rows_room _ _ _ _ _ _ c.spine_count.ensures c.section_count.ensures c.requires.1,
+  turn_room c.requires.0 _ _ c.list_part.ensures c.turn_count.ensures,
+  omega (arith, ap length c.spine_of.ensures, spine_long c.requires.0, c.requires.0.spine),
+  rows_room _ _ _ _ _ _ (ap length c.spine_of.ensures ∙ sym (spine_long c.requires.0)) (ap length c.section_of.ensures ∙ sym (section_long c.requires.0)) c.requires.1,
 )
 
 pub returns : goal.returns
 returns c =
-    points_put c.requires.0 _ _ _ _ _ _ _ _ _ _ _ c.list_part-spine.ensures c.spine_count.ensures c.list_part-section.ensures c.section_count.ensures c.list_part-scales.ensures c.scale_count.ensures c.list_part-turns.ensures c.turn_count.ensures c.put_rows.ensures
+    points_put _ _ c.requires.0.head _ _ _ _ _ _ _ _ c.spine_of.ensures c.section_of.ensures c.scales_of.ensures c.list_part.ensures c.turn_count.ensures c.put_rows.ensures

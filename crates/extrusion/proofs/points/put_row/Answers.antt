@@ -10,16 +10,16 @@ loop-j-init c = pieces_none
 
 pub put_point-requires : goal.put_point-requires
 put_point-requires c =
-    omega (arith, c.loop-j.invariant.size, c.loop-j-test.true, c.requires.1)
+    omega (arith, c.loop-j.invariant.size, c.loop-j-test.true, c.requires)
 
 pub loop-j-preserved : goal.loop-j-preserved
 loop-j-preserved c =
-    pieces_more 3 (spot_length _ _ _ _ _) (omega (arith, c.requires.1)) c.loop-j.invariant c.loop-j-test.true refl
-    (spot_is _ _ _ _ _ _ _ _ _ c.pair_at.ensures c.local.ensures c.placed-p.ensures) c.put_point.ensures
+    pieces_more 3 (spot_length _ _ _ _ _) (omega (arith, c.requires)) c.loop-j.invariant (omega arith) refl
+    (spot_is _ _ _ _ _ _ _ _ _ c.at.ensures c.local.ensures c.placed-p.ensures) c.put_point.ensures
 
 pub shape_of-work : goal.shape_of-work
 shape_of-work c = c.loop-j.invariant.size
 
 pub returns : goal.returns
 returns c =
-    pieces_all c.loop-j.invariant c.loop-j-test.false ∙ ap (spliced c.args.work.now c.args.k) (row_is _ _ _ _ c.args.section.now c.args.m)
+    pieces_all c.loop-j.invariant (omega arith) ∙ ap (spliced c.args.work.now c.args.k) (row_is _ _ _ _ c.args.section.now _ refl)

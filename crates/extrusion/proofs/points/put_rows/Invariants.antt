@@ -1,12 +1,8 @@
-use Prim.Native.Nat.{◌-◌, ◌<◌, ◌^◌}
 use Rattle.extrusion.proofs.Walking.{Walked}
-use Rattle.mesh.specs.Extrusion.{threes, turn_in, twos}
-use Rattle.lists.specs.Loops.{tab}
+use Rattle.mesh.specs.Extrusion.{turn_in}
 use lib.ListN.{length}
+use Rattle.lists.specs.Loops.{tab}
 use Rattle.extrusion.proofs.points.put_rows.Given as goal
 
 abbrev pub invariant-loop-i : goal.invariant-loop-i
-invariant-loop-i l = (length l.initial.work < 2 ^ 64) × (l.n < 2 ^ 63) × Walked (threes l.spine l.n) (twos l.section l.m) (twos l.scales l.scale_count) (tab (turn_in l.turns) l.turn_count 0) l.n l.initial.work l.k l.i l.work l.y l.prev
-
-abbrev pub decreases-loop-i : goal.decreases-loop-i
-decreases-loop-i l = l.n - l.i
+invariant-loop-i l = Walked l.spine l.section l.scales (tab (turn_in l.turns) l.turn_count 0) (length l.spine) l.initial.work l.k l.i l.work l.y l.prev

@@ -1,4 +1,6 @@
-use Rattle.extrusion.proofs.Blocks.{section_room}
+use Rattle.extrusion.proofs.Blocks.{section_long}
+use lib.ListN.{length}
+use mathlib.Core.Path.{ap}
 use Rattle.extrusion.proofs.Textures.{column_lt, column_reach, on_cap, on_side, row_reach, sides_fit}
 use native.Mathlib.Omega.{arith}
 use Rattle.extrusion.proofs.uv.plain_texture.Goals as goal
@@ -40,12 +42,10 @@ pub returns-then-number-n : goal.returns-then-number-n
 returns-then-number-n c =
     on_side c.requires.0 c.args.number c.args.point.0 _ _ c.spine_count-n.ensures c.section_count-m.ensures c.requires.1 _ c.if-number-n.true c.side_texture.ensures.0 c.side_texture.ensures.1
 
-pub pair_at-requires : goal.pair_at-requires
-pair_at-requires c = (
-  section_room c.requires.0.given _ _ c.list_part.ensures c.section_count-m.ensures,
-  column_lt c.requires.0 c.args.number c.args.point.0 _ _ c.spine_count-n.ensures c.section_count-m.ensures c.requires.1,
-)
+pub at-requires : goal.at-requires
+at-requires c =
+    omega (arith, column_lt c.requires.0 c.args.number c.args.point.0 _ _ c.spine_count-n.ensures c.section_count-m.ensures c.requires.1, ap length c.section_of.ensures, section_long c.requires.0.given, c.section_count-m.ensures)
 
 pub returns : goal.returns
 returns c =
-    on_cap c.requires.0 c.args.number c.args.point.0 _ _ c.spine_count-n.ensures c.section_count-m.ensures c.requires.1 _ _ _ c.if-number-n.false c.list_part.ensures c.pair_at.ensures c.cap_texture.ensures
+    on_cap c.requires.0 c.args.number c.args.point.0 _ _ c.spine_count-n.ensures c.section_count-m.ensures c.requires.1 _ _ _ c.if-number-n.false c.section_of.ensures c.at.ensures c.cap_texture.ensures

@@ -36,13 +36,6 @@ pub put2-requires : goal.put2-requires
 put2-requires c =
     omega (arith, c.loop-c-test.true, c.requires.2.room, c.loop-c.invariant.size)
 
-pub overflow_add-c : goal.overflow_add-c
-overflow_add-c c =
-    omega (arith, c.loop-c-test.true, c.requires.2.room)
-
-pub loop-c-smaller : goal.loop-c-smaller
-loop-c-smaller c = omega (arith, c.loop-c-test.true)
-
 pub loop-c-preserved : goal.loop-c-preserved
 loop-c-preserved c =
     let T = c.loop-c.invariant in

@@ -1,21 +1,16 @@
 use Rattle.grid.proofs.Held.{corners_asked, tables_written}
+use Prim.Native.Nat.{◌*◌}
+use Rattle.std.proofs.Common.{rules}
 use native.Mathlib.Omega.{arith}
 use Rattle.grid.proofs.quads.list_faces.Goals as goal
 
 pub put_corners-requires : goal.put_corners-requires
 put_corners-requires c = corners_asked _ _ _ _ _ _ c.requires c.wide-xd.ensures (omega (arith, c.requires.room))
 
-pub put_multiples-requires : goal.put_multiples-requires
-put_multiples-requires c = let P = c.requires in let R = P.room in (omega (arith, P.count, P.faces, R.few), omega arith)
-
 pub put_corners-requires-2 : goal.put_corners-requires-2
 put_corners-requires-2 c =
     let R = c.requires.room in corners_asked _ _ _ _ _ _ c.requires c.wide-xd.ensures (omega arith)
 
-pub put_multiples-requires-2 : goal.put_multiples-requires-2
-put_multiples-requires-2 c =
-    let R = c.requires.room in (omega arith, omega arith)
-
 pub returns : goal.returns
 returns c =
-    tables_written _ _ _ _ _ _ _ _ c.requires c.wide-xd.ensures c.put_corners.ensures c.put_multiples.ensures c.put_corners-2.ensures c.put_multiples-2.ensures
+    tables_written _ _ _ _ _ _ _ _ c.requires c.wide-xd.ensures c.put_corners.ensures (c.put_each.ensures (λ j. 4 * j) (λ j r b p. search rules)) c.put_corners-2.ensures (c.put_each-2.ensures (λ j. 1 * j) (λ j r b p. search rules))

@@ -1,15 +1,7 @@
-use native.Mathlib.Omega.{arith}
 use Rattle.tables.proofs.Listings.{listed_sound}
 use Rattle.shaping.proofs.Tabling.{tabled}
 use Rattle.gridshape.proofs.Bounds.{points_there}
 use Rattle.gridshape.proofs.filling.put_tables.Goals as goal
-
-pub put_points-requires : goal.put_points-requires
-put_points-requires c = let P = c.requires.0 in let R = P.room in (P.sides, c.requires.1, omega (arith, P.spots))
-
-pub list_faces-requires : goal.list_faces-requires
-list_faces-requires c =
-    rw (points_there _ _ _ _ c.requires.0 c.put_points.ensures).0 c.requires.0
 
 pub prepare-requires : goal.prepare-requires
 prepare-requires c = (listed_sound c.list_faces.ensures.1, c.requires.2)

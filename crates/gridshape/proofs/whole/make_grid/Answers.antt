@@ -1,4 +1,3 @@
-use mathlib.Core.Path.{◌∙◌}
 use native.Mathlib.Omega.{arith}
 use Rattle.shaping.proofs.Tabling.{faces_held}
 use Rattle.shaping.proofs.Theorem.{ready, shaped}
@@ -25,14 +24,6 @@ pub build-requires : goal.build-requires
 build-requires c =
     ready c.requires (sizes_are c.requires) (counted c.requires c.plan_grid-t.ensures) c.put_tables.ensures c.texture_where.ensures
     (shape c.args.missing _ c.requires.accepted.header c.requires.accepted.settings c.listed_shared-shared.ensures c.part-coord.ensures c.requires.kind)
-
-pub shape_of-work : goal.shape_of-work
-shape_of-work c =
-    c.build.auto.work ∙ c.texture_where.ensures.kept.len ∙ c.put_tables.ensures.len
-
-pub shape_of-floats : goal.shape_of-floats
-shape_of-floats c =
-    c.build.auto.floats ∙ c.put_tables.ensures.size
 
 pub returns : goal.returns
 returns c =

@@ -10,21 +10,9 @@ pub list_run-c-requires : goal.list_run-c-requires
 list_run-c-requires c =
     let L = c.loop-start.invariant.3 in (rw L.left.len c.requires.0, listing_here L c.run_at-run.ensures refl c.loop-start-test.true c.requires.2, omega (arith, c.run_at-run.ensures.within, c.requires.4), omega (arith, c.requires.4))
 
-pub overflow_add-line : goal.overflow_add-line
-overflow_add-line c = omega arith
-
-pub next_start-start-requires : goal.next_start-start-requires
-next_start-start-requires c = omega arith
-
-pub loop-start-smaller : goal.loop-start-smaller
-loop-start-smaller c = omega arith
-
 pub loop-start-preserved : goal.loop-start-preserved
 loop-start-preserved c =
     let L = c.loop-start.invariant.3 in (c.loop-start.invariant.0, omega arith, omega arith, listing_next L c.run_at-run.ensures c.next_start-start.ensures c.loop-start-test.true c.list_run-c.ensures)
-
-pub shape_of-work : goal.shape_of-work
-shape_of-work c = c.loop-start.invariant.3.left.len
 
 pub returns : goal.returns
 returns c =

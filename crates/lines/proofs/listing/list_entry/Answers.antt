@@ -1,17 +1,8 @@
-use native.Mathlib.Omega.{arith}
 use Rattle.lines.specs.Uses.{listed}
 use Rattle.lines.proofs.Usage.{use_here, use_past}
 use mathlib.Core.Path.{refl, sym}
 use native.Mathlib.Nat.{add-zero}
 use Rattle.lines.proofs.listing.list_entry.Goals as goal
-
-pub list_corner-requires : goal.list_corner-requires
-list_corner-requires c =
-    (c.requires.0, c.requires.1 c.if-e-points.true, omega (arith, c.if-e-points.true, c.requires.2), c.requires.3, c.requires.4)
-
-pub overflow_add-result : goal.overflow_add-result
-overflow_add-result c =
-    omega (arith, c.requires.1 c.if-e-points.true, c.requires.0)
 
 pub returns-then-e-points : goal.returns-then-e-points
 unfolding listed

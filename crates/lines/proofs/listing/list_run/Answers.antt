@@ -18,8 +18,5 @@ pub loop-j-preserved : goal.loop-j-preserved
 loop-j-preserved c =
     let bs = c.args.run.now in let l = entries_length bs in let L = c.loop-j.invariant.1 in let h : c.loop-j.j < length (entries bs) = omega arith in (c.loop-j.invariant.0, entry_next L h (rw (c.point_at.ensures, c.wide.ensures) at c.list_entry-c.ensures))
 
-pub shape_of-work : goal.shape_of-work
-shape_of-work c = c.loop-j.invariant.1.left.len
-
 pub returns : goal.returns
 returns c = let bs = c.args.run.now in let l = entries_length bs in run_end c.loop-j.invariant.1 (omega arith)

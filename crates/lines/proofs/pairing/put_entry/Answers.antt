@@ -5,18 +5,9 @@ use Rattle.lines.specs.Steps.{last_of}
 use Rattle.lines.proofs.Pairs.{line_none, vertex_here, vertex_past, corner_here, corner_past}
 use Rattle.lines.proofs.pairing.put_entry.Goals as goal
 
-pub offset_bounds-numbers-c : goal.offset_bounds-numbers-c
-offset_bounds-numbers-c c = omega (arith, c.requires.0 c.if-e-points.true)
-
-pub bounds-numbers-c : goal.bounds-numbers-c
-bounds-numbers-c c = c.requires.0 c.if-e-points.true
-
 pub put_line-at-requires : goal.put_line-at-requires
 put_line-at-requires c =
     (rw (vertex_here _ _ _ c.if-e-points.true, ← c.wide.ensures) at c.requires.2, c.requires.1, omega (arith, c.wide.ensures, c.type_inv.numbers c.args.w.corner.0))
-
-pub overflow_add-result : goal.overflow_add-result
-overflow_add-result c = omega (arith, c.requires.0 c.if-e-points.true)
 
 pub returns-then-e-points : goal.returns-then-e-points
 unfolding last_of
@@ -26,4 +17,4 @@ returns-then-e-points c =
 pub returns : goal.returns
 unfolding last_of
 returns c =
-    let v = vertex_past c.args.points c.args.numbers.now c.args.w.corner.0 c.if-e-points.false in record { added = rw v (line_none (last_of c.args.w.after c.args.w.last.0) _ _); corner = sym (corner_past _ _ c.if-e-points.false); last = sym v; fits = omega arith }
+    let v = vertex_past c.args.points c.args.numbers.now c.args.w.corner.0 c.if-e-points.false in record { added = rw v (line_none (last_of c.args.w.last) _ _); corner = sym (corner_past _ _ c.if-e-points.false); last = sym v; fits = omega arith }

@@ -6,14 +6,14 @@ use Rattle.lines.proofs.Pairs.{line_two, line_put, line_left}
 use Rattle.lines.proofs.pairing.put_line.Goals as goal
 
 pub bounds-indices-at : goal.bounds-indices-at
-bounds-indices-at c = omega (arith, line_two c.args.last.0 c.args.next.0 c.if-after.true, c.requires.0)
+bounds-indices-at c = omega (arith, line_two _ c.args.next.0 c.in-Some.is, c.requires.0)
 
-pub bounds-indices-at-then-after : goal.bounds-indices-at-then-after
-bounds-indices-at-then-after c = rw length-set (omega (arith, line_two c.args.last.0 c.args.next.0 c.if-after.true, c.requires.0))
+pub bounds-indices-at-in-Some : goal.bounds-indices-at-in-Some
+bounds-indices-at-in-Some c = rw length-set (omega (arith, line_two _ c.args.next.0 c.in-Some.is, c.requires.0))
 
-pub returns-then-after : goal.returns-then-after
-returns-then-after c =
-    record { next = ap (λ (n : ℕ). c.args.at + n) (sym (line_two c.args.last.0 c.args.next.0 c.if-after.true)); made = line_put _ _ c.if-after.true _ _ c.requires.0 }
+pub returns-in-Some : goal.returns-in-Some
+returns-in-Some c =
+    record { next = ap (λ (n : ℕ). c.args.at + n) (sym (line_two _ c.args.next.0 c.in-Some.is)); made = line_put _ _ c.in-Some.is _ _ c.requires.0 }
 
-pub returns : goal.returns
-returns c = line_left _ _ c.if-after.false _ _
+pub returns-in-None : goal.returns-in-None
+returns-in-None c = line_left _ c.in-None.is _ _

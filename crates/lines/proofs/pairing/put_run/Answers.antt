@@ -22,8 +22,5 @@ pub loop-j-preserved : goal.loop-j-preserved
 loop-j-preserved c =
     let bs = c.args.run.now in let l = entries_length bs in let P = c.loop-j.invariant.1 in let h : c.loop-j.j < length (entries bs) = omega arith in (c.loop-j.invariant.0, pairing_next P h c.requires.1 (rw (c.point_at.ensures, c.wide.ensures) at c.put_entry-w.ensures))
 
-pub shape_of-indices : goal.shape_of-indices
-shape_of-indices c = c.loop-j.invariant.1.left.len
-
 pub returns : goal.returns
 returns c = let bs = c.args.run.now in let l = entries_length bs in let P = c.loop-j.invariant.1 in let R = pairing_end P (omega arith) in record { added = R.added; corner = R.corner }

@@ -5,20 +5,11 @@ use Rattle.block.proofs.RunLaws.{sum_turn, sum_ended}
 use Rattle.mesh.specs.Sizes.{named, lines_after}
 use Rattle.lines.proofs.totals.line_totals.Goals as goal
 
-pub loop-start-init : goal.loop-start-init
-loop-start-init c = omega arith
-
 pub overflow_add-corners : goal.overflow_add-corners
 overflow_add-corners c = omega (arith, entries_length c.run_at-run.result.now)
 
 pub overflow_add-lines : goal.overflow_add-lines
 overflow_add-lines c = omega (arith, entries_length c.run_at-run.result.now)
-
-pub next_start-start-requires : goal.next_start-start-requires
-next_start-start-requires c = omega arith
-
-pub loop-start-smaller : goal.loop-start-smaller
-loop-start-smaller c = omega arith
 
 pub loop-start-preserved : goal.loop-start-preserved
 loop-start-preserved c =

@@ -1,11 +1,7 @@
-use mathlib.Core.Path.{refl}
 use native.Mathlib.Omega.{arith}
 use Rattle.bits.proofs.Entries.{entries_length}
-use Rattle.lines.proofs.Counting.{counting_start, counting_next, counting_end}
+use Rattle.lines.proofs.Counting.{counting_next, counting_end}
 use Rattle.lines.proofs.totals.run_totals.Goals as goal
-
-pub loop-j-init : goal.loop-j-init
-loop-j-init c = (refl, counting_start)
 
 pub loop-j-preserved : goal.loop-j-preserved
 loop-j-preserved c =

@@ -5,9 +5,6 @@ use lib.ListN.{replicate}
 use Rattle.lines.proofs.Meshed.{told_count, lined_all}
 use Rattle.lines.proofs.whole.make_lines.Goals as goal
 
-pub all_vertices-n-requires : goal.all_vertices-n-requires
-all_vertices-n-requires c = c.requires.corners
-
 pub put_lines-made-requires : goal.put_lines-made-requires
 put_lines-made-requires c =
     let R = c.requires in let Q = R.corners.laid in let l = c.all_vertices-n.ensures.kept.len in (omega (arith, Q.named, Q.places, Q.numbers, Q.textures, Q.heads, Q.nexts, l), told_count R.told, R.room)
