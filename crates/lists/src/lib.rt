@@ -23,10 +23,10 @@ pub fn put(table: &mut [u32], k: usize, v: u32)
     }
 }
 
-// The words of an array, from place a on.
-pub fn put_words<const N: usize>(table: &mut [u32], a: usize, words: [u32; N])
+// The elements of an array, from place a on.
+pub fn put_all<T: Copy, const N: usize>(table: &mut [T], a: usize, all: [T; N])
     requires { a + N ≤ length table.old }
-    ensures { table.new ≡ spliced table.old a words.entry }
+    ensures { table.new ≡ spliced table.old a all }
 {
-    table[a..a + N].copy_from_slice(&words);
+    table[a..a + N].copy_from_slice(&all);
 }
