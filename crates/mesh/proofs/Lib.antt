@@ -12,6 +12,7 @@ pub mod Gathered
 pub mod Dense
 mod Runs
 pub mod Bytes
+pub mod Options
 pub mod OneFace
 pub mod FaceSet
 pub mod OneRun

@@ -2,9 +2,9 @@
 use mathlib.Core.Path.{◌≡◌, refl, sym, ap, ap₂, ◌∙◌, subst}
 use mathlib.Core.Logic.{⊎_elim}
 use mathlib.Core.Bool.{Bool, cond}
-use mathlib.Core.List.{List}
+use mathlib.Core.List.{List, [], ◌∷◌}
 use Prim.Native.Nat.{ℕ, zero, suc, ◌+◌, ◌*◌, ◌-◌, ◌≤◌, ◌<◌}
-use native.Mathlib.Nat.{not-suc-le-zero}
+use native.Mathlib.Nat.{add-zero, not-suc-le-zero}
 use native.Mathlib.Omega.{arith}
 use lib.Dec.{T, eqb}
 use lib.ListN.{length, get_or, set, length-set}
@@ -21,10 +21,11 @@ use Rattle.polygon.specs.Plane.{handed}
 use Rattle.mesh.specs.Soup.{points_of}
 use Rattle.mesh.specs.Normals.{outline, facing}
 use Rattle.tables.specs.declared.layout.Plan.{Plan}
-use Rattle.lists.specs.Parts.{seg, Kept}
+use Rattle.lists.specs.Parts.{seg, spliced, Kept}
 use Rattle.tables.specs.Soups.{gather_in, owner_in, start_in, points_in, face_in, frame_in, Sound}
-use Rattle.lists.proofs.Keep.{kept_all, kept_set, kept_then, kept_at, set_hit, set_miss}
+use Rattle.lists.proofs.Keep.{kept_all, kept_set, kept_then, kept_at, set_hit}
 use Rattle.tables.proofs.Stays.{start_le, gather_kept, owner_kept, start_kept, sound_kept, face_kept, frame_kept, names_in}
+use Rattle.lists.proofs.Splices.{put_at, put_kept}
 use Rattle.lists.proofs.Tabs.{length_tab, tab_same}
 use Rattle.lists.proofs.Numbers.{last_or, le_or_lt}
 use Rattle.normals.specs.Group.{gathers_in, Grouped}
@@ -124,19 +125,16 @@ row_sound {w} {w'} {t} S g n k (L, e3, eu) = let R = S.room in sound_kept L t (o
 
 -- ---- three words stored
 
-pub stored : (w : List ℕ) (a x y z : ℕ) (v : V3) → a + 3 ≤ length w → T (fits binary32 v.x) → T (fits binary32 v.y) → T (fits binary32 v.z)
+pub stored : (w : List ℕ) {w' : List ℕ} (a x y z : ℕ) (v : V3) → a + 3 ≤ length w → T (fits binary32 v.x) → T (fits binary32 v.y) → T (fits binary32 v.z)
     → x ≡ to_bits binary32 v.x → y ≡ to_bits binary32 v.y → z ≡ to_bits binary32 v.z
-    → Kept a w (set (set (set w a x) (a + 1) y) (a + 2) z) × (at3 (set (set (set w a x) (a + 1) y) (a + 2) z) a ≡ v)
+    → w' ≡ spliced w a (x ∷ y ∷ z ∷ []) → Kept a w w' × (at3 w' a ≡ v)
 unfolding at3
-stored w a x y z v h fx fy fz ex ey ez =
-    let l₁ = length-set w a x in
-    let l₂ = length-set (set w a x) (a + 1) y in
-    let px = set_miss (set (set w a x) (a + 1) y) (a + 2) z a (λ q. omega arith) ∙ set_miss (set w a x) (a + 1) y a (λ q. omega arith) ∙ set_hit w a x a (omega arith) refl in
-    let py = set_miss (set (set w a x) (a + 1) y) (a + 2) z (a + 1) (λ q. omega arith) ∙ set_hit (set w a x) (a + 1) y (a + 1) (omega arith) refl in
-    let pz = set_hit (set (set w a x) (a + 1) y) (a + 2) z (a + 2) (omega arith) refl in
+stored w {w'} a x y z v h fx fy fz ex ey ez q =
+    let at : (j : ℕ) → j < 3 → get_or w' (a + j) 0 ≡ get_or (x ∷ y ∷ z ∷ []) j 0 = put_at w a (x ∷ y ∷ z ∷ []) q refl h 0 in
+    let px : get_or w' a 0 ≡ x = ap (λ (k : ℕ). get_or w' k 0) (sym (add-zero a)) ∙ at 0 (omega arith) in
     let back : (n : ℕ) (u : Float) → n ≡ to_bits binary32 u → T (fits binary32 u) → of_bits binary32 n ≡ u = λ n u e f. ap (of_bits binary32) e ∙ of_bits-to_bits binary32 u f in (
-      kept_set (a + 2) z (kept_set (a + 1) y (kept_set a x kept_all (omega arith)) (omega arith)) (omega arith),
-      λ i. v3 ((ap (of_bits binary32) px ∙ back x v.x ex fx) i) ((ap (of_bits binary32) py ∙ back y v.y ey fy) i) ((ap (of_bits binary32) pz ∙ back z v.z ez fz) i),
+      put_kept w a (x ∷ y ∷ z ∷ []) q refl h,
+      λ i. v3 ((ap (of_bits binary32) px ∙ back x v.x ex fx) i) ((ap (of_bits binary32) (at 1 (omega arith)) ∙ back y v.y ey fy) i) ((ap (of_bits binary32) (at 2 (omega arith)) ∙ back z v.z ez fz) i),
     )
 
 -- ---- a unit vector, and a row

@@ -4,7 +4,7 @@ ghost use Rattle.std.specs.Prelude.{◌≡◌, ◌+◌, ◌*◌, ◌≤◌, leng
 ghost use Rattle.tables.specs.Layout.{Room};
 ghost use Rattle.normals.specs.Rows.{no_unit, Mirrored};
 
-use crate::vectors::{load, load_unit, or_else, put3};
+use crate::vectors::{load, load_unit, put3};
 use math::V3;
 use tables::Plan;
 
@@ -28,6 +28,6 @@ pub fn mirror(work: &[u32], t: Plan, floats: &mut [f32])
         let row = t.rows + 7 * g;
         let at = 3 * t.count + 6 * g;
         put3(floats, at, load(work, row));
-        put3(floats, at + 3, or_else(load_unit(work, row + 3), none));
+        put3(floats, at + 3, load_unit(work, row + 3).unwrap_or(none));
     }
 }

@@ -21,14 +21,10 @@ fn sum_at(work: &[u32], t: Plan, floats: &[f32], c: CornerNumber, bound: f32) ->
 {
     let p = gather_of(work, t, c);
     let own = owner_of(work, t, c);
-    match load_unit(work, t.rows + 7 * own + 3) {
-        Some(u) => {
-            return sum_near(work, t, floats, p, own, u, bound);
-        }
-        None => {
-            return load(work, t.rows + 7 * own);
-        }
-    }
+    let Some(u) = load_unit(work, t.rows + 7 * own + 3) else {
+        return load(work, t.rows + 7 * own);
+    };
+    sum_near(work, t, floats, p, own, u, bound)
 }
 
 // Whether two corners are of one face and gathered under one number.

@@ -7,7 +7,7 @@ ghost use Rattle.normals.specs.Rows.{vector, normal_in, hits_at, Ready, Mirrored
 ghost use Rattle.normals.specs.Written.{normal_at};
 
 use crate::groups::faces_at;
-use crate::vectors::{get3, load_unit, or_else};
+use crate::vectors::{get3, load_unit};
 use block::{CreaseRule, PointNumber};
 use math::V3;
 use tables::{Plan, wide};
@@ -72,14 +72,10 @@ fn crease_unit(
             return load_unit(work, t.sums + 4 * p.0);
         }
         CreaseRule::Bound(b) => {
-            match k {
-                Some(u) => {
-                    return math::normalize(sum_near(work, t, floats, p, own, u, b));
-                }
-                None => {
-                    return None;
-                }
-            }
+            let Some(u) = k else {
+                return None;
+            };
+            return math::normalize(sum_near(work, t, floats, p, own, u, b));
         }
     }
 }
@@ -94,7 +90,7 @@ pub fn normal_by(work: &[u32], t: Plan, own: usize, s: Option<V3>) -> V3
         y: 1.0,
         z: 0.0,
     };
-    or_else(s, or_else(load_unit(work, t.rows + 7 * own + 3), up))
+    s.unwrap_or(load_unit(work, t.rows + 7 * own + 3).unwrap_or(up))
 }
 
 // The normal of a corner of face own that is gathered under p.

@@ -1,10 +1,10 @@
 // FORMAT 9.1: vectors as words, and as floats in the f32 slice.
 ghost use Rattle.std.specs.Prelude.{◌≡◌, ◌+◌, ◌≤◌, length};
 ghost use Rattle.lists.specs.Parts.{Kept, spliced};
-ghost use Rattle.mesh.specs.Normals.{or_else};
 ghost use Rattle.normals.specs.Rows.{at3, unit_at, vector};
 ghost use Rattle.normals.specs.Written.{three};
 
+use lists::put_all;
 use math::V3;
 
 // Not one with `get3`, nor `store3` with `put3`: words hold the bits of a float, so it would take a trait with its laws for three lines.
@@ -34,9 +34,11 @@ pub fn store3(work: &mut [u32], a: usize, v: V3)
     requires { a + 3 ≤ length work.old }
     ensures { Kept a work.old work.new × (at3 work.new a ≡ v) }
 {
-    work[a] = math::bits_of(v.x);
-    work[a + 1] = math::bits_of(v.y);
-    work[a + 2] = math::bits_of(v.z);
+    put_all(
+        work,
+        a,
+        [math::bits_of(v.x), math::bits_of(v.y), math::bits_of(v.z)],
+    );
 }
 
 // As `load_unit` reads it.
@@ -61,9 +63,7 @@ pub fn put3(part: &mut [f32], a: usize, v: V3)
     requires { a + 3 ≤ length part.old }
     ensures { part.new ≡ spliced part.old a (three v) }
 {
-    part[a] = v.x;
-    part[a + 1] = v.y;
-    part[a + 2] = v.z;
+    put_all(part, a, [v.x, v.y, v.z]);
 }
 
 pub fn get3(part: &[f32], a: usize) -> V3
@@ -74,18 +74,5 @@ pub fn get3(part: &[f32], a: usize) -> V3
         x: part[a],
         y: part[a + 1],
         z: part[a + 2],
-    }
-}
-
-pub fn or_else(k: Option<V3>, other: V3) -> V3
-    ensures { result ≡ or_else k other }
-{
-    match k {
-        Some(u) => {
-            return u;
-        }
-        None => {
-            return other;
-        }
     }
 }

@@ -16,9 +16,9 @@ pub sum_near-requires : goal.sum_near-requires
 sum_near-requires c =
     (c.requires.0, c.requires.2, c.requires.3, rows_read _ _ c.requires.1 c.in-Bound.is)
 
-pub returns-in-Some : goal.returns-in-Some
-returns-in-Some c =
+pub returns-in-Bound : goal.returns-in-Bound
+returns-in-Bound c =
     unit_bound _ _ _ _ _ _ c.in-Bound.is _ c.requires.4 _ _ c.in-Some.is c.sum_near.ensures c.normalize.ensures
 
-pub returns-in-None : goal.returns-in-None
-returns-in-None c = unit_bound_none _ _ _ _ _ _ c.in-Bound.is _ c.requires.4 c.in-None.is refl
+pub returns-in_default : goal.returns-in_default
+returns-in_default c = unit_bound_none _ _ _ _ _ _ c.in-Bound.is _ c.requires.4 c.in_default.is refl

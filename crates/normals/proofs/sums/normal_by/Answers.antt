@@ -3,10 +3,11 @@ use mathlib.Core.Path.{ap, ◌∙◌}
 use Rattle.std.specs.Prelude.{Option}
 use Rattle.math.specs.Vector.{y_axis}
 use Rattle.mesh.specs.Normals.{or_else}
+use Rattle.mesh.proofs.Options.{unwrap_or_is}
 use Rattle.normals.specs.Rows.{unit_in}
 use Rattle.normals.proofs.sums.normal_by.Goals as goal
 
 pub returns : goal.returns
 unfolding unit_in
 returns c =
-    c.or_else-2.ensures ∙ ap (or_else c.args.s) (c.or_else.ensures ∙ ap (λ (q : (Option V3)). or_else q y_axis) (c.load_unit.ensures ∙ c.requires.0.units _ c.requires.1))
+    c.unwrap_or-2.ensures ∙ unwrap_or_is _ _ ∙ ap (or_else c.args.s) (c.unwrap_or.ensures ∙ unwrap_or_is _ _ ∙ ap (λ (q : (Option V3)). or_else q y_axis) (c.load_unit.ensures ∙ c.requires.0.units _ c.requires.1))
