@@ -165,10 +165,7 @@ impl<'a> Lent<'a> {
             return straight_up();
         }
         let n = (k - 1) as usize;
-        let Some(u) = self.triangle_normal(n) else {
-            return straight_up();
-        };
-        u
+        self.triangle_normal(n).unwrap_or(straight_up())
     }
 
     // The table is made when the first normal that cannot be scaled is met.
