@@ -15,7 +15,9 @@ use Rattle.std.specs.Prelude.{Some, None}
 use Rattle.math.specs.declared.quaternion.Quat.{Quat}
 use Rattle.math.specs.Vector.{zero_f, one_f, x_axis, y_axis, vadd, vsub, vscale, vdot, vcross, unit_of}
 use Rattle.math.specs.Quaternion.{rotated, between}
-use Rattle.mesh.specs.Normals.{or_else}
+use Rattle.std.specs.Prelude.{unwrap_or}
+use Rattle.std.specs.Option.{option_or}
+use Rattle.mesh.proofs.Options.{unwrap_or_is, option_or_is}
 use Rattle.mesh.specs.Frames.{z_axis, axes, at, or, first_of, last_of, same3, closed, is_end, step, along_end, y_own, bend, z_end, z_own, turned, pick_z, upright, bent, straight, axes_by}
 use Rattle.mesh.specs.Extrusion.{placed}
 use Rattle.extrusion.specs.declared.axes.PlaneAxes.{PlaneAxes}
@@ -23,13 +25,13 @@ use Rattle.extrusion.specs.Rows.{axes_of}
 
 -- ---- what may be missing
 
-pub first_step : (f : ℕ → (Option V3)) (i : ℕ) (y z r : (Option V3)) → y ≡ first_of f i → z ≡ f i → r ≡ or y z → r ≡ first_of f (i + 1)
+pub first_step : (f : ℕ → (Option V3)) (i : ℕ) (y z r : (Option V3)) → y ≡ first_of f i → z ≡ f i → r ≡ option_or y z → r ≡ first_of f (i + 1)
 unfolding first_of
-first_step f i y z r ey ez er = rw (er, ey, ez, add-one) refl
+first_step f i y z r ey ez er = rw (er, ey, ez, add-one) (option_or_is (first_of f i) (f i))
 
-pub last_step : (s : (Option V3)) (f : ℕ → (Option V3)) (i : ℕ) (y z r : (Option V3)) → y ≡ last_of s f i → z ≡ f i → r ≡ or z y → r ≡ last_of s f (i + 1)
+pub last_step : (s : (Option V3)) (f : ℕ → (Option V3)) (i : ℕ) (y z r : (Option V3)) → y ≡ last_of s f i → z ≡ f i → r ≡ option_or z y → r ≡ last_of s f (i + 1)
 unfolding last_of
-last_step s f i y z r ey ez er = rw (er, ey, ez, add-one) refl
+last_step s f i y z r ey ez er = rw (er, ey, ez, add-one) (option_or_is (f i) (last_of s f i))
 
 -- ---- the ends
 
@@ -114,25 +116,26 @@ turned_over prev z p r d ep ed t er = rw (er, ep, ← ed, t) refl
 pub turned_not : (prev : (Option V3)) (z p : V3) (d : Float) → prev ≡ Some p → d ≡ vdot z p → lt d zero_f ≡ false → z ≡ turned prev z
 turned_not prev z p d ep ed t = rw (ep, ← ed, t) refl
 
-pub pick_is : (first prev z a b : (Option V3)) (v r : V3) → a ≡ or z prev → b ≡ or a first → v ≡ or_else b z_axis → r ≡ turned prev v → r ≡ pick_z first prev z
+pub pick_is : (first prev z a b : (Option V3)) (v r : V3) → a ≡ option_or z prev → b ≡ option_or a first → v ≡ unwrap_or b z_axis → r ≡ turned prev v → r ≡ pick_z first prev z
 unfolding pick_z
-pick_is first prev z a b v r ea eb ev er = rw (er, ev, eb, ea) refl
+pick_is first prev z a b v r ea eb ev er =
+    rw (er, ev, eb, ea, option_or_is (option_or z prev) first, option_or_is z prev, unwrap_or_is (or (or z prev) first) z_axis) refl
 
-pub upright_is : (y z s t r : V3) (d : Float) (u : (Option V3)) → d ≡ vdot z y → s ≡ vscale y d → t ≡ vsub z s → u ≡ unit_of t → r ≡ or_else u z → r ≡ upright y z
+pub upright_is : (y z s t r : V3) (d : Float) (u : (Option V3)) → d ≡ vdot z y → s ≡ vscale y d → t ≡ vsub z s → u ≡ unit_of t → r ≡ unwrap_or u z → r ≡ upright y z
 unfolding upright
-upright_is y z s t r d u ed es et eu er = rw (er, eu, et, es, ed) refl
+upright_is y z s t r d u ed es et eu er = rw (er, eu, et, es, ed) (unwrap_or_is _ _)
 
 pub bent_is : (y z u x : V3) → u ≡ upright y z → x ≡ vcross y u → axes x y u ≡ bent y z
 unfolding bent
 bent_is y z u x eu ex = rw (ex, eu) refl
 
-pub straight_is : (y : (Option V3)) (u1 u2 u3 e a b c : V3) (q : Quat) → u1 ≡ y_axis → u2 ≡ y_axis → e ≡ or_else y u2 → q ≡ between u1 e → a ≡ rotated q x_axis → u3 ≡ y_axis
+pub straight_is : (y : (Option V3)) (u1 u2 u3 e a b c : V3) (q : Quat) → u1 ≡ y_axis → u2 ≡ y_axis → e ≡ unwrap_or y u2 → q ≡ between u1 e → a ≡ rotated q x_axis → u3 ≡ y_axis
     → b ≡ rotated q u3 → c ≡ rotated q z_axis → axes a b c ≡ straight y
 unfolding straight
-straight_is y u1 u2 u3 e a b c q e1 e2 ee eq ea e3 eb ec = rw (ea, eb, ec, e3, eq, ee, e1, e2) refl
+straight_is y u1 u2 u3 e a b c q e1 e2 ee eq ea e3 eb ec = rw (ea, eb, ec, e3, eq, ee, e1, e2, unwrap_or_is y y_axis) refl
 
-pub by_bent : (first y₀ y : (Option V3)) (z f u v : V3) (r : PlaneAxes) → first ≡ Some f → u ≡ y_axis → v ≡ or_else y u → axes_of r ≡ bent v z → axes_of r ≡ axes_by first y₀ y z
-by_bent first y₀ y z f u v r ef eu ev er = rw (er, ev, eu, ef) refl
+pub by_bent : (first y₀ y : (Option V3)) (z f u v : V3) (r : PlaneAxes) → first ≡ Some f → u ≡ y_axis → v ≡ unwrap_or y u → axes_of r ≡ bent v z → axes_of r ≡ axes_by first y₀ y z
+by_bent first y₀ y z f u v r ef eu ev er = rw (er, ev, eu, ef, unwrap_or_is y y_axis) refl
 
 pub by_straight : (first y₀ y : (Option V3)) (z : V3) (r : PlaneAxes) → first ≡ None → axes_of r ≡ straight y₀ → axes_of r ≡ axes_by first y₀ y z
 by_straight first y₀ y z r ef er = rw (er, ef) refl

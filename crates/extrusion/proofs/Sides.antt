@@ -1,11 +1,11 @@
 -- FORMAT 8.4: laws of the points of the faces, as they are written.
 use mathlib.Core.Path.{◌≡◌, refl, sym, ap, ◌∙◌}
 use mathlib.Core.Bool.{Bool, true, false}
-use mathlib.Core.List.{List, [], ◌++◌, append_assoc, append-nil, reverse}
+use mathlib.Core.List.{List, [], ◌∷◌, ◌++◌, append_assoc, append-nil, reverse}
 use Prim.Native.Nat.{ℕ, suc, ◌+◌, ◌-◌, ◌*◌, ◌≤◌, ◌<◌}
 use native.Mathlib.Nat.{suc-mul, mul-le-mul_right}
 use native.Mathlib.Omega.{arith}
-use lib.ListN.{length, set, length-append}
+use lib.ListN.{length, length-append}
 use Rattle.lists.specs.Loops.{tab}
 use Rattle.lists.specs.Lists.{flat}
 use Rattle.mesh.specs.Quads.{tabs, quad}
@@ -14,14 +14,14 @@ use Rattle.lists.proofs.Totals.{tab_reverse}
 use Rattle.tables.specs.Layout.{most}
 use Rattle.lists.specs.Parts.{spliced}
 use Rattle.extrusion.specs.Listings.{side_points, begin_points, end_points, face_points}
-use Rattle.lists.proofs.Splices.{splice_more, put_four}
+use Rattle.lists.proofs.Splices.{splice_more}
 use Rattle.lists.proofs.Pieces.{flat_append, length_pieces, flat_rows}
 
 -- four points, stored
-pub quad_put : (m i j k : ℕ) (l w x y z : List ℕ) (a b c d : ℕ) → k + 4 ≤ length l → a ≡ point_number m i j → b ≡ point_number m i (j + 1) → c ≡ point_number m (i + 1) (j + 1) → d ≡ point_number m (i + 1) j
-    → w ≡ set l k a → x ≡ set w (k + 1) b → y ≡ set x (k + 2) c → z ≡ set y (k + 3) d → z ≡ spliced l k (quad (point_number m) i j)
+pub quad_put : (m i j k : ℕ) (l w : List ℕ) (a b c d a₂ b₂ c₂ d₂ : ℕ) → a ≡ point_number m i j → b ≡ point_number m i (j + 1) → c ≡ point_number m (i + 1) (j + 1) → d ≡ point_number m (i + 1) j
+    → a₂ ≡ a → b₂ ≡ b → c₂ ≡ c → d₂ ≡ d → w ≡ spliced l k (a₂ ∷ b₂ ∷ c₂ ∷ d₂ ∷ []) → w ≡ spliced l k (quad (point_number m) i j)
 unfolding quad
-quad_put m i j k l w x y z a b c d h ea eb ec ed ew ex ey ez = rw (ez, ey, ex, ew, ea, eb, ec, ed) (put_four l k _ _ _ _ h)
+quad_put m i j k l w a b c d a₂ b₂ c₂ d₂ ea eb ec ed na nb nc nd ew = rw (ew, na, nb, nc, nd, ea, eb, ec, ed) refl
 
 pub quad_length : {A : Type 0} (f : ℕ → ℕ → A) (i j : ℕ) → length (quad f i j) ≡ 4
 unfolding quad

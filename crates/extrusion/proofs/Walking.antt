@@ -7,13 +7,15 @@ use lib.ListN.{length}
 use Rattle.math.specs.declared.vector.V3.{V3}
 use Rattle.std.specs.Prelude.{Option}
 use Rattle.std.specs.Prelude.{Some, None}
+use Rattle.std.specs.Option.{option_or}
+use Rattle.mesh.proofs.Options.{option_or_is}
 use Rattle.math.specs.declared.quaternion.Quat.{Quat}
 use Rattle.block.specs.declared.texture.Pair.{Pair}
 use Rattle.lists.specs.Loops.{tab}
 use Rattle.lists.proofs.Tabs.{map_tab, tab_list}
 use Rattle.lists.specs.Lists.{flat}
 use Rattle.mesh.specs.Words.{words3, bits}
-use Rattle.mesh.specs.Frames.{Axes, at, or, last_of, first_y, y_own, y_at, first_z, z_own, pick_z, prev_z, axes_by, axes_at}
+use Rattle.mesh.specs.Frames.{Axes, at, last_of, first_y, y_own, y_at, first_z, z_own, pick_z, prev_z, axes_by, axes_at}
 use Rattle.mesh.specs.Arcs.{at2}
 use Rattle.mesh.specs.Extrusion.{local, placed, row_words, turn_at, scale_at}
 use Rattle.lists.proofs.Lists.{length_words}
@@ -63,10 +65,10 @@ module _ (sp : List V3) (cs scs : List Pair) (qs : List Quat) where
   unfolding last_of prev_z
   walk_start n l k y e = record { y_is = e; prev_is = refl; rows = pieces_none }
 
-  axes_is : (i : ℕ) (first y₀ y own y' prev z : (Option V3)) (v : V3) (f : Axes) → first ≡ first_z sp → y₀ ≡ first_y sp → y ≡ last_of (first_y sp) (y_own sp) i → own ≡ y_own sp i → y' ≡ or own y
+  axes_is : (i : ℕ) (first y₀ y own y' prev z : (Option V3)) (v : V3) (f : Axes) → first ≡ first_z sp → y₀ ≡ first_y sp → y ≡ last_of (first_y sp) (y_own sp) i → own ≡ y_own sp i → y' ≡ option_or own y
       → prev ≡ prev_z sp i → z ≡ z_own sp i → v ≡ pick_z first prev z → f ≡ axes_by first y₀ y' v → f ≡ axes_at sp i
   unfolding axes_at y_at last_of
-  axes_is i first y₀ y own y' prev z v f ef e₀ ey eo ey' ep ez ev er = rw (er, ev, ez, ep, ey', eo, ey, e₀, ef) refl
+  axes_is i first y₀ y own y' prev z v f ef e₀ ey eo ey' ep ez ev er = rw (er, ev, ez, ep, ey', eo, ey, e₀, ef, option_or_is (y_own sp i) (last_of (first_y sp) (y_own sp) i)) refl
 
   prev_more : (i : ℕ) → prev_z sp (suc i) ≡ Some (pick_z (first_z sp) (prev_z sp i) (z_own sp i))
   unfolding prev_z
@@ -78,7 +80,7 @@ module _ (sp : List V3) (cs scs : List Pair) (qs : List Quat) where
 
   pub walk_step : (n : ℕ) (l work work' : List ℕ) (k i m : ℕ) (first y₀ y own y' prev z : (Option V3)) (v o : V3) (f : PlaneAxes) (q : Quat) (sc : Pair)
       → Walked sp cs scs qs n l k i work y prev → m ≡ length cs → k + n * (3 * m) ≤ length l → i < n
-      → first ≡ first_z sp → y₀ ≡ first_y sp → own ≡ y_own sp i → y' ≡ or own y → z ≡ z_own sp i → v ≡ pick_z first prev z → axes_of f ≡ axes_by first y₀ y' v
+      → first ≡ first_z sp → y₀ ≡ first_y sp → own ≡ y_own sp i → y' ≡ option_or own y → z ≡ z_own sp i → v ≡ pick_z first prev z → axes_of f ≡ axes_by first y₀ y' v
       → o ≡ at sp i → q ≡ turn_at qs i → sc ≡ scale_at scs i
       → work' ≡ spliced work (k + i * (3 * m)) (row_words o (axes_of f) q sc cs)
       → Walked sp cs scs qs n l k (i + 1) work' y' (Some v)

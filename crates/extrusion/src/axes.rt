@@ -1,12 +1,10 @@
 // FORMAT 8.4, extrusion_frames: the axes of the cross-section's plane at a spine point.
 ghost use Rattle.std.specs.Prelude.{◌≡◌};
 ghost use Rattle.math.specs.Vector.{y_axis};
-ghost use Rattle.mesh.specs.Normals.{or_else};
 ghost use Rattle.mesh.specs.Frames as spec;
 ghost use Rattle.mesh.specs.Frames.{pick_z, axes_by};
 ghost use Rattle.extrusion.specs.Rows.{axes_of};
 
-use crate::frames::or;
 use math::V3;
 
 // X and Z span the plane, and Y goes along the spine.
@@ -15,15 +13,6 @@ pub struct PlaneAxes {
     pub x: V3,
     pub y: V3,
     pub z: V3,
-}
-
-fn or_else(u: Option<V3>, d: V3) -> V3
-    ensures { result ≡ or_else u d }
-{
-    match u {
-        Some(v) => v,
-        None => d,
-    }
 }
 
 // z, turned over where it points against the one used before it.
@@ -50,17 +39,15 @@ pub fn pick_z(first: Option<V3>, prev: Option<V3>, z: Option<V3>) -> V3
         y: 0.0,
         z: 1.0,
     };
-    turned(prev, or_else(or(or(z, prev), first), back))
+    turned(prev, z.or(prev).or(first).unwrap_or(back))
 }
 
 // z straightened against y.
 fn upright(y: V3, z: V3) -> V3
     ensures { result ≡ spec.upright y z }
 {
-    or_else(
-        math::normalize(math::sub(z, math::scale(y, math::dot(z, y)))),
-        z,
-    )
+    let along = math::scale(y, math::dot(z, y));
+    math::normalize(math::sub(z, along)).unwrap_or(z)
 }
 
 fn bent(y: V3, z: V3) -> PlaneAxes
@@ -88,7 +75,7 @@ fn upward() -> V3
 fn straight(y: Option<V3>) -> PlaneAxes
     ensures { axes_of result ≡ spec.straight y }
 {
-    let q = math::quat_between(upward(), or_else(y, upward()));
+    let q = math::quat_between(upward(), y.unwrap_or(upward()));
     PlaneAxes {
         x: math::quat_rotate(
             q,
@@ -115,7 +102,7 @@ pub fn axes_by(first: Option<V3>, y0: Option<V3>, y: Option<V3>, z: V3) -> Plane
     ensures { axes_of result ≡ axes_by first y0 y z }
 {
     match first {
-        Some(_) => bent(or_else(y, upward()), z),
+        Some(_) => bent(y.unwrap_or(upward()), z),
         None => straight(y0),
     }
 }

@@ -1,5 +1,5 @@
 // FORMAT 8.4, extrusion (pm.faces): the points of the corners, face by face: sides, then caps.
-ghost use Rattle.std.specs.Prelude.{◌≡◌, ℕ, ◌+◌, ◌-◌, ◌*◌, ◌≤◌, ◌<◌, length, set};
+ghost use Rattle.std.specs.Prelude.{◌≡◌, ℕ, ◌+◌, ◌-◌, ◌*◌, ◌≤◌, ◌<◌, length};
 ghost use Rattle.lists.specs.Loops.{tab};
 ghost use Rattle.lists.specs.Lists.{flat};
 ghost use Rattle.mesh.specs.Quads.{quad};
@@ -10,6 +10,7 @@ ghost use Rattle.lists.specs.Parts.{spliced};
 ghost use Rattle.extrusion.specs.Listings.{side_points, begin_points, end_points, face_points};
 
 use block::{Header, PointNumber};
+use lists::put_all;
 use tables::{narrow, put_each};
 
 // The point in row i, column j, of rows of m.
@@ -20,22 +21,20 @@ fn point_at(m: usize, i: usize, j: usize) -> PointNumber
     PointNumber(i * m + j)
 }
 
-fn put_point_number(work: &mut [u32], k: usize, p: PointNumber)
-    requires { (k < length work.old) × (p.0 ≤ most) }
-    ensures { work.new ≡ set work.old k p.0 }
-{
-    work[k] = narrow(p.0);
-}
-
 // The points of the face in row i, column j, of rows of m.
 fn put_quad(work: &mut [u32], k: usize, m: usize, i: usize, j: usize)
     requires { (1 ≤ m) × (k + 4 ≤ length work.old) × (i * m + m + j + 1 ≤ most) }
     ensures { work.new ≡ spliced work.old k (quad (point_number m) i j) }
 {
-    put_point_number(work, k, point_at(m, i, j));
-    put_point_number(work, k + 1, point_at(m, i, j + 1));
-    put_point_number(work, k + 2, point_at(m, i + 1, j + 1));
-    put_point_number(work, k + 3, point_at(m, i + 1, j));
+    let a = point_at(m, i, j);
+    let b = point_at(m, i, j + 1);
+    let c = point_at(m, i + 1, j + 1);
+    let d = point_at(m, i + 1, j);
+    put_all(
+        work,
+        k,
+        [narrow(a.0), narrow(b.0), narrow(c.0), narrow(d.0)],
+    );
 }
 
 // The sides of row i.

@@ -6,16 +6,6 @@ ghost use Rattle.mesh.specs.Frames.{same3, closed, is_end, along_end, y_own, fir
 use crate::reading::Points;
 use math::V3;
 
-// The first of two that is there.
-pub fn or(a: Option<V3>, b: Option<V3>) -> Option<V3>
-    ensures { result ≡ spec.or a b }
-{
-    match a {
-        Some(v) => Some(v),
-        None => b,
-    }
-}
-
 fn same_point(a: V3, b: V3) -> bool
     ensures { result ≡ same3 a b }
 {
@@ -78,7 +68,7 @@ pub fn first_y(s: &Points) -> Option<V3>
 {
     let mut y = None;
     for i in 0..s.len() {
-        y = or(y, y_own(s, i));
+        y = y.or(y_own(s, i));
     }
     y
 }
@@ -124,7 +114,7 @@ pub fn first_z(s: &Points) -> Option<V3>
 {
     let mut z = None;
     for i in 0..s.len() {
-        z = or(z, z_own(s, i));
+        z = z.or(z_own(s, i));
     }
     z
 }

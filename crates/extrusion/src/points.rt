@@ -9,9 +9,10 @@ ghost use Rattle.extrusion.specs.Given.{Given};
 ghost use Rattle.extrusion.specs.Rows.{axes_of, rows_by};
 
 use crate::axes::{PlaneAxes, axes_by, pick_z};
-use crate::frames::{first_y, first_z, or, y_own, z_own};
+use crate::frames::{first_y, first_z, y_own, z_own};
 use crate::reading::{Pairs, Points, scales_of, section_of, spine_of, turn_count, turn_in};
 use block::{Header, Pair};
+use lists::put_all;
 use math::{Quat, V3};
 
 // The scale at point i: the first where there are too few.
@@ -81,9 +82,11 @@ fn put_point(work: &mut [u32], k: usize, v: V3)
     requires { k + 3 ≤ length work.old }
     ensures { work.new ≡ spliced work.old k (words3 (bits v)) }
 {
-    work[k] = math::bits_of(v.x);
-    work[k + 1] = math::bits_of(v.y);
-    work[k + 2] = math::bits_of(v.z);
+    put_all(
+        work,
+        k,
+        [math::bits_of(v.x), math::bits_of(v.y), math::bits_of(v.z)],
+    );
 }
 
 // The points of one spine point o.
@@ -116,7 +119,7 @@ fn put_rows(
     let mut y = y0;
     let mut prev = None;
     for i in 0..spine.len() {
-        y = or(y_own(spine, i), y);
+        y = y_own(spine, i).or(y);
         let z = pick_z(first, prev, z_own(spine, i));
         prev = Some(z);
         let f = axes_by(first, y0, y, z);

@@ -3,4 +3,4 @@ use Rattle.extrusion.proofs.faces.put_quad.Goals as goal
 
 pub returns : goal.returns
 returns c =
-    quad_put _ _ _ _ _ _ _ _ _ _ _ _ _ c.requires.1 c.point_at.ensures c.point_at-2.ensures c.point_at-3.ensures c.point_at-4.ensures c.put_point_number.ensures c.put_point_number-2.ensures c.put_point_number-3.ensures c.put_point_number-4.ensures
+    quad_put _ _ _ _ _ _ _ _ _ _ _ _ _ _ c.point_at-a.ensures c.point_at-b.ensures c.point_at-c.ensures c.point_at-d.ensures c.narrow.ensures c.narrow-2.ensures c.narrow-3.ensures c.narrow-4.ensures c.put_all.ensures
