@@ -1,11 +1,11 @@
 // FORMAT 12.1, PolyMesh::build (local): triangles of a face's own corners become triangles of vertices, where they stand.
-ghost use Rattle.std.specs.Prelude.{◌≡◌, [], ◌∷◌, ◌+◌, ◌*◌, ◌^◌, ◌≤◌, ◌<◌, length, get_or, set, drop};
+ghost use Rattle.std.specs.Prelude.{◌≡◌, [], ◌∷◌, ◌+◌, ◌*◌, ◌^◌, ◌≤◌, ◌<◌, length, get_or, drop};
 ghost use Rattle.lists.specs.Parts.{spliced};
 ghost use Rattle.polygon.specs.Ears.{triple};
 ghost use Rattle.faces.specs.Naming.{threes, numbered};
 
 use block::{CornerNumber, VertexNumber};
-use lists::{get, put};
+use lists::{get, put_all};
 use tables::wide;
 
 // The corner that place k names before it is renamed, counted from the face's first corner.
@@ -23,20 +23,11 @@ fn vertex_of(named: &[u32], c: CornerNumber) -> VertexNumber
 }
 
 // A vertex number fits a word: it was read from one.
-fn put_vertex(s: &mut [u32], k: usize, v: VertexNumber)
-    requires { v.0 < 2 ^ 32 }
-    ensures { s.new ≡ set s.old k v.0 }
-{
-    put(s, k, v.0 as u32);
-}
-
 fn put_three(s: &mut [u32], k: usize, a: VertexNumber, b: VertexNumber, c: VertexNumber)
     requires { (k + 3 ≤ length s.old) × (a.0 < 2 ^ 32) × (b.0 < 2 ^ 32) × (c.0 < 2 ^ 32) }
     ensures { s.new ≡ spliced s.old k (a.0 ∷ b.0 ∷ c.0 ∷ []) }
 {
-    put_vertex(s, k, a);
-    put_vertex(s, k + 1, b);
-    put_vertex(s, k + 2, c);
+    put_all(s, k, [a.0 as u32, b.0 as u32, c.0 as u32]);
 }
 
 // One triangle; b and c are exchanged where ccw is off.

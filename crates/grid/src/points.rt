@@ -9,6 +9,7 @@ ghost use Rattle.grid.specs.Sides.{Sides};
 
 use bits::Words3;
 use block::{Header, Settings, list_part};
+use lists::put_all;
 use tables::wide;
 
 pub fn whole_float(n: u16) -> f32
@@ -43,9 +44,7 @@ fn put3(work: &mut [u32], a: usize, w: Words3)
     requires { a + 3 ≤ length work.old }
     ensures { work.new ≡ spliced work.old a (words3 w) }
 {
-    work[a] = w.x;
-    work[a + 1] = w.y;
-    work[a + 2] = w.z;
+    put_all(work, a, [w.x, w.y, w.z]);
 }
 
 // The points' words from place `at` on, row by row.

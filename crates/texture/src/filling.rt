@@ -10,6 +10,7 @@ use crate::corner::corner_texture;
 use crate::extents::default_at;
 use bits::Words2;
 use block::{Header, PointNumber, Settings};
+use lists::put_all;
 use mesh::Fit;
 use tables::wide;
 
@@ -17,8 +18,7 @@ pub fn put2(work: &mut [u32], a: usize, w: Words2)
     requires { a + 2 ≤ length work.old }
     ensures { work.new ≡ spliced work.old a (words2 w) }
 {
-    work[a] = w.s;
-    work[a + 1] = w.t;
+    put_all(work, a, [w.s, w.t]);
 }
 
 // The texture at a place, of a point whose words are in `work`. Where texture points are listed no default is made.

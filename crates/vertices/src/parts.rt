@@ -1,8 +1,10 @@
 // Parts of slices of words, compared and copied.
-ghost use Rattle.std.specs.Prelude.{◌≡◌, [], ◌∷◌, ◌+◌, ◌*◌, ◌≤◌, length};
+ghost use Rattle.std.specs.Prelude.{◌≡◌, ◌+◌, ◌*◌, ◌≤◌, length};
 ghost use Rattle.std.proofs.lemmas.List.Edits.{sets};
 ghost use Rattle.lists.specs.Lists.{same_words};
 ghost use Rattle.lists.specs.Parts.{seg};
+
+use lists::put_all;
 
 // Whether the w words of key from j are row i of l (FORMAT 11).
 // By index: == of the two slices takes near twice as long (measured), and so does a zip of them.
@@ -19,22 +21,13 @@ pub fn same_row(key: &[u32], j: usize, l: &[u32], w: usize, i: usize) -> bool
     true
 }
 
-fn put_three(dst: &mut [u32], at: usize, x: u32, y: u32, z: u32)
-    requires { at + 3 ≤ length dst.old }
-    ensures { dst.new ≡ sets dst.old at (x ∷ y ∷ z ∷ []) }
-{
-    dst[at] = x;
-    dst[at + 1] = y;
-    dst[at + 2] = z;
-}
-
 // The n words of src from j, into dst from at. Three, as positions and normals have, go one by one: a copy of any number is a call.
 pub fn put_words(dst: &mut [u32], at: usize, src: &[u32], j: usize, n: usize)
     requires { (at + n ≤ length dst.old) × (j + n ≤ length src.now) }
     ensures { dst.new ≡ sets dst.old at (seg src.now j n) }
 {
     if n == 3 {
-        put_three(dst, at, src[j], src[j + 1], src[j + 2]);
+        put_all(dst, at, [src[j], src[j + 1], src[j + 2]]);
         return;
     }
     dst[at..at + n].copy_from_slice(&src[j..j + n]);

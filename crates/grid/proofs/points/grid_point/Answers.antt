@@ -1,4 +1,3 @@
-use Rattle.grid.proofs.Numbers.{column_few, row_few}
 use Rattle.bits.proofs.Entries.{entries_length}
 use Rattle.mesh.specs.Grid.{grid_point}
 use native.Mathlib.Omega.{arith}

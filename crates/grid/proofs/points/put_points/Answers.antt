@@ -1,11 +1,9 @@
 use mathlib.Core.List.{List}
-use lib.ListN.{length}
 use Rattle.lists.proofs.Pieces.{pieces_none, pieces_more, pieces_all}
 use Rattle.mesh.specs.Grid.{x_dimension, z_dimension, grid_point, grid_points}
 use Rattle.mesh.specs.Words.{words3}
-use Rattle.block.specs.Extents.{list_bytes}
 use Rattle.bits.specs.Bits.{entries}
-use mathlib.Core.Path.{◌≡◌, refl, ap, ◌∙◌}
+use mathlib.Core.Path.{refl, ap, ◌∙◌}
 use Prim.Native.Nat.{ℕ, ◌*◌, ◌<◌}
 use native.Mathlib.Omega.{arith}
 use Rattle.grid.proofs.points.put_points.Goals as goal

@@ -1,7 +1,6 @@
 use Rattle.mesh.specs.Quads.{quad}
 use Rattle.lists.proofs.Numbers.{four_left}
-use Rattle.grid.proofs.Numbers.{corner_is, quad_fits}
-use native.Mathlib.Omega.{arith}
+use Rattle.grid.proofs.Numbers.{corner_is}
 use Rattle.grid.proofs.quads.corner_point.Goals as goal
 
 pub returns-then-k-eq0 : goal.returns-then-k-eq0

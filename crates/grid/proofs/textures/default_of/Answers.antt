@@ -1,6 +1,4 @@
-use Rattle.grid.proofs.Numbers.{column_few, row_few}
 use Rattle.mesh.specs.Grid.{grid_default}
-use native.Mathlib.Omega.{arith}
 use Rattle.grid.proofs.textures.default_of.Goals as goal
 
 pub returns : goal.returns

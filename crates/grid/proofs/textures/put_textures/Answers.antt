@@ -1,6 +1,6 @@
 use Rattle.grid.specs.Textures.{grid_texture}
 use Rattle.lists.proofs.Keep.{kept_at}
-use Rattle.lists.proofs.Pieces.{pieces_none, pieces_more, pieces_all, pieces_kept}
+use Rattle.lists.proofs.Pieces.{pieces_none, pieces_more, pieces_kept}
 use Rattle.mesh.specs.Words.{words2}
 use mathlib.Core.Path.{◌∙◌, ap, refl}
 use Prim.Native.Nat.{◌+◌}

@@ -9,7 +9,8 @@ use Rattle.vertices.proofs.parts.put_words.Goals as goal
 
 pub returns-then-n-eq3 : goal.returns-then-n-eq3
 returns-then-n-eq3 c =
-    rw (c.if-n-eq3.true, seg_three c.args.src.now c.args.j (omega (arith, c.requires.1, c.if-n-eq3.true))) c.put_three.ensures
+    rw (c.if-n-eq3.true, seg_three c.args.src.now c.args.j (omega (arith, c.requires.1, c.if-n-eq3.true)))
+    (c.put_all.ensures ∙ sym (sets_spliced _ _ _ (omega (arith, c.requires.0, c.if-n-eq3.true))))
 
 pub returns : goal.returns
 returns c =
