@@ -94,13 +94,13 @@ pub fn root(x: f32) -> f32
     ensures { Rooted x result }
 {
     if x > 0.0 {
-        if x < f32::from_bits(0x7f80_0000) {
+        if x < f32::INFINITY {
             return f32::from_bits(root_bits(f32::to_bits(x)));
         }
         return x;
     }
     if x < 0.0 {
-        return 0.0 / 0.0;
+        return f32::NAN;
     }
     x
 }
@@ -195,7 +195,7 @@ fn is_plain(x: f32) -> bool
     ensures { result ≡ plain x }
 {
     if x > 0.0 {
-        if x < f32::from_bits(0x7f80_0000) {
+        if x < f32::INFINITY {
             return 8388607 < f32::to_bits(x);
         }
         return false;

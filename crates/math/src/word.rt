@@ -9,7 +9,7 @@ pub fn of_bits(n: u32) -> f32
     ensures { result ≡ of_bits binary32 n }
 {
     if n % 0x8000_0000 > 0x7f80_0000 {
-        return 0.0 / 0.0;
+        return f32::NAN;
     }
     f32::from_bits(n)
 }
@@ -28,7 +28,7 @@ pub fn bits_of(x: f32) -> u32
 pub fn is_finite(x: f32) -> bool
     ensures { result ≡ finite x }
 {
-    let most = f32::from_bits(0x7f80_0000);
+    let most = f32::INFINITY;
     if x < most {
         return -most < x;
     }

@@ -11,7 +11,7 @@ use tables::Plan;
 fn no_unit() -> V3
     ensures { result ≡ no_unit }
 {
-    let nan = 0.0 / 0.0;
+    let nan = f32::NAN;
     V3 {
         x: nan,
         y: nan,

@@ -1,12 +1,8 @@
-use lib.Ieee.{nan_bits}
 use Rattle.math.specs.Digit.{plain}
 use Rattle.math.proofs.Sorts.{above_finite, positive_no_nan}
 use Rattle.math.proofs.square_root.is_plain.Goals as goal
 
 -- Each return is what `plain` is after the tests on its way.
-pub float_from_bits-t-3 : goal.float_from_bits-t-3
-float_from_bits-t-3 c = unfold nan_bits in tt
-
 pub float_to_bits-result : goal.float_to_bits-result
 float_to_bits-result c = positive_no_nan c.args.x (above_finite c.args.x c.if-x.true c.if-x-2.true)
 

@@ -1,16 +1,13 @@
 use mathlib.Core.Path.{◌∙◌, ap}
 use native.Mathlib.Omega.{arith}
 use borrow.Author.Rules.{rules}
-use lib.Ieee.{nan_bits, binary32, of_bits, to_bits}
+use lib.Ieee.{binary32, of_bits, to_bits, div}
 use Rattle.math.proofs.Near.{rooted}
 use Rattle.math.proofs.Place.{root_bits_lt}
 use Rattle.math.proofs.Sorts.{above_finite, above_infinite, below_zero, neither, positive_no_nan, positive_in, positive_root, plain_pattern}
 use Rattle.math.proofs.square_root.root.Goals as goal
 
 -- The tests tell which case of `rootOf` it is; a positive finite argument has bits that `root_bits` takes.
-pub float_from_bits-t-3 : goal.float_from_bits-t-3
-float_from_bits-t-3 c = unfold nan_bits in tt
-
 pub float_to_bits-x : goal.float_to_bits-x
 float_to_bits-x c = positive_no_nan c.args.x (above_finite c.args.x c.if-x.true c.if-x-2.true)
 
@@ -29,6 +26,7 @@ pub returns-then-x : goal.returns-then-x
 returns-then-x c = rooted _ _ (search rules) (above_infinite c.args.x c.if-x.true c.if-x-2.false)
 
 pub returns-then-x-3 : goal.returns-then-x-3
+unfolding of_bits div
 returns-then-x-3 c = rooted _ _ (search rules) (below_zero c.args.x c.if-x-3.true)
 
 pub returns : goal.returns

@@ -1,9 +1,5 @@
-use lib.Ieee.{nan_bits}
 use Rattle.math.proofs.Words.{below_infinity, not_below_infinity}
 use Rattle.math.proofs.word.is_finite.Goals as goal
-
-pub float_from_bits-most : goal.float_from_bits-most
-float_from_bits-most c = unfold nan_bits in tt
 
 pub returns-then-x-most : goal.returns-then-x-most
 returns-then-x-most c = below_infinity c.args.x c.if-x-most.true

@@ -1,7 +1,7 @@
 use mathlib.Core.Path.{refl}
-use lib.Ieee.{div, of_bits}
+use lib.Ieee.{of_bits}
 use Rattle.normals.proofs.mirror.no_unit.Goals as goal
 
 pub returns : goal.returns
-unfolding div of_bits
+unfolding of_bits
 returns c = refl
