@@ -2,9 +2,8 @@
 use mathlib.Core.Path.{◌≡◌, refl, sym, ap, ap₂, ◌∙◌}
 use mathlib.Core.Logic.{⊎_elim}
 use mathlib.Core.List.{List, [], ◌∷◌, ◌++◌, append_assoc, append-nil}
-use Prim.Native.Nat.{ℕ, suc, ◌+◌, ◌-◌, ◌≤◌, ◌<◌}
+use Prim.Native.Nat.{ℕ, ◌+◌, ◌-◌, ◌≤◌, ◌<◌}
 use native.Mathlib.Nat.{add-zero, add_assoc, zero-add}
-use native.Mathlib.Numerals.{add-one}
 use native.Mathlib.Omega.{arith}
 use lib.ListN.{length, get_or, set, take, drop, replicate, length-append, length-take, length-drop, drop_of_length-le, length-replicate, get_or-replicate, take-append-drop}
 use lib.Seq.{take_at, drop_at, drop-append-add, drop-drop, length-take-le, sets, sets-eq, get_or-take, get_or-drop, take_all}
@@ -76,20 +75,6 @@ module _ {A : Type 0} where
 
   pub set_is : (l : List A) (a : ℕ) (x : A) → a < length l → set l a x ≡ spliced l a (x ∷ [])
   set_is l a x h = sets_spliced l a (x ∷ []) (omega arith)
-
-  pub put_two : (l : List A) (a : ℕ) (x y : A) → a + 2 ≤ length l → set (set l a x) (a + 1) y ≡ spliced l a (x ∷ y ∷ [])
-  put_two l a x y h = rw add-one (sets_spliced l a (x ∷ y ∷ []) h)
-
-  pub put_three : (l : List A) (a : ℕ) (x y z : A) → a + 3 ≤ length l → set (set (set l a x) (a + 1) y) (a + 2) z ≡ spliced l a (x ∷ y ∷ z ∷ [])
-  put_three l a x y z h =
-      let e : a + 2 ≡ suc (suc a) = omega arith in
-      rw (e, add-one) (sets_spliced l a (x ∷ y ∷ z ∷ []) h)
-
-  pub put_four : (l : List A) (a : ℕ) (w x y z : A) → a + 4 ≤ length l → set (set (set (set l a w) (a + 1) x) (a + 2) y) (a + 3) z ≡ spliced l a (w ∷ x ∷ y ∷ z ∷ [])
-  put_four l a w x y z h =
-      let e : a + 3 ≡ suc (suc (suc a)) = omega arith in
-      let f : a + 2 ≡ suc (suc a) = omega arith in
-      rw (e, f, add-one) (sets_spliced l a (w ∷ x ∷ y ∷ z ∷ []) h)
 
   -- ---- what is there then
 

@@ -1,6 +1,5 @@
 use mathlib.Core.Path.{sym, ap, ◌∙◌}
-use mathlib.Core.List.{List}
-use Prim.Native.Nat.{ℕ, ◌+◌}
+use Prim.Native.Nat.{◌+◌}
 use lib.ListN.{length}
 use borrow.Rule.Slice.PartMut.{mid_len}
 use Rattle.lists.proofs.Splices.{mid_spliced}
