@@ -4,7 +4,7 @@ ghost use Rattle.block.specs.Texture.{applied, uv_words};
 
 use bits::Words2;
 
-#[derive(Clone, Copy)]
+#[derive(Clone, Copy, PartialEq)]
 pub struct Pair {
     pub s: f32,
     pub t: f32,

@@ -17,9 +17,7 @@ fn closes(section: &Pairs) -> bool
 {
     let m = section.len();
     if 2 < m {
-        let p = section.at(0);
-        let q = section.at(m - 1);
-        return p.s == q.s && p.t == q.t;
+        return section.at(0) == section.at(m - 1);
     }
     false
 }
@@ -54,8 +52,8 @@ fn nowhere() -> Span
     ensures { result ≡ span_of (λ (_ : ℕ). zero_f) 0 }
 {
     Span {
-        low: f32::from_bits(0x7f80_0000),
-        high: f32::from_bits(0xff80_0000),
+        low: f32::INFINITY,
+        high: f32::NEG_INFINITY,
     }
 }
 

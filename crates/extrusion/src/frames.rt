@@ -6,19 +6,13 @@ ghost use Rattle.mesh.specs.Frames.{same3, closed, is_end, along_end, y_own, fir
 use crate::reading::Points;
 use math::V3;
 
-fn same_point(a: V3, b: V3) -> bool
-    ensures { result ≡ same3 a b }
-{
-    a.x == b.x && a.y == b.y && a.z == b.z
-}
-
 fn is_closed(s: &Points) -> bool
     requires { 2 ≤ length s.now }
     ensures { result ≡ closed s.now }
 {
     let n = s.len();
     if 2 < n {
-        return same_point(s.at(0), s.at(n - 1));
+        return s.at(0) == s.at(n - 1);
     }
     false
 }
