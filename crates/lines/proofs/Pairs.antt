@@ -4,20 +4,20 @@ use Rattle.std.specs.Prelude.{Option as Maybe, None, Some, IfSome}
 use Rattle.block.specs.declared.number.VertexNumber.{VertexNumber}
 use mathlib.Core.Bool.{false}
 use mathlib.Core.Option.{Option, none, some}
-use mathlib.Core.List.{List, []}
+use mathlib.Core.List.{List, [], ◌∷◌}
 use Prim.Native.Nat.{ℕ, ◌+◌, ◌*◌, ◌/◌, ◌^◌, ◌≤◌, ◌<◌}
 use native.Mathlib.Nat.{add-zero, zero-add}
 use native.Mathlib.Numerals.{add-one}
 use native.Mathlib.Omega.{arith}
 use borrow.Author.Tests.{lt-ltb, le-ltb}
 use lib.Dec.{ltb}
-use lib.ListN.{length, get_or, set, drop, drop_of_length-le}
+use lib.ListN.{length, get_or, drop, drop_of_length-le}
 use Rattle.bits.specs.Bits.{entries}
 use Rattle.block.specs.Runs.{runs, runs_left, RunPart, next_start, sum_over}
 use Rattle.block.proofs.RunLaws.{runs_turn, runs_over, sum_turn}
 use Rattle.mesh.specs.Lines.{line}
 use Rattle.mesh.specs.Sizes.{named, lines_after}
-use Rattle.lists.proofs.Splices.{splice_start, splice_front, put_two}
+use Rattle.lists.proofs.Splices.{splice_start, splice_front}
 use Rattle.lines.specs.declared.pairing.Progress.{Progress}
 use Rattle.lists.specs.Parts.{spliced, Added}
 use Rattle.lines.specs.Steps.{last_of, vertex_at, corner_after, pairs, run_pairs, Stepped, RunPut, Put}
@@ -33,10 +33,9 @@ module _ (v : VertexNumber) (next : ℕ) {last : Maybe VertexNumber} where
   unfolding last_of
   line_two e = rw e
 
-  pub line_put : last ≡ Some v → (l : List ℕ) (at : ℕ) → at + length (line (last_of last) (some next)) ≤ length l
-      → set (set l at v.0) (at + 1) next ≡ spliced l at (line (last_of last) (some next))
+  pub line_put : last ≡ Some v → (l : List ℕ) (at : ℕ) {l' : List ℕ} → l' ≡ spliced l at (v.0 ∷ next ∷ []) → l' ≡ spliced l at (line (last_of last) (some next))
   unfolding last_of
-  line_put e l at h = let r : at + 2 ≤ length l = omega (arith, line_two e, h) in rw e (put_two l at v.0 next r)
+  line_put e l at q = rw e q
 
 pub line_left : (next : ℕ) {last : Maybe VertexNumber} → last ≡ None → (l : List ℕ) (at : ℕ) → Added spliced (line (last_of last) (some next)) at l at l
 unfolding last_of

@@ -9,6 +9,7 @@ ghost use Rattle.lists.specs.Parts.{seg, spliced, Added};
 ghost use Rattle.lines.specs.Steps.{last_of, vertex_at, pairs, run_pairs, Stepped, RunPut, Put};
 
 use block::{CornerNumber, PointNumber, VertexNumber, next_start, point_at, run_at};
+use lists::put_all;
 use tables::wide;
 
 // How far the lines are put: the next place for an index, the next corner, and the vertex of the entry before, where that names a point.
@@ -26,8 +27,7 @@ fn put_line(indices: &mut [u32], at: usize, last: Option<VertexNumber>, next: Ve
 {
     match last {
         Some(v) => {
-            indices[at] = v.0 as u32;
-            indices[at + 1] = next.0 as u32;
+            put_all(indices, at, [v.0 as u32, next.0 as u32]);
             at + 2
         }
         None => at,

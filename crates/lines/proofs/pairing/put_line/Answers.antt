@@ -1,19 +1,15 @@
 use mathlib.Core.Path.{sym, ap}
 use Prim.Native.Nat.{ℕ, ◌+◌}
 use native.Mathlib.Omega.{arith}
-use lib.ListN.{length-set}
 use Rattle.lines.proofs.Pairs.{line_two, line_put, line_left}
 use Rattle.lines.proofs.pairing.put_line.Goals as goal
 
-pub bounds-indices-at : goal.bounds-indices-at
-bounds-indices-at c = omega (arith, line_two _ c.args.next.0 c.in-Some.is, c.requires.0)
-
-pub bounds-indices-at-in-Some : goal.bounds-indices-at-in-Some
-bounds-indices-at-in-Some c = rw length-set (omega (arith, line_two _ c.args.next.0 c.in-Some.is, c.requires.0))
+pub put_all-requires : goal.put_all-requires
+put_all-requires c = omega (arith, line_two _ c.args.next.0 c.in-Some.is, c.requires.0)
 
 pub returns-in-Some : goal.returns-in-Some
 returns-in-Some c =
-    record { next = ap (λ (n : ℕ). c.args.at + n) (sym (line_two _ c.args.next.0 c.in-Some.is)); made = line_put _ _ c.in-Some.is _ _ c.requires.0 }
+    record { next = ap (λ (n : ℕ). c.args.at + n) (sym (line_two _ c.args.next.0 c.in-Some.is)); made = line_put _ _ c.in-Some.is _ _ c.put_all.ensures }
 
 pub returns-in-None : goal.returns-in-None
 returns-in-None c = line_left _ c.in-None.is _ _
