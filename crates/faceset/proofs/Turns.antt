@@ -41,8 +41,8 @@ module _ {points : ℕ} {bs w : List ℕ} {t : Plan} {number : ℕ} {p : Progres
   long : length us ≡ length r / 4
   long = length_map_n use_of s (entries r) ∙ entries_length r
 
-  pub run_fits : RunFits points (length w) t s r number p
-  run_fits = record {
+  fits_here : RunFits points (length w) t s r number p
+  fits_here = record {
     room = L.room;
     spots = L.spots;
     places = omega (arith, L.few);
@@ -80,8 +80,8 @@ module _ {points : ℕ} {bs w : List ℕ} {t : Plan} {number : ℕ} {p : Progres
         let m = long in
         let Q : Fits (length w) t p.faces p.corner.0 (length us) = record {
           room = L.room;
-          face = run_fits.face e;
-          corners = rw m (run_fits.corners e);
+          face = fits_here.face e;
+          corners = rw m (fits_here.corners e);
         } in (
           face_beside t p.faces p.corner.0 number us w Q,
           record {
@@ -95,15 +95,19 @@ module _ {points : ℕ} {bs w : List ℕ} {t : Plan} {number : ℕ} {p : Progres
   abbrev After : List ℕ → Progress → Type 0
   After w' p' = Beside t w w' × Underway points bs w' t (number + 1) p' rs
 
-  pub run_passed : {w' : List ℕ} {p' : Progress} → w' ≡ words_after (kept points (entries r)) t p number us w → p' ≡ progress_after (kept points (entries r)) p (length r / 4)
-      → Beside t w w' × Underway points bs w' t (number + 1) p' rs
-  unfolding words_after progress_after
-  run_passed ew ep = rw (ew, ep) (go (kept points (entries r)) turn_kept turn_lost)
-    where
-      go : (b : Bool) → (b ≡ true → After (face_added t p.faces p.corner.0 number us w) (after_face p (length r / 4))) → (b ≡ false → After w p)
-          → After (cond b (face_added t p.faces p.corner.0 number us w) w) (cond b (after_face p (length r / 4)) p)
-      go true x y = x refl
-      go false x y = y refl
+  -- n is the number of the run
+  module _ {n : ℕ} (q : n ≡ number) where
+    pub run_fits : RunFits points (length w) t s r n p
+    run_fits = rw q fits_here
+
+    pub run_passed : {w' : List ℕ} {p' : Progress} → w' ≡ words_after (kept points (entries r)) t p n us w → p' ≡ progress_after (kept points (entries r)) p (length r / 4) → After w' p'
+    unfolding words_after progress_after
+    run_passed ew ep = rw (ew, ep, q) (go (kept points (entries r)) turn_kept turn_lost)
+      where
+        go : (b : Bool) → (b ≡ true → After (face_added t p.faces p.corner.0 number us w) (after_face p (length r / 4))) → (b ≡ false → After w p)
+            → After (cond b (face_added t p.faces p.corner.0 number us w) w) (cond b (after_face p (length r / 4)) p)
+        go true x y = x refl
+        go false x y = y refl
 
 -- ---- all runs
 

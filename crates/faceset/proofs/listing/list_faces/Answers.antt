@@ -25,7 +25,7 @@ pass_run-p-requires c =
     let G = S.0 in
     let l = ap length I.walk.list in
     let f = I.few in
-    rw S.1 (run_fits c.in-Some.run'.now I.planned (subst (Underway _ _ _ _ _ _) G.first I.underway) (omega (arith, G.here, G.part.within, G.passes.there)) (omega (arith, G.here)))
+    run_fits c.in-Some.run'.now I.planned (subst (Underway _ _ _ _ _ _) G.first I.underway) (omega (arith, G.here, G.part.within, G.passes.there)) (omega (arith, G.here)) S.1
 
 pub loop-number-preserved : goal.loop-number-preserved
 loop-number-preserved c =
@@ -35,7 +35,7 @@ loop-number-preserved c =
     let l = ap length I.walk.list in
     let f = I.few in
     let P = run_passed c.in-Some.run'.now I.planned (subst (Underway _ _ _ _ _ _) G.first I.underway) (omega (arith, G.here, G.part.within, G.passes.there)) (omega (arith, G.here))
-    (rw S.1 at c.pass_run-p.ensures.0) c.pass_run-p.ensures.1 in
+    S.1 c.pass_run-p.ensures.0 c.pass_run-p.ensures.1 in
     rw S.2 (record {
       planned = planned_beside _ I.planned P.0;
       beside = beside_then I.beside P.0;
