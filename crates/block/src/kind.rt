@@ -14,6 +14,7 @@ pub enum Kind {
     Primitives(Topology),
 }
 
+// No From: a number of more than three bits is no kind's.
 pub fn kind_of(number: u32) -> Kind
     ensures { result ≡ kind_of number }
 {
