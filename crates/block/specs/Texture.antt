@@ -10,11 +10,11 @@ use Rattle.block.specs.declared.texture.TexTransform.{TexTransform}
 -- FORMAT 7.3, TexTransform::apply: translated and moved to the centre, turned, scaled and moved back
 unfoldable pub applied : TexTransform → Pair → Pair
 applied x p =
-    let a = add binary32 (add binary32 p.s x.translation_s) x.center_s in
-    let b = add binary32 (add binary32 p.t x.translation_t) x.center_t in
+    let a = add binary32 (add binary32 p.s x.translation.s) x.center.s in
+    let b = add binary32 (add binary32 p.t x.translation.t) x.center.t in
     let c = sub binary32 (mul binary32 x.cosine a) (mul binary32 x.sine b) in
     let d = add binary32 (mul binary32 x.sine a) (mul binary32 x.cosine b) in
-    record { s = sub binary32 (mul binary32 c x.scale_s) x.center_s; t = sub binary32 (mul binary32 d x.scale_t) x.center_t }
+    record { s = sub binary32 (mul binary32 c x.scale.s) x.center.s; t = sub binary32 (mul binary32 d x.scale.t) x.center.t }
 
 -- FORMAT 7.3: the word of 1 - t; a NaN is 7fc00000
 abbrev pub flipped : Float → ℕ

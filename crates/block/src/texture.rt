@@ -13,27 +13,24 @@ pub struct Pair {
 // The rotation is given by its sine and cosine.
 #[derive(Clone, Copy)]
 pub struct TexTransform {
-    pub center_s: f32,
-    pub center_t: f32,
+    pub center: Pair,
     pub sine: f32,
     pub cosine: f32,
-    pub scale_s: f32,
-    pub scale_t: f32,
-    pub translation_s: f32,
-    pub translation_t: f32,
+    pub scale: Pair,
+    pub translation: Pair,
 }
 
 impl TexTransform {
     pub fn apply(self, p: Pair) -> Pair
         ensures { result ≡ applied self p }
     {
-        let a = p.s + self.translation_s + self.center_s;
-        let b = p.t + self.translation_t + self.center_t;
+        let a = p.s + self.translation.s + self.center.s;
+        let b = p.t + self.translation.t + self.center.t;
         let c = self.cosine * a - self.sine * b;
         let d = self.sine * a + self.cosine * b;
         Pair {
-            s: c * self.scale_s - self.center_s,
-            t: d * self.scale_t - self.center_t,
+            s: c * self.scale.s - self.center.s,
+            t: d * self.scale.t - self.center.t,
         }
     }
 }

@@ -12,14 +12,11 @@ is_on flag = not (eqb flag 0)
 unfoldable pub given_transform : List Float → TexTransform
 given_transform xs =
     record {
-      center_s = get_or xs 0 nan;
-      center_t = get_or xs 1 nan;
+      center = record { s = get_or xs 0 nan; t = get_or xs 1 nan };
       sine = get_or xs 2 nan;
       cosine = get_or xs 3 nan;
-      scale_s = get_or xs 4 nan;
-      scale_t = get_or xs 5 nan;
-      translation_s = get_or xs 6 nan;
-      translation_t = get_or xs 7 nan;
+      scale = record { s = get_or xs 4 nan; t = get_or xs 5 nan };
+      translation = record { s = get_or xs 6 nan; t = get_or xs 7 nan };
     }
 
 -- FORMAT 17.12: whether texture is wanted, and a transform where there are eight floats or more

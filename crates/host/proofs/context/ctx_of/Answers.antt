@@ -13,13 +13,10 @@ returns c =
       has_transform = leb 8 (length c.args.transform.now);
       transform =
           record {
-            center_s = c.float_at.ensures i;
-            center_t = c.float_at-2.ensures i;
+            center = record { s = c.float_at.ensures i; t = c.float_at-2.ensures i };
             sine = c.float_at-3.ensures i;
             cosine = c.float_at-4.ensures i;
-            scale_s = c.float_at-5.ensures i;
-            scale_t = c.float_at-6.ensures i;
-            translation_s = c.float_at-7.ensures i;
-            translation_t = c.float_at-8.ensures i;
+            scale = record { s = c.float_at-5.ensures i; t = c.float_at-6.ensures i };
+            translation = record { s = c.float_at-7.ensures i; t = c.float_at-8.ensures i };
           };
     }
