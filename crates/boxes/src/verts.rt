@@ -2,7 +2,7 @@
 ghost use Rattle.std.specs.Prelude.{◌≡◌, ◌+◌, ◌*◌, ◌<◌};
 ghost use Rattle.lists.specs.Lists.{flat};
 ghost use Rattle.lists.specs.Loops.{tab};
-ghost use Rattle.parts.specs.Pushed.{RoomFor, pushed};
+ghost use Rattle.parts.specs.Pushed.{RoomFor, pushed, streams_of};
 ghost use Rattle.boxes.specs.Box as spec;
 
 use crate::faces::{BoxFace, face_at};
@@ -93,9 +93,9 @@ pub fn put_faces(
     normals: &mut [u32],
     textures: &mut [u32],
 )
-    requires { RoomFor c (0 + 6 * 4) (record { positions = positions.old; normals = normals.old; textures = textures.old }) }
-    ensures { record { positions = positions.new; normals = normals.new; textures = textures.new }
-        ≡ pushed c 0 (flat (tab (spec.box_face h) 6 0)) (record { positions = positions.old; normals = normals.old; textures = textures.old }) }
+    requires { RoomFor c (0 + 6 * 4) (streams_of positions.old normals.old textures.old) }
+    ensures { streams_of positions.new normals.new textures.new
+        ≡ pushed c 0 (flat (tab (spec.box_face h) 6 0)) (streams_of positions.old normals.old textures.old) }
 {
     put_verts(
         c,

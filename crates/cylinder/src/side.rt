@@ -3,7 +3,7 @@ ghost use Rattle.std.specs.Prelude.{◌≡◌, ◌+◌, ◌*◌, ◌≤◌, ◌<
 ghost use Rattle.lists.specs.Lists.{flat};
 ghost use Rattle.lists.specs.Loops.{tab};
 ghost use Rattle.lists.specs.Parts.{spliced};
-ghost use Rattle.parts.specs.Pushed.{RoomFor, pushed};
+ghost use Rattle.parts.specs.Pushed.{RoomFor, pushed, streams_of};
 ghost use Rattle.parts.specs.Written.{Written, Roomy};
 ghost use Rattle.cylinder.specs.Cylinder.{side_vert, side_verts, side_tris, side_part};
 
@@ -70,10 +70,10 @@ pub fn put_side(
     textures: &mut [u32],
     indices: &mut [u32],
 )
-    requires { (n ≤ 1024) × Roomy c (side_part pairs.now r h n) 0 0 (record { positions = positions.old; normals = normals.old; textures = textures.old }) indices.old }
+    requires { (n ≤ 1024) × Roomy c (side_part pairs.now r h n) 0 0 (streams_of positions.old normals.old textures.old) indices.old }
     ensures { Written c (side_part pairs.now r h n) 0 0
-        (record { positions = positions.old; normals = normals.old; textures = textures.old })
-        (record { positions = positions.new; normals = normals.new; textures = textures.new })
+        (streams_of positions.old normals.old textures.old)
+        (streams_of positions.new normals.new textures.new)
         indices.old indices.new }
 {
     put_verts(

@@ -3,7 +3,7 @@ ghost use Rattle.std.specs.Prelude.{◌≡◌, [], ◌∷◌, ◌+◌, ◌*◌, 
 ghost use Rattle.lists.specs.Lists.{flat};
 ghost use Rattle.lists.specs.Loops.{tab};
 ghost use Rattle.lists.specs.Parts.{spliced};
-ghost use Rattle.parts.specs.Pushed.{RoomFor, pushed};
+ghost use Rattle.parts.specs.Pushed.{RoomFor, pushed, streams_of};
 ghost use Rattle.parts.specs.Cap.{cap_normal, cap_texture, cap_centre, cap_vert, cap_tri, cap_verts, cap_indices, cap_sizes, cap_at, Numbered, Capped};
 ghost use Rattle.parts.specs.Written.{Written, Roomy};
 
@@ -121,9 +121,9 @@ pub fn put_cap(
     textures: &mut [u32],
     indices: &mut [u32],
 )
-    requires { Capped c k at (record { positions = positions.old; normals = normals.old; textures = textures.old }) (length indices.old) }
-    ensures { (record { positions = positions.new; normals = normals.new; textures = textures.new }
-        ≡ pushed c k.first (cap_verts pairs.now k) (record { positions = positions.old; normals = normals.old; textures = textures.old }))
+    requires { Capped c k at (streams_of positions.old normals.old textures.old) (length indices.old) }
+    ensures { (streams_of positions.new normals.new textures.new
+        ≡ pushed c k.first (cap_verts pairs.now k) (streams_of positions.old normals.old textures.old))
         × (indices.new ≡ spliced indices.old at (cap_indices k)) }
 {
     put_vert(c, k.first, cap_centre(k), positions, normals, textures);
@@ -174,10 +174,10 @@ pub fn put_cap_at(
     textures: &mut [u32],
     indices: &mut [u32],
 )
-    requires { Numbered k × Roomy c (cap_at pairs.now there k.y k.r k.slices k.top k.first k.pair) k.first at (record { positions = positions.old; normals = normals.old; textures = textures.old }) indices.old }
+    requires { Numbered k × Roomy c (cap_at pairs.now there k.y k.r k.slices k.top k.first k.pair) k.first at (streams_of positions.old normals.old textures.old) indices.old }
     ensures { Written c (cap_at pairs.now there k.y k.r k.slices k.top k.first k.pair) k.first at
-        (record { positions = positions.old; normals = normals.old; textures = textures.old })
-        (record { positions = positions.new; normals = normals.new; textures = textures.new })
+        (streams_of positions.old normals.old textures.old)
+        (streams_of positions.new normals.new textures.new)
         indices.old indices.new }
 {
     if there {

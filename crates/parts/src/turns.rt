@@ -3,7 +3,7 @@ ghost use Rattle.std.specs.Prelude.{◌≡◌, List, ℕ, ◌+◌, ◌≤◌, le
 ghost use Rattle.lists.specs.Lists.{flat};
 ghost use Rattle.lists.specs.Loops.{tab};
 ghost use Rattle.lists.specs.Parts.{spliced};
-ghost use Rattle.parts.specs.Pushed.{RoomFor, pushed};
+ghost use Rattle.parts.specs.Pushed.{RoomFor, pushed, streams_of};
 ghost use Rattle.parts.specs.Turns.{Gives, Callable};
 
 use crate::vert::{GeomCtx, Vert, put_vert};
@@ -38,9 +38,9 @@ fn put_run(
     normals: &mut [u32],
     textures: &mut [u32],
 )
-    requires { RoomFor c (k + length verts.now) (record { positions = positions.old; normals = normals.old; textures = textures.old }) }
-    ensures { record { positions = positions.new; normals = normals.new; textures = textures.new }
-        ≡ pushed c k verts.now (record { positions = positions.old; normals = normals.old; textures = textures.old }) }
+    requires { RoomFor c (k + length verts.now) (streams_of positions.old normals.old textures.old) }
+    ensures { streams_of positions.new normals.new textures.new
+        ≡ pushed c k verts.now (streams_of positions.old normals.old textures.old) }
 {
     for (i, v) in verts.iter().enumerate() {
         put_vert(c, k + i, *v, positions, normals, textures);
@@ -58,10 +58,10 @@ pub fn put_verts<R: AsSlice<Vert> + Drop, F: Fn(usize) -> R>(
     textures: &mut [u32],
 )
     requires callable { Callable (F.pre row) n }
-    requires given { (f : ℕ → List Vert) × Gives R.items (F.post row) n k (λ m. RoomFor c m (record { positions = positions.old; normals = normals.old; textures = textures.old })) f }
-    ensures { (f : ℕ → List Vert) → Gives R.items (F.post row) n k (λ m. RoomFor c m (record { positions = positions.old; normals = normals.old; textures = textures.old })) f
-        → record { positions = positions.new; normals = normals.new; textures = textures.new }
-        ≡ pushed c k (flat (tab f n 0)) (record { positions = positions.old; normals = normals.old; textures = textures.old }) }
+    requires given { (f : ℕ → List Vert) × Gives R.items (F.post row) n k (λ m. RoomFor c m (streams_of positions.old normals.old textures.old)) f }
+    ensures { (f : ℕ → List Vert) → Gives R.items (F.post row) n k (λ m. RoomFor c m (streams_of positions.old normals.old textures.old)) f
+        → streams_of positions.new normals.new textures.new
+        ≡ pushed c k (flat (tab f n 0)) (streams_of positions.old normals.old textures.old) }
 {
     let mut next = k;
     for i in 0..n {

@@ -3,7 +3,7 @@ ghost use Rattle.std.specs.Prelude.{◌≡◌, ◌+◌, ◌≤◌, ◌<◌, ◌^
 ghost use Rattle.mesh.specs.Words.{words2, words3, bits};
 ghost use Rattle.lists.specs.Parts.{spliced};
 ghost use Rattle.parts.specs.Part.{finite_ctx, uv_of};
-ghost use Rattle.parts.specs.Pushed.{RoomFor, pushed};
+ghost use Rattle.parts.specs.Pushed.{RoomFor, pushed, streams_of};
 
 use bits::Words2;
 use block::{Pair, TexTransform};
@@ -79,9 +79,9 @@ pub fn put_vert(
     normals: &mut [u32],
     textures: &mut [u32],
 )
-    requires { RoomFor c (k + 1) (record { positions = positions.old; normals = normals.old; textures = textures.old }) }
-    ensures { record { positions = positions.new; normals = normals.new; textures = textures.new }
-        ≡ pushed c k (v ∷ []) (record { positions = positions.old; normals = normals.old; textures = textures.old }) }
+    requires { RoomFor c (k + 1) (streams_of positions.old normals.old textures.old) }
+    ensures { streams_of positions.new normals.new textures.new
+        ≡ pushed c k (v ∷ []) (streams_of positions.old normals.old textures.old) }
 {
     put_vector(positions, 3 * k, v.position);
     put_vector(normals, 3 * k, v.normal);

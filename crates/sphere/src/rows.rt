@@ -2,7 +2,7 @@
 ghost use Rattle.std.specs.Prelude.{◌≡◌, [], ◌∷◌, ◌+◌, ◌*◌, ◌≤◌};
 ghost use Rattle.lists.specs.Lists.{flat};
 ghost use Rattle.lists.specs.Loops.{tab};
-ghost use Rattle.parts.specs.Pushed.{RoomFor, pushed};
+ghost use Rattle.parts.specs.Pushed.{RoomFor, pushed, streams_of};
 ghost use Rattle.sphere.specs.Sphere.{sphere_vert, sphere_row};
 
 use block::Pair;
@@ -45,9 +45,9 @@ fn put_row(
     normals: &mut [u32],
     textures: &mut [u32],
 )
-    requires { (n ≤ 1024) × (k ≤ 1024) × (j ≤ k) × RoomFor c (j * (n + 1) + (n + 1)) (record { positions = positions.old; normals = normals.old; textures = textures.old }) }
-    ensures { record { positions = positions.new; normals = normals.new; textures = textures.new }
-        ≡ pushed c (j * (n + 1)) (sphere_row r n k pairs.now j) (record { positions = positions.old; normals = normals.old; textures = textures.old }) }
+    requires { (n ≤ 1024) × (k ≤ 1024) × (j ≤ k) × RoomFor c (j * (n + 1) + (n + 1)) (streams_of positions.old normals.old textures.old) }
+    ensures { streams_of positions.new normals.new textures.new
+        ≡ pushed c (j * (n + 1)) (sphere_row r n k pairs.now j) (streams_of positions.old normals.old textures.old) }
 {
     put_verts(
         c,
@@ -74,9 +74,9 @@ pub fn put_rows(
     normals: &mut [u32],
     textures: &mut [u32],
 )
-    requires { (n ≤ 1024) × (k ≤ 1024) × RoomFor c (0 + (k + 1) * (n + 1)) (record { positions = positions.old; normals = normals.old; textures = textures.old }) }
-    ensures { record { positions = positions.new; normals = normals.new; textures = textures.new }
-        ≡ pushed c 0 (flat (tab (sphere_row r n k pairs.now) (k + 1) 0)) (record { positions = positions.old; normals = normals.old; textures = textures.old }) }
+    requires { (n ≤ 1024) × (k ≤ 1024) × RoomFor c (0 + (k + 1) * (n + 1)) (streams_of positions.old normals.old textures.old) }
+    ensures { streams_of positions.new normals.new textures.new
+        ≡ pushed c 0 (flat (tab (sphere_row r n k pairs.now) (k + 1) 0)) (streams_of positions.old normals.old textures.old) }
 {
     for j in 0..k + 1 {
         put_row(c, r, n, k, pairs, j, positions, normals, textures);
