@@ -1,15 +1,15 @@
 -- Rows of words and of vertices written one after another, as a closure gives them.
 use mathlib.Core.Path.{◌≡◌, refl, sym, ap, ◌∙◌}
-use mathlib.Core.List.{List, [], ◌∷◌, ◌++◌, append_assoc}
-use Prim.Native.Nat.{ℕ, ◌+◌, ◌-◌, ◌*◌, ◌≤◌, ◌<◌}
+use mathlib.Core.List.{List, [], ◌∷◌, ◌++◌}
+use Prim.Native.Nat.{ℕ, ◌+◌, ◌*◌, ◌≤◌, ◌<◌}
 use native.Mathlib.Omega.{arith}
-use lib.ListN.{length, get_or, take, drop, length-append}
-use lib.Seq.{drop-drop, length-take-le}
-use borrow.Rule.Slice.PartMut.{put_mid}
+use lib.ListN.{length, get_or, set, take, length-append}
+use lib.Seq.{length-take-le}
 use Rattle.std.proofs.lemmas.List.{take_more}
 use Rattle.lists.specs.Lists.{flat}
 use Rattle.lists.specs.Loops.{tab}
 use Rattle.lists.specs.Parts.{spliced}
+use Rattle.lists.proofs.Splices.{set_is, splice_more}
 use Rattle.lists.proofs.Pieces.{Uneven, flat_more, flat_ones, length_pieces, uneven_room, uneven_more}
 use Rattle.parts.specs.declared.vert.GeomCtx.{GeomCtx}
 use Rattle.parts.specs.declared.vert.Vert.{Vert}
@@ -29,11 +29,14 @@ ones_given {n = n} {k} f row room =
     let e : k + n * 1 ≡ k + n = omega arith in
     wide_given 1 (λ j. f j ∷ []) (λ t. refl) row (rw e room)
 
-mid_spliced : {A : Type 0} (l r : List A) (a : ℕ) → put_mid a (a + length r - a) l r ≡ spliced l a r
-unfolding spliced
-mid_spliced {A} l r a =
-    let e : a + length r - a ≡ length r = omega arith in
-    ap (λ (t : List A). take a l ++ (r ++ t)) (ap (λ (j : ℕ). drop j (drop a l)) e ∙ drop-drop (length r) a l) ∙ sym (append_assoc (take a l) r (drop (a + length r) l))
+-- one word more of a row
+pub word_more : (l : List ℕ) (a : ℕ) (r : List ℕ) {j : ℕ} {m : List ℕ} → a + length r ≤ length l → j < length r → length m ≡ length l → m ≡ spliced l a (take j r)
+    → set m (a + j) (get_or r j 0) ≡ spliced l a (take (j + 1) r)
+word_more l a r {j} {m} room b size e =
+    let z : length (take j r) ≡ j = length-take-le j r (omega arith) in
+    set_is m (a + j) (get_or r j 0) (omega arith) ∙ ap (λ (x : List ℕ). spliced x (a + j) (get_or r j 0 ∷ [])) e
+    ∙ splice_more l a (a + j) (take j r) (get_or r j 0 ∷ []) (omega arith) (omega arith)
+    ∙ ap (spliced l a) (sym (take_more r j 0 b))
 
 -- row i is the next, and r its elements
 module _ {A R : Type 0} {items : R → List A} {post : ℕ → R → Type 0} {n k i a : ℕ} {f : ℕ → List A} {l₀ l r : List A} {x : R} (G : Gives items post n k (λ j. j ≤ length l₀) f) (P : Uneven f n l₀ k i a l) (b : i < n) (p : post i x) (er : r ≡ items x) where
@@ -43,8 +46,8 @@ module _ {A R : Type 0} {items : R → List A} {post : ℕ → R → Type 0} {n 
   pub row_room : a + length r ≤ length l
   row_room = omega (arith, uneven_room f n i b, G.room, P.next, P.size, ap length is)
 
-  pub row_more : {l' y : List A} → y ≡ r → l' ≡ put_mid a (a + length r - a) l y → Uneven f n l₀ k (i + 1) (a + length r) l'
-  row_more ey es = uneven_more (omega (arith, G.room)) P b (ap (λ (q : List A). a + length q) is) (es ∙ ap (put_mid a (a + length r - a) l) ey ∙ mid_spliced l r a ∙ ap (spliced l a) is)
+  pub row_more : {l' : List A} → l' ≡ spliced l a r → Uneven f n l₀ k (i + 1) (a + length r) l'
+  row_more es = uneven_more (omega (arith, G.room)) P b (ap (λ (q : List A). a + length q) is) (es ∙ ap (spliced l a) is)
 
 -- ---- vertices
 

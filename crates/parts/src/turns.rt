@@ -9,7 +9,19 @@ ghost use Rattle.parts.specs.Turns.{Gives, Callable};
 use crate::vert::{GeomCtx, Vert, put_vert};
 use std::convert::AsSlice;
 
+// Words one after another, from place `at` on: one by one, since with copy_from_slice a cylinder took a fifth longer.
+#[inline(always)]
+fn put_row(words: &mut [u32], at: usize, row: &[u32])
+    requires { at + length row.now ≤ length words.old }
+    ensures { words.new ≡ spliced words.old at row.now }
+{
+    for (j, w) in row.iter().enumerate() {
+        words[at + j] = *w;
+    }
+}
+
 // n rows of words, from place `at` on.
+#[inline]
 pub fn put_words<R: AsSlice<u32> + Drop, F: Fn(usize) -> R>(
     words: &mut [u32],
     at: usize,
@@ -24,12 +36,13 @@ pub fn put_words<R: AsSlice<u32> + Drop, F: Fn(usize) -> R>(
     for i in 0..n {
         let r = row(i);
         let r = r.as_slice();
-        words[next..next + r.len()].copy_from_slice(r);
+        put_row(words, next, r);
         next += r.len();
     }
 }
 
 // Vertices one after another, from number k on.
+#[inline(always)]
 fn put_run(
     c: GeomCtx,
     k: usize,
@@ -48,6 +61,7 @@ fn put_run(
 }
 
 // n rows of vertices, from number k on.
+#[inline]
 pub fn put_verts<R: AsSlice<Vert> + Drop, F: Fn(usize) -> R>(
     c: GeomCtx,
     k: usize,

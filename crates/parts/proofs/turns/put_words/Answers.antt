@@ -1,6 +1,4 @@
-use Rattle.std.proofs.Common.{rules}
 use native.Mathlib.Omega.{arith}
-use mathlib.Core.Path.{refl}
 use Rattle.lists.proofs.Pieces.{uneven_none, uneven_all}
 use Rattle.parts.proofs.Turning.{row_room, row_more}
 use Rattle.parts.proofs.turns.put_words.Goals as goal
@@ -11,14 +9,11 @@ loop-i-init g c = λ f G. uneven_none
 pub overflow_add-next : goal.overflow_add-next
 overflow_add-next g c = omega (arith, row_room c.requires.given.1 (c.loop-i.invariant c.requires.given.0 c.requires.given.1) c.loop-i-test.true c.row-r.ensures c.as_slice-r.ensures, c.loop-i.auto.words)
 
-pub offset_bounds-words-next : goal.offset_bounds-words-next
-offset_bounds-words-next g c = let h = row_room c.requires.given.1 (c.loop-i.invariant c.requires.given.0 c.requires.given.1) c.loop-i-test.true c.row-r.ensures c.as_slice-r.ensures in search rules
-
-pub slice_bounds-copy_from_slice-end : goal.slice_bounds-copy_from_slice-end
-slice_bounds-copy_from_slice-end g c = row_room c.requires.given.1 (c.loop-i.invariant c.requires.given.0 c.requires.given.1) c.loop-i-test.true c.row-r.ensures c.as_slice-r.ensures
+pub put_row-requires : goal.put_row-requires
+put_row-requires g c = row_room c.requires.given.1 (c.loop-i.invariant c.requires.given.0 c.requires.given.1) c.loop-i-test.true c.row-r.ensures c.as_slice-r.ensures
 
 pub loop-i-preserved : goal.loop-i-preserved
-loop-i-preserved g c = λ f G. row_more G (c.loop-i.invariant f G) c.loop-i-test.true c.row-r.ensures c.as_slice-r.ensures c.copy_from_slice.ensures.after refl
+loop-i-preserved g c = λ f G. row_more G (c.loop-i.invariant f G) c.loop-i-test.true c.row-r.ensures c.as_slice-r.ensures c.put_row.ensures
 
 pub returns : goal.returns
 returns g c = λ f G. uneven_all (c.loop-i.invariant f G) c.loop-i-test.false
