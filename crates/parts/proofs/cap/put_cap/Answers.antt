@@ -2,11 +2,8 @@ use native.Mathlib.Omega.{arith}
 use mathlib.Core.List.{[], ◌∷◌}
 use Rattle.parts.specs.Cap.{cap_vert, cap_tri, cap_indices}
 use Rattle.parts.proofs.Turning.{wide_given, ones_given, rowing_ones}
-use Rattle.parts.proofs.Capping.{tri_wide, centre_room, ring_room, cap_pushed}
+use Rattle.parts.proofs.Capping.{tri_wide, ring_room, cap_pushed}
 use Rattle.parts.proofs.cap.put_cap.Goals as goal
-
-pub put_vert-requires : goal.put_vert-requires
-put_vert-requires c = centre_room c.requires
 
 pub put_verts-requires-clause-given : goal.put_verts-requires-clause-given
 put_verts-requires-clause-given c =

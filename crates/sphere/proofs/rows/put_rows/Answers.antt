@@ -1,16 +1,13 @@
 use native.Mathlib.Omega.{arith}
 use Prim.Native.Nat.{◌+◌, ◌*◌}
 use Rattle.sphere.proofs.Sized.{row_length}
-use Rattle.sphere.proofs.Adding.{row_room, zero_plus}
+use Rattle.sphere.proofs.Adding.{zero_plus}
 use Rattle.parts.proofs.Pushing.{filling_none, filling_more, filling_all}
 use Rattle.sphere.proofs.rows.put_rows.Goals as goal
 
 pub loop-j-init : goal.loop-j-init
 loop-j-init c =
     filling_none (row_length c.args.r c.args.n c.args.k c.args.pairs.now) c.requires.2
-
-pub put_row-requires : goal.put_row-requires
-put_row-requires c = (c.requires.0, c.requires.1, omega (arith, c.loop-j-test.true), row_room c.args.k c.args.n c.loop-j.j c.loop-j-test.true c.loop-j.invariant.room)
 
 pub loop-j-preserved : goal.loop-j-preserved
 loop-j-preserved c =

@@ -6,9 +6,6 @@ pub sphere_sizes-z-requires : goal.sphere_sizes-z-requires
 sphere_sizes-z-requires c =
     low c.args.radius c.args.slices c.args.stacks c.args.pairs.now c.dim-r.ensures c.held-n.ensures c.held-k.ensures
 
-pub part_refusal-no-requires : goal.part_refusal-no-requires
-part_refusal-no-requires c = c.sphere_sizes-z.ensures.0
-
 pub returns-else-is_taken : goal.returns-else-is_taken
 returns-else-is_taken c =
     call_refused c.args.ctx c.args.pairs.now _ (record { positions = c.args.positions.now; normals = c.args.normals.now; textures = c.args.textures.now }) c.args.indices.now (sized_call c.args.radius c.args.slices c.args.stacks c.args.pairs.now c.dim-r.ensures c.held-n.ensures c.held-k.ensures (c.sphere_sizes-z.ensures.1 _ _)) c.finite_ctx-c.ensures c.part_refusal-no.result c.part_refusal-no.ensures c.is_taken.ensures c.if-is_taken.false
