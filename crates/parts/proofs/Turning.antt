@@ -29,15 +29,6 @@ ones_given {n = n} {k} f row room =
     let e : k + n * 1 ≡ k + n = omega arith in
     wide_given 1 (λ j. f j ∷ []) (λ t. refl) row (rw e room)
 
--- one word more of a row
-pub word_more : (l : List ℕ) (a : ℕ) (r : List ℕ) {j : ℕ} {m : List ℕ} → a + length r ≤ length l → j < length r → length m ≡ length l → m ≡ spliced l a (take j r)
-    → set m (a + j) (get_or r j 0) ≡ spliced l a (take (j + 1) r)
-word_more l a r {j} {m} room b size e =
-    let z : length (take j r) ≡ j = length-take-le j r (omega arith) in
-    set_is m (a + j) (get_or r j 0) (omega arith) ∙ ap (λ (x : List ℕ). spliced x (a + j) (get_or r j 0 ∷ [])) e
-    ∙ splice_more l a (a + j) (take j r) (get_or r j 0 ∷ []) (omega arith) (omega arith)
-    ∙ ap (spliced l a) (sym (take_more r j 0 b))
-
 -- row i is the next, and r its elements
 module _ {A R : Type 0} {items : R → List A} {post : ℕ → R → Type 0} {n k i a : ℕ} {f : ℕ → List A} {l₀ l r : List A} {x : R} (G : Gives items post n k (λ j. j ≤ length l₀) f) (P : Uneven f n l₀ k i a l) (b : i < n) (p : post i x) (er : r ≡ items x) where
   is : r ≡ f i

@@ -7,18 +7,8 @@ ghost use Rattle.parts.specs.Pushed.{RoomFor, pushed, streams_of};
 ghost use Rattle.parts.specs.Turns.{Gives, Callable};
 
 use crate::vert::{GeomCtx, Vert, put_vert};
+use lists::put_all;
 use std::convert::AsSlice;
-
-// Words one after another, from place `at` on: one by one, since with copy_from_slice a cylinder took a fifth longer.
-#[inline(always)]
-fn put_row(words: &mut [u32], at: usize, row: &[u32])
-    requires { at + length row.now ≤ length words.old }
-    ensures { words.new ≡ spliced words.old at row.now }
-{
-    for (j, w) in row.iter().enumerate() {
-        words[at + j] = *w;
-    }
-}
 
 // n rows of words, from place `at` on.
 #[inline]
@@ -36,7 +26,7 @@ pub fn put_words<R: AsSlice<u32> + Drop, F: Fn(usize) -> R>(
     for i in 0..n {
         let r = row(i);
         let r = r.as_slice();
-        put_row(words, next, r);
+        put_all(words, next, r);
         next += r.len();
     }
 }

@@ -50,7 +50,7 @@ fn put_vector(words: &mut [u32], a: usize, v: V3)
     requires { a + 3 ≤ length words.old }
     ensures { words.new ≡ spliced words.old a (words3 (bits v)) }
 {
-    put_all(words, a, [math::bits_of(v.x), math::bits_of(v.y), math::bits_of(v.z)]);
+    put_all(words, a, &[math::bits_of(v.x), math::bits_of(v.y), math::bits_of(v.z)]);
 }
 
 fn uv_of(c: GeomCtx, v: Vert) -> Words2
@@ -81,6 +81,6 @@ pub fn put_vert(
     put_vector(normals, 3 * k, v.normal);
     if c.need_uvs {
         let w = uv_of(c, v);
-        put_all(textures, 2 * k, [w.s, w.t]);
+        put_all(textures, 2 * k, &[w.s, w.t]);
     }
 }

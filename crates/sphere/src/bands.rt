@@ -14,7 +14,7 @@ fn put_where(indices: &mut [u32], at: usize, wanted: bool, a: u32, b: u32, c: u3
     ensures { Added spliced (cond wanted (a ∷ b ∷ c ∷ []) []) at indices.old result indices.new }
 {
     if wanted {
-        put_all(indices, at, [a, b, c]);
+        put_all(indices, at, &[a, b, c]);
         return at + 3;
     }
     at

@@ -9,11 +9,11 @@ loop-i-init g c = λ f G. uneven_none
 pub overflow_add-next : goal.overflow_add-next
 overflow_add-next g c = omega (arith, row_room c.requires.given.1 (c.loop-i.invariant c.requires.given.0 c.requires.given.1) c.loop-i-test.true c.row-r.ensures c.as_slice-r.ensures, c.loop-i.auto.words)
 
-pub put_row-requires : goal.put_row-requires
-put_row-requires g c = row_room c.requires.given.1 (c.loop-i.invariant c.requires.given.0 c.requires.given.1) c.loop-i-test.true c.row-r.ensures c.as_slice-r.ensures
+pub put_all-requires : goal.put_all-requires
+put_all-requires g c = row_room c.requires.given.1 (c.loop-i.invariant c.requires.given.0 c.requires.given.1) c.loop-i-test.true c.row-r.ensures c.as_slice-r.ensures
 
 pub loop-i-preserved : goal.loop-i-preserved
-loop-i-preserved g c = λ f G. row_more G (c.loop-i.invariant f G) c.loop-i-test.true c.row-r.ensures c.as_slice-r.ensures c.put_row.ensures
+loop-i-preserved g c = λ f G. row_more G (c.loop-i.invariant f G) c.loop-i-test.true c.row-r.ensures c.as_slice-r.ensures c.put_all.ensures
 
 pub returns : goal.returns
 returns g c = λ f G. uneven_all (c.loop-i.invariant f G) c.loop-i-test.false
