@@ -1,6 +1,6 @@
 // The texture transform, and what is written of a texture point (FORMAT 7.3, TexTransform and GeomCtx::uv).
 ghost use Rattle.std.specs.Prelude.{◌≡◌};
-ghost use Rattle.block.specs.Texture.{applied, uv_words};
+ghost use Rattle.block.specs.Texture.{applied, uv_by};
 
 use bits::Words2;
 
@@ -36,10 +36,10 @@ impl TexTransform {
 }
 
 // The words that are written of a texture point; without a transform s is copied and keeps the bits of a NaN.
-pub fn uv(transformed: bool, x: TexTransform, w: Words2) -> Words2
-    ensures { result ≡ uv_words transformed x w }
+pub fn uv(transform: Option<TexTransform>, w: Words2) -> Words2
+    ensures { result ≡ uv_by transform w }
 {
-    if transformed {
+    if let Some(x) = transform {
         let q = x.apply(Pair {
             s: math::of_bits(w.s),
             t: math::of_bits(w.t),

@@ -1,5 +1,6 @@
 -- FORMAT 17.12: the flags and the texture transform of a part, as a host gives them.
 use Rattle.std.specs.Prelude.{ℕ, Bool, not, List, eqb, leb, length, get_or, Float}
+use Rattle.std.specs.Bool.{then_some}
 use Rattle.std.specs.Float.{nan}
 use Rattle.block.specs.declared.texture.TexTransform.{TexTransform}
 use Rattle.parts.specs.declared.vert.GeomCtx.{GeomCtx}
@@ -21,4 +22,4 @@ given_transform xs =
 
 -- FORMAT 17.12: whether texture is wanted, and a transform where there are eight floats or more
 unfoldable pub ctx_of : ℕ → List Float → GeomCtx
-ctx_of uvs xs = record { need_uvs = is_on uvs; has_transform = leb 8 (length xs); transform = given_transform xs }
+ctx_of uvs xs = record { need_uvs = is_on uvs; transform = then_some (leb 8 (length xs)) (given_transform xs) }

@@ -36,7 +36,6 @@ pub fn ctx_of(need_uvs: u32, transform: &[f32]) -> GeomCtx
     };
     GeomCtx {
         need_uvs: is_on(need_uvs),
-        has_transform: 8 <= transform.len(),
-        transform: given,
+        transform: (8 <= transform.len()).then_some(given),
     }
 }

@@ -10,12 +10,11 @@ use block::{Pair, TexTransform};
 use lists::put_all;
 use math::V3;
 
-// GeomCtx: whether texture is wanted, whether there is a transform, and which.
+// GeomCtx: whether texture is wanted, and the transform, if there is one.
 #[derive(Clone, Copy)]
 pub struct GeomCtx {
     pub need_uvs: bool,
-    pub has_transform: bool,
-    pub transform: TexTransform,
+    pub transform: Option<TexTransform>,
 }
 
 // A position, a normal, and a texture point before FORMAT 7.3.
@@ -30,11 +29,9 @@ pub struct Vert {
 pub fn finite_ctx(c: GeomCtx) -> GeomCtx
     ensures { result ≡ finite_ctx c }
 {
-    let transform = block::finite_transform(c.transform);
     GeomCtx {
         need_uvs: c.need_uvs,
-        has_transform: c.has_transform,
-        transform,
+        transform: c.transform.map(block::finite_transform),
     }
 }
 
@@ -61,7 +58,7 @@ fn uv_of(c: GeomCtx, v: Vert) -> Words2
         s: math::bits_of(st.s),
         t: math::bits_of(st.t),
     };
-    block::uv(c.has_transform, c.transform, w)
+    block::uv(c.transform, w)
 }
 
 // Vertex k.
