@@ -7,6 +7,7 @@ pub mod TableRows
 pub mod TextureRows
 pub mod SettingsRows
 pub mod RunLaws
+pub mod Walks
 pub mod Ends
 pub mod ValueLaws
 pub mod StreamLaws

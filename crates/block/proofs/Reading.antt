@@ -72,13 +72,10 @@ module _ (b c : List ℕ) (same : (i n : ℕ) → i + n ≤ 32 * words_ahead (ed
     z_spacing = finite_or (float_same 3 (lit< tt) t) one_f;
     transform = finite_transform
         (record {
-          center_s = float_same 4 (lit< tt) t;
-          center_t = float_same 5 (lit< tt) t;
+          center = record { s = float_same 4 (lit< tt) t; t = float_same 5 (lit< tt) t };
           sine = float_same 6 (lit< tt) t;
           cosine = float_same 7 (lit< tt) t;
-          scale_s = float_same 8 (lit< tt) t;
-          scale_t = float_same 9 (lit< tt) t;
-          translation_s = float_same 10 (lit< tt) t;
-          translation_t = float_same 11 (lit< tt) t;
+          scale = record { s = float_same 8 (lit< tt) t; t = float_same 9 (lit< tt) t };
+          translation = record { s = float_same 10 (lit< tt) t; t = float_same 11 (lit< tt) t };
         });
   }

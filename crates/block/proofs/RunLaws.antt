@@ -2,9 +2,9 @@
 -- What ends a run is `endsRun`, which is never opened here. Assumes nothing.
 use Prim.Native.Nat.{ℕ, zero, suc, ◌+◌, ◌-◌, ◌*◌, ◌/◌, ◌≤◌, ◌<◌}
 use mathlib.Core.Path.{◌≡◌, refl, ap, sym, ◌∙◌, subst}
-use mathlib.Core.Bool.{Bool, true, false, cond, and-false}
+use mathlib.Core.Bool.{Bool, true, false, cond, not, ◌&&◌, ◌||◌, and-false}
 use mathlib.Core.List.{List, [], ◌∷◌, ◌++◌, append_assoc, append-nil}
-use borrow.Author.Tests.{le-leb, lt-leb, lt-ltb, le-ltb}
+use borrow.Author.Tests.{le-leb, lt-leb, lt-ltb, le-ltb, ltb-true, ltb-false}
 use native.Mathlib.Nat.{not-suc-le-zero, le_of_suc-le-suc}
 use native.Mathlib.Omega.{arith}
 use native.Mathlib.Numerals.{add-one}
@@ -12,6 +12,7 @@ use lib.Dec.{T, leb, ltb, leb→le, ltb→lt}
 use lib.Ieee.Fits.{and_l, and_r}
 use lib.ListN.{length, get_or, take, drop, drop_of_length-le, length-append, length-take, length-drop}
 use lib.Seq.{drop-cons, drop-drop}
+use Rattle.std.specs.List.{list_any}
 use Rattle.bits.specs.Bits.{table, entries}
 use Rattle.bits.proofs.Entries.{entries_length, entries_part}
 use Rattle.block.specs.Runs.{ends_run, Run, run_of, before, runs_from, runs, split_from, runs_left, run_length, run_at, RunPart, next_start, all_below, kept, faces, corners, triangles, sum_over}
@@ -184,6 +185,16 @@ module _ (p : ℕ) (ws : List ℕ) (k w : ℕ) (l : k < length ws) (e : w ≡ ge
 pub below_all : (p : ℕ) (ws : List ℕ) (k : ℕ) → length ws ≤ k → all_below p (drop k ws) ≡ all_below p ws → true ≡ all_below p ws
 unfolding all_below
 below_all p ws k l e = rw (← e, drop_of_length-le ws l)
+
+-- whether some entry is above a limit
+pub any_above : (n : ℕ) (ws : List ℕ) → list_any (ltb n) ws ≡ not (all_below (suc n) ws)
+unfolding all_below
+any_above n [] = refl
+any_above n (w ∷ ws) = go (ltb n w) refl (any_above n ws)
+  where
+    go : (b : Bool) → ltb n w ≡ b → list_any (ltb n) ws ≡ not (all_below (suc n) ws) → b || list_any (ltb n) ws ≡ not (ltb w (suc n) && all_below (suc n) ws)
+    go true e h = rw (le-ltb w (suc n) (omega (arith, ltb-true n w e))) refl
+    go false e h = rw (lt-ltb w (suc n) (omega (arith, ltb-false n w e))) h
 
 pub below_at : (p : ℕ) (ws : List ℕ) → T (all_below p ws) → (k : ℕ) → k < length ws → get_or ws k 0 < p
 unfolding all_below

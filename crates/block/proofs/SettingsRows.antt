@@ -34,14 +34,11 @@ pub settings_row : settings_of odd_block
       z_spacing = two_f;
       transform =
           record {
-            center_s = zero_f;
-            center_t = zero_f;
+            center = record { s = zero_f; t = zero_f };
             sine = zero_f;
             cosine = one_f;
-            scale_s = two_f;
-            scale_t = two_f;
-            translation_s = zero_f;
-            translation_t = zero_f;
+            scale = record { s = two_f; t = two_f };
+            translation = record { s = zero_f; t = zero_f };
           };
     }
 unfolding odd_block settings_of transform_of finite_transform pair_or crease_of field of_bits le edition_of edition1

@@ -11,14 +11,11 @@ use Rattle.block.specs.declared.texture.TexTransform.{TexTransform}
 unfoldable pub identity : TexTransform
 identity =
     record {
-      center_s = zero_f;
-      center_t = zero_f;
+      center = record { s = zero_f; t = zero_f };
       sine = zero_f;
       cosine = one_f;
-      scale_s = one_f;
-      scale_t = one_f;
-      translation_s = zero_f;
-      translation_t = zero_f;
+      scale = record { s = one_f; t = one_f };
+      translation = record { s = zero_f; t = zero_f };
     }
 
 abbrev words : ℕ → ℕ → Words2

@@ -8,5 +8,6 @@ pub mod Crease
 pub mod Texture
 pub mod Settings
 pub mod Runs
+pub mod Walk
 pub mod Value
 pub mod Stream

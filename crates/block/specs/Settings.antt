@@ -23,41 +23,35 @@ finite_or x other = cond (finite x) x other
 unfoldable pub pair_or : Pair → Pair → Pair
 pair_or p other = cond (finite p.s && finite p.t) p other
 
--- FORMAT 2.3: s and t, or the other two
-abbrev pub finite_pair : Float → Float → Float → Float → Pair
-finite_pair s t s' t' = pair_or (record { s = s; t = t }) (record { s = s'; t = t' })
+abbrev pub pair : Float → Float → Pair
+pair s t = record { s = s; t = t }
 
 -- FORMAT 2.3, TexTransform::from_node: centre, sine and cosine of the rotation, scale, translation, each by itself
 unfoldable pub finite_transform : TexTransform → TexTransform
 finite_transform x =
-    let center = finite_pair x.center_s x.center_t zero_f zero_f in
-    let rotation = finite_pair x.sine x.cosine zero_f one_f in
-    let scale = finite_pair x.scale_s x.scale_t one_f one_f in
-    let translation = finite_pair x.translation_s x.translation_t zero_f zero_f in
+    let rotation = pair_or (pair x.sine x.cosine) (pair zero_f one_f) in
     record {
-      center_s = center.s;
-      center_t = center.t;
+      center = pair_or x.center (pair zero_f zero_f);
       sine = rotation.s;
       cosine = rotation.t;
-      scale_s = scale.s;
-      scale_t = scale.t;
-      translation_s = translation.s;
-      translation_t = translation.t;
+      scale = pair_or x.scale (pair one_f one_f);
+      translation = pair_or x.translation (pair zero_f zero_f);
     }
+
+-- FORMAT 2.3: floats k and k + 1 of the twelve
+abbrev pub pair_at : List ℕ → ℕ → Pair
+pair_at bs k = pair (float_at bs k) (float_at bs (k + 1))
 
 -- FORMAT 2.3: that of a block
 unfoldable pub transform_of : List ℕ → TexTransform
 transform_of bs =
     finite_transform
     (record {
-      center_s = float_at bs 4;
-      center_t = float_at bs 5;
+      center = pair_at bs 4;
       sine = float_at bs 6;
       cosine = float_at bs 7;
-      scale_s = float_at bs 8;
-      scale_t = float_at bs 9;
-      translation_s = float_at bs 10;
-      translation_t = float_at bs 11;
+      scale = pair_at bs 8;
+      translation = pair_at bs 10;
     })
 
 -- FORMAT 2.3: crease angle, its cosine as given, each spacing alone, the texture transform

@@ -14,6 +14,7 @@ pub enum Kind {
     Primitives(Topology),
 }
 
+// No From: a number of more than three bits is no kind's.
 pub fn kind_of(number: u32) -> Kind
     ensures { result ≡ kind_of number }
 {
@@ -32,37 +33,19 @@ pub fn kind_of(number: u32) -> Kind
 pub fn is_primitives(kind: Kind) -> bool
     ensures { result ≡ is_primitives kind }
 {
-    match kind {
-        Kind::FaceSet => false,
-        Kind::LineSet => false,
-        Kind::Grid => false,
-        Kind::Extrusion => false,
-        Kind::Primitives(_) => true,
-    }
+    matches!(kind, Kind::Primitives(_))
 }
 
 // Whether a kind has index lists.
 pub fn is_indexed(kind: Kind) -> bool
     ensures { result ≡ is_indexed kind }
 {
-    match kind {
-        Kind::FaceSet => true,
-        Kind::LineSet => true,
-        Kind::Grid => false,
-        Kind::Extrusion => false,
-        Kind::Primitives(_) => true,
-    }
+    matches!(kind, Kind::FaceSet | Kind::LineSet | Kind::Primitives(_))
 }
 
 // Whether indices go in pairs, as lines.
 pub fn is_lines(kind: Kind) -> bool
     ensures { result ≡ is_lines kind }
 {
-    match kind {
-        Kind::FaceSet => false,
-        Kind::LineSet => true,
-        Kind::Grid => false,
-        Kind::Extrusion => false,
-        Kind::Primitives(_) => false,
-    }
+    matches!(kind, Kind::LineSet)
 }

@@ -22,7 +22,9 @@ pub use header::{COUNTS_AT, Header, read_header};
 pub use kind::{Kind, is_indexed, is_lines};
 pub use number::{CornerNumber, PointNumber, VertexNumber};
 pub use refusal::{Refusal, refusal_of};
-pub use runs::{Totals, ends_run, face_totals, is_kept, next_start, point_at, run_at};
+pub use runs::{
+    Runs, Totals, ends_run, face_totals, is_kept, next_start, point_at, run_at, runs_in,
+};
 pub use settings::{Settings, finite_transform, read_settings};
 pub use stream::{
     Stream, chosen_list, color_stream, get, get4, normal_stream, number_at, texture_stream,

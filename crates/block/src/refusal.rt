@@ -53,12 +53,7 @@ fn header_bytes() -> usize
 fn over_limit(n: [u32; 8], limit: u32) -> bool
     ensures { result ≡ not (all_below (suc limit) n) }
 {
-    for k in 0..8usize {
-        if limit < n[k] {
-            return true;
-        }
-    }
-    false
+    n.iter().any(|count| limit < *count)
 }
 
 // Whether each attribute is read at the point's own number: per vertex, and without an index list of its own.
@@ -66,33 +61,14 @@ fn is_by_point(h: Header) -> bool
     ensures { result ≡ is_by_point h }
 {
     let n = h.counts;
-    if h.color_per_vertex {} else {
-        return false;
-    }
-    if h.normal_per_vertex {} else {
-        return false;
-    }
-    if n[3] != 0 {
-        return false;
-    }
-    if n[5] != 0 {
-        return false;
-    }
-    n[7] == 0
+    h.color_per_vertex && h.normal_per_vertex && n[3] == 0 && n[5] == 0 && n[7] == 0
 }
 
 // Row 9.
 fn is_other_attributes(h: Header) -> bool
     ensures { result ≡ is_other_attributes h }
 {
-    let kind = h.kind;
-    if is_primitives(kind) {
-        if is_by_point(h) {
-            return false;
-        }
-        return true;
-    }
-    false
+    is_primitives(h.kind) && !is_by_point(h)
 }
 
 // The first of the rows 1 to 5 and 9 that holds.

@@ -1,7 +1,9 @@
 // The runs of an index list (FORMAT 6.1, 6.2; split_runs).
-ghost use Rattle.std.specs.Prelude.{◌≡◌, ◌+◌, ◌/◌, ◌^◌, ◌<◌, ◌≤◌, length, get_or, drop};
+ghost use Rattle.std.specs.Prelude.{◌≡◌, ◌+◌, ◌/◌, ◌^◌, ◌<◌, ◌≤◌, ◌-◌, length, get_or, drop};
+ghost use Rattle.std.specs.Iterator.{at_most};
 ghost use Rattle.bits.specs.Bits.{entries};
 ghost use Rattle.block.specs.Runs.{ends_run, run_length, runs, RunPart, next_start, kept, totals};
+ghost use Rattle.block.specs.Walk.{GivesRun};
 
 use crate::number::PointNumber;
 
@@ -18,14 +20,12 @@ fn run_end(list: &[u8], start: usize) -> usize
     ensures { (result ≡ start + run_length (drop start (entries list.now))) × (result ≤ length list.now / 4) }
 {
     let n = list.len() / 4;
-    let mut k = start;
-    while k < n {
+    for k in start..n {
         if ends_run(bits::entry(list, k)) {
             return k;
         }
-        k += 1;
     }
-    k
+    n
 }
 
 // The part of the list that holds the run that starts at entry `start`.
@@ -47,6 +47,37 @@ pub fn next_start(start: usize, run: &[u8]) -> usize
     start + run.len() / 4 + 1
 }
 
+// The runs of a list from entry `start` on, each with the entry that it starts at.
+#[derive(Drop)]
+pub struct Runs<'a> {
+    list: &'a [u8],
+    start: usize,
+}
+
+pub fn runs_in(list: &[u8]) -> Runs<'_>
+    ensures { result ≡ record { list = list.entry; start = 0 } }
+{
+    Runs { list, start: 0 }
+}
+
+impl<'a> Iterator for Runs<'a> {
+    type Item = (usize, &'a [u8]);
+
+    ghost next_gives = { GivesRun };
+
+    ghost remaining = { λ s. at_most (length s.list.now / 4 - s.start) };
+
+    fn next(&mut self) -> Option<(usize, &'a [u8])> {
+        let start = self.start;
+        if start < self.list.len() / 4 {
+            let run = run_at(self.list, start);
+            self.start = next_start(start, run);
+            return Some((start, run));
+        }
+        None
+    }
+}
+
 // Whether a run is a face over so many points: 3 entries or more, each of a point.
 pub fn is_kept(run: &[u8], points: u32) -> bool
     ensures { result ≡ kept points (entries run.now) }
@@ -55,12 +86,10 @@ pub fn is_kept(run: &[u8], points: u32) -> bool
     if n < 3 {
         return false;
     }
-    let mut k = 0;
-    while k < n {
+    for k in 0..n {
         if points <= bits::entry(run, k) {
             return false;
         }
-        k += 1;
     }
     true
 }
@@ -76,19 +105,15 @@ pub struct Totals {
 pub fn face_totals(list: &[u8], points: u32) -> Totals
     ensures { result ≡ totals points (runs (entries list.now)) }
 {
-    let n = list.len() / 4;
-    let mut start: usize = 0;
     let mut faces: usize = 0;
     let mut corners: usize = 0;
     let mut triangles: usize = 0;
-    while start < n {
-        let run = run_at(list, start);
+    for (_, run) in runs_in(list) {
         if is_kept(run, points) {
             faces += 1;
             corners += run.len() / 4;
             triangles += run.len() / 4 - 2;
         }
-        start = next_start(start, run);
     }
     Totals {
         faces,

@@ -1,6 +1,6 @@
 // The twelve words after the header, with what is read for those that are not finite (FORMAT 2.3).
 ghost use Rattle.std.specs.Prelude.{◌≡◌, ◌<◌};
-ghost use Rattle.block.specs.Settings.{float_at, finite_or, pair_or, finite_transform, transform_of, settings_of};
+ghost use Rattle.block.specs.Settings.{float_at, pair_at, finite_or, pair_or, finite_transform, transform_of, settings_of};
 
 use crate::crease::{CreaseRule, crease_of};
 use crate::edition::edition_in;
@@ -33,25 +33,19 @@ fn finite_or(x: f32, other: f32) -> f32
 fn pair_or(p: Pair, other: Pair) -> Pair
     ensures { result ≡ pair_or p other }
 {
-    if math::is_finite(p.s) {
-        if math::is_finite(p.t) {
-            return p;
-        }
+    if math::is_finite(p.s) && math::is_finite(p.t) {
+        p
+    } else {
+        other
     }
-    other
 }
 
 // The transform with each of its pairs that is not finite replaced.
 pub fn finite_transform(x: TexTransform) -> TexTransform
     ensures { result ≡ finite_transform x }
 {
-    let center = pair_or(
-        Pair {
-            s: x.center_s,
-            t: x.center_t,
-        },
-        Pair { s: 0.0, t: 0.0 },
-    );
+    let zero = Pair { s: 0.0, t: 0.0 };
+    let one = Pair { s: 1.0, t: 1.0 };
     let rotation = pair_or(
         Pair {
             s: x.sine,
@@ -59,29 +53,23 @@ pub fn finite_transform(x: TexTransform) -> TexTransform
         },
         Pair { s: 0.0, t: 1.0 },
     );
-    let scale = pair_or(
-        Pair {
-            s: x.scale_s,
-            t: x.scale_t,
-        },
-        Pair { s: 1.0, t: 1.0 },
-    );
-    let translation = pair_or(
-        Pair {
-            s: x.translation_s,
-            t: x.translation_t,
-        },
-        Pair { s: 0.0, t: 0.0 },
-    );
     TexTransform {
-        center_s: center.s,
-        center_t: center.t,
+        center: pair_or(x.center, zero),
         sine: rotation.s,
         cosine: rotation.t,
-        scale_s: scale.s,
-        scale_t: scale.t,
-        translation_s: translation.s,
-        translation_t: translation.t,
+        scale: pair_or(x.scale, one),
+        translation: pair_or(x.translation, zero),
+    }
+}
+
+// Floats `k` and `k + 1` of the twelve.
+fn pair_at(block: &[u8], k: u32) -> Pair
+    requires { k < 11 }
+    ensures { result ≡ pair_at block.now k }
+{
+    Pair {
+        s: float_at(block, k),
+        t: float_at(block, k + 1),
     }
 }
 
@@ -89,14 +77,11 @@ fn read_transform(block: &[u8]) -> TexTransform
     ensures { result ≡ transform_of block.now }
 {
     finite_transform(TexTransform {
-        center_s: float_at(block, 4),
-        center_t: float_at(block, 5),
+        center: pair_at(block, 4),
         sine: float_at(block, 6),
         cosine: float_at(block, 7),
-        scale_s: float_at(block, 8),
-        scale_t: float_at(block, 9),
-        translation_s: float_at(block, 10),
-        translation_t: float_at(block, 11),
+        scale: pair_at(block, 8),
+        translation: pair_at(block, 10),
     })
 }
 

@@ -1,6 +1,6 @@
 // The texture transform, and what is written of a texture point (FORMAT 7.3, TexTransform and GeomCtx::uv).
 ghost use Rattle.std.specs.Prelude.{◌≡◌};
-ghost use Rattle.block.specs.Texture.{applied, uv_words};
+ghost use Rattle.block.specs.Texture.{applied, uv_by};
 
 use bits::Words2;
 
@@ -13,36 +13,33 @@ pub struct Pair {
 // The rotation is given by its sine and cosine.
 #[derive(Clone, Copy)]
 pub struct TexTransform {
-    pub center_s: f32,
-    pub center_t: f32,
+    pub center: Pair,
     pub sine: f32,
     pub cosine: f32,
-    pub scale_s: f32,
-    pub scale_t: f32,
-    pub translation_s: f32,
-    pub translation_t: f32,
+    pub scale: Pair,
+    pub translation: Pair,
 }
 
 impl TexTransform {
     pub fn apply(self, p: Pair) -> Pair
         ensures { result ≡ applied self p }
     {
-        let a = p.s + self.translation_s + self.center_s;
-        let b = p.t + self.translation_t + self.center_t;
+        let a = p.s + self.translation.s + self.center.s;
+        let b = p.t + self.translation.t + self.center.t;
         let c = self.cosine * a - self.sine * b;
         let d = self.sine * a + self.cosine * b;
         Pair {
-            s: c * self.scale_s - self.center_s,
-            t: d * self.scale_t - self.center_t,
+            s: c * self.scale.s - self.center.s,
+            t: d * self.scale.t - self.center.t,
         }
     }
 }
 
 // The words that are written of a texture point; without a transform s is copied and keeps the bits of a NaN.
-pub fn uv(transformed: bool, x: TexTransform, w: Words2) -> Words2
-    ensures { result ≡ uv_words transformed x w }
+pub fn uv(transform: Option<TexTransform>, w: Words2) -> Words2
+    ensures { result ≡ uv_by transform w }
 {
-    if transformed {
+    if let Some(x) = transform {
         let q = x.apply(Pair {
             s: math::of_bits(w.s),
             t: math::of_bits(w.t),

@@ -8,8 +8,7 @@ use lib.ListN.{get_or}
 use lib.Ieee.{binary32, of_bits, to_bits, add, sub, mul, div, lt}
 use Rattle.bits.specs.declared.Words2.{Words2}
 use Rattle.bits.specs.declared.Words3.{Words3}
-use Rattle.block.specs.declared.texture.TexTransform.{TexTransform}
-use Rattle.block.specs.Texture.{uv_words}
+use Rattle.std.specs.Prelude.{None}
 use Rattle.lists.specs.Lists.{flat}
 use Rattle.lists.specs.Loops.{tab, any}
 use Rattle.math.specs.declared.vector.V3.{V3}
@@ -84,9 +83,9 @@ abbrev side : List Words2
 side = uv zero one ∷ uv one one ∷ uv one zero ∷ uv zero zero ∷ []
 
 -- where there is no transform
-textures : (x : TexTransform) → textures_of (record { need_uvs = true; has_transform = false; transform = x }) (box_of cube).verts ≡ side ++ (side ++ (side ++ (side ++ (side ++ side))))
-unfolding textures_of uv_of uv_words box_of box_part box_face box_vert side_of flat tab of_bits to_bits sub
-textures x = refl
+textures : textures_of (record { need_uvs = true; transform = None }) (box_of cube).verts ≡ side ++ (side ++ (side ++ (side ++ (side ++ side))))
+unfolding textures_of uv_of box_of box_part box_face box_vert side_of flat tab of_bits to_bits sub
+textures = refl
 
 abbrev places : List ℕ
 places = 0 ∷ 1 ∷ 2 ∷ 0 ∷ 2 ∷ 3 ∷ 4 ∷ 5 ∷ 6 ∷ 4 ∷ 6 ∷ 7 ∷ 8 ∷ 9 ∷ 10 ∷ 8 ∷ 10 ∷ 11 ∷ 12 ∷ 13 ∷ 14 ∷ 12 ∷ 14 ∷ 15 ∷ 16 ∷ 17 ∷ 18 ∷ 16 ∷ 18 ∷ 19 ∷ 20 ∷ 21 ∷ 22 ∷ 20 ∷ 22 ∷ 23 ∷ []

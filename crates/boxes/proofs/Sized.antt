@@ -1,6 +1,6 @@
 -- FORMAT 17.6: how large a box and a face of it are, and that what is written is the box.
 use mathlib.Core.Path.{◌≡◌, refl, ap, subst, ◌∙◌}
-use mathlib.Core.List.{List, [], ◌∷◌}
+use mathlib.Core.List.{List}
 use Prim.Native.Nat.{ℕ, ◌+◌, ◌*◌, ◌≤◌, ◌<◌}
 use native.Mathlib.Omega.{arith}
 use lib.ListN.{length}
@@ -8,12 +8,11 @@ use Rattle.lists.specs.Lists.{flat}
 use Rattle.lists.specs.Loops.{tab, All}
 use Rattle.lists.specs.Parts.{spliced}
 use Rattle.lists.proofs.Lists.{All_by, All_flat}
-use Rattle.lists.proofs.Splices.{splice_more}
 use Rattle.math.specs.declared.vector.V3.{V3}
 use Rattle.parts.specs.declared.vert.GeomCtx.{GeomCtx}
 use Rattle.parts.specs.Pushed.{Streams, pushed, RoomFor}
 use Rattle.parts.specs.Written.{Sized, Written, Roomy}
-use Rattle.parts.proofs.Pushing.{Filling, room_less}
+use Rattle.parts.proofs.Pushing.{room_less}
 use Rattle.boxes.specs.Box.{half_size, box_face, box_tris, box_part, box_of}
 
 -- ---- a face
@@ -23,23 +22,10 @@ pub face_wide : (h : V3) (k : ℕ) → length (box_face h k) ≡ 4
 unfolding box_face tab
 face_wide h k = refl
 
--- and room for the next
-pub face_room : (c : GeomCtx) (h : V3) {s₀ s : Streams} {k : ℕ} → Filling c 0 (box_face h) 4 6 s₀ k s → k < 6 → RoomFor c (k * 4 + 4) s
-face_room c h P b = room_less c (omega arith) P.room
-
 -- six indices
 pub tris_wide : (k : ℕ) → length (box_tris k) ≡ 6
 unfolding box_tris
 tris_wide k = refl
-
--- two triangles put one after the other
-pub tris_put : (l : List ℕ) (k : ℕ) {p q r s : ℕ} {m m' : List ℕ} → p ≡ k * 4 → q ≡ k * 4 + 1 → r ≡ k * 4 + 2 → s ≡ k * 4 + 3 → k * 6 + 6 ≤ length l
-    → m ≡ spliced l (k * 6) (p ∷ q ∷ r ∷ []) → m' ≡ spliced m (k * 6 + 3) (p ∷ r ∷ s ∷ []) → m' ≡ spliced l (k * 6) (box_tris k)
-unfolding box_tris
-tris_put l k {p} {q} {r} {s} ep eq er es room e e' =
-    e' ∙ ap (λ (x : List ℕ). spliced x (k * 6 + 3) (p ∷ r ∷ s ∷ [])) e
-    ∙ splice_more l (k * 6) (k * 6 + 3) (p ∷ q ∷ r ∷ []) (p ∷ r ∷ s ∷ []) refl (omega arith)
-    ∙ (λ i. spliced l (k * 6) (ep i ∷ eq i ∷ er i ∷ ep i ∷ er i ∷ es i ∷ []))
 
 -- ---- a box
 

@@ -5,21 +5,19 @@ ghost use Rattle.lists.specs.Loops.{tab};
 ghost use Rattle.lists.specs.Parts.{spliced};
 ghost use Rattle.boxes.specs.Box.{box_tris};
 
-use lists::put_three;
-use parts::index_of;
+use parts::{index_of, put_words};
 
 // Those of face k.
-fn put_tris(indices: &mut [u32], k: usize)
-    requires { (k < 6) × (k * 6 + 6 ≤ length indices.old) }
-    ensures { indices.new ≡ spliced indices.old (k * 6) (box_tris k) }
+fn box_tris(k: usize) -> [u32; 6]
+    requires { k < 6 }
+    ensures { result ≡ box_tris k }
 {
     let a = k * 4;
     let p = index_of(a);
     let q = index_of(a + 1);
     let r = index_of(a + 2);
     let s = index_of(a + 3);
-    put_three(indices, k * 6, p, q, r);
-    put_three(indices, k * 6 + 3, p, r, s);
+    [p, q, r, p, r, s]
 }
 
 // Those of all faces.
@@ -27,9 +25,5 @@ pub fn put_box_tris(indices: &mut [u32])
     requires { 6 * 6 ≤ length indices.old }
     ensures { indices.new ≡ spliced indices.old 0 (flat (tab box_tris 6 0)) }
 {
-    let mut k = 0;
-    while k < 6 {
-        put_tris(indices, k);
-        k += 1;
-    }
+    put_words(indices, 0, 6, box_tris);
 }

@@ -2,13 +2,13 @@
 ghost use Rattle.std.specs.Prelude.{◌≡◌, ◌+◌, ◌*◌, ◌<◌};
 ghost use Rattle.lists.specs.Lists.{flat};
 ghost use Rattle.lists.specs.Loops.{tab};
-ghost use Rattle.parts.specs.Pushed.{RoomFor, pushed};
+ghost use Rattle.parts.specs.Pushed.{RoomFor, pushed, streams_of};
 ghost use Rattle.boxes.specs.Box as spec;
 
 use crate::faces::{BoxFace, face_at};
 use block::Pair;
 use math::V3;
-use parts::{GeomCtx, Vert, put_vert};
+use parts::{GeomCtx, Vert, put_verts};
 
 // Component by component.
 fn times(v: V3, h: V3) -> V3
@@ -72,25 +72,17 @@ fn box_vert(h: V3, f: BoxFace, i: usize) -> Vert
 }
 
 // The corners of face k.
-fn put_face(
-    c: GeomCtx,
-    h: V3,
-    k: usize,
-    positions: &mut [u32],
-    normals: &mut [u32],
-    textures: &mut [u32],
-)
-    requires { (k < 6) × RoomFor c (k * 4 + 4) (record { positions = positions.old; normals = normals.old; textures = textures.old }) }
-    ensures { record { positions = positions.new; normals = normals.new; textures = textures.new }
-        ≡ pushed c (k * 4) (spec.box_face h k) (record { positions = positions.old; normals = normals.old; textures = textures.old }) }
+fn box_face(h: V3, k: usize) -> [Vert; 4]
+    requires { k < 6 }
+    ensures { result ≡ spec.box_face h k }
 {
     let f = face_at(k);
-    let mut i = 0;
-    while i < 4 {
-        let v = box_vert(h, f, i);
-        put_vert(c, k * 4 + i, v, positions, normals, textures);
-        i += 1;
-    }
+    [
+        box_vert(h, f, 0),
+        box_vert(h, f, 1),
+        box_vert(h, f, 2),
+        box_vert(h, f, 3),
+    ]
 }
 
 // All faces.
@@ -101,13 +93,20 @@ pub fn put_faces(
     normals: &mut [u32],
     textures: &mut [u32],
 )
-    requires { RoomFor c (0 + 6 * 4) (record { positions = positions.old; normals = normals.old; textures = textures.old }) }
-    ensures { record { positions = positions.new; normals = normals.new; textures = textures.new }
-        ≡ pushed c 0 (flat (tab (spec.box_face h) 6 0)) (record { positions = positions.old; normals = normals.old; textures = textures.old }) }
+    requires { RoomFor c (0 + 6 * 4) (streams_of positions.old normals.old textures.old) }
+    ensures { streams_of positions.new normals.new textures.new
+        ≡ pushed c 0 (flat (tab (spec.box_face h) 6 0)) (streams_of positions.old normals.old textures.old) }
 {
-    let mut k = 0;
-    while k < 6 {
-        put_face(c, h, k, positions, normals, textures);
-        k += 1;
-    }
+    put_verts(
+        c,
+        0,
+        6,
+        |k|
+            requires { k < 6 }
+            ensures { result ≡ spec.box_face h k }
+        { box_face(h, k) },
+        positions,
+        normals,
+        textures,
+    );
 }

@@ -21,7 +21,7 @@ use Rattle.parts.specs.Part.{Part}
 use Rattle.parts.specs.Pushed.{Streams, RoomFor, pushed}
 use Rattle.parts.specs.Cap.{cap_at, cap_sizes, Numbered}
 use Rattle.parts.specs.Written.{Sized, Written, Roomy}
-use Rattle.parts.proofs.Pushing.{SameSizes, room_less, pushed_next, pushed_sizes}
+use Rattle.parts.proofs.Pushing.{room_less}
 use Rattle.parts.proofs.Capping.{cap_sized}
 use Rattle.parts.proofs.Holding.{held_between}
 use Rattle.parts.proofs.Parting.{where_sized, where_room, where_written, where_absent, Small, where_small, cap_small, sized_followed, roomy_first, roomy_next, written_followed}
@@ -30,27 +30,15 @@ use Rattle.cone.specs.Cone.{cone_foot, cone_apex, cone_verts, cone_tri, cone_sid
 
 -- ---- the side
 
-pub three_pushed : (c : GeomCtx) (k : ℕ) (u v w : Vert) {s s₁ s₂ s₃ : Streams} → RoomFor c (k + 3) s → s₁ ≡ pushed c k (u ∷ []) s → s₂ ≡ pushed c (k + 1) (v ∷ []) s₁ → s₃ ≡ pushed c (k + 2) (w ∷ []) s₂
-    → s₃ ≡ pushed c k (u ∷ v ∷ w ∷ []) s
-three_pushed c k u v w R e₁ e₂ e₃ = pushed_next c k (u ∷ v ∷ []) w (room_less c (omega arith) R) (pushed_next c k (u ∷ []) v (room_less c (omega arith) R) e₁ e₂) e₃
-
-pub three_sizes : (c : GeomCtx) (k : ℕ) (u v w : Vert) {s s₁ s₂ s₃ : Streams} → RoomFor c (k + 3) s → s₁ ≡ pushed c k (u ∷ []) s → s₂ ≡ pushed c (k + 1) (v ∷ []) s₁ → s₃ ≡ pushed c (k + 2) (w ∷ []) s₂
-    → SameSizes s s₃
-three_sizes c k u v w {s} R e₁ e₂ e₃ = rw (three_pushed c k u v w R e₁ e₂ e₃) (pushed_sizes c k (u ∷ v ∷ w ∷ []) s R)
-
-pub slice_pushed : (c : GeomCtx) (ps : List Float) (r h : Float) (n i : ℕ) {s0 s1 : Float} {u v w : Vert} {s s₁ s₂ s₃ : Streams} → RoomFor c (i * 3 + 3) s → s0 ≡ share_of i n → s1 ≡ share_of (i + 1) n
+pub slice_is : (ps : List Float) (r h : Float) (n i : ℕ) {s0 s1 : Float} {u v w : Vert} → s0 ≡ share_of i n → s1 ≡ share_of (i + 1) n
     → u ≡ cone_foot ps r h (5 * i) (5 * i + 2) s0 → v ≡ cone_foot ps r h (5 * i + 1) (5 * i + 3) s1 → w ≡ cone_apex ps r h (5 * i + 4) (div binary32 (add binary32 s0 s1) two_f)
-    → s₁ ≡ pushed c (i * 3) (u ∷ []) s → s₂ ≡ pushed c (i * 3 + 1) (v ∷ []) s₁ → s₃ ≡ pushed c (i * 3 + 2) (w ∷ []) s₂ → s₃ ≡ pushed c (i * 3) (cone_verts ps r h n i) s
+    → u ∷ v ∷ w ∷ [] ≡ cone_verts ps r h n i
 unfolding cone_verts
-slice_pushed c ps r h n i {s0} {s1} {u} {v} {w} {s} R e0 e1 eu ev ew e₁ e₂ e₃ =
+slice_is ps r h n i e0 e1 eu ev ew =
     let a = eu ∙ ap (cone_foot ps r h (5 * i) (5 * i + 2)) e0 in
     let b = ev ∙ ap (cone_foot ps r h (5 * i + 1) (5 * i + 3)) e1 in
     let d = ew ∙ (λ t. cone_apex ps r h (5 * i + 4) (div binary32 (add binary32 (e0 t) (e1 t)) two_f)) in
-    three_pushed c (i * 3) u v w R e₁ e₂ e₃ ∙ (λ t. pushed c (i * 3) (a t ∷ b t ∷ d t ∷ []) s)
-
-pub tri_put : (i : ℕ) (l : List ℕ) (at : ℕ) {a b c : ℕ} {l' : List ℕ} → a ≡ 3 * i → b ≡ 3 * i + 1 → c ≡ 3 * i + 2 → l' ≡ spliced l at (a ∷ b ∷ c ∷ []) → l' ≡ spliced l at (cone_tri i)
-unfolding cone_tri
-tri_put i l at ea eb ec e = e ∙ (λ t. spliced l at (ea t ∷ eb t ∷ ec t ∷ []))
+    λ t. a t ∷ b t ∷ d t ∷ []
 
 module _ (ps : List Float) (r h : Float) (n : ℕ) where
   verts_length : length (cone_side ps r h n).verts ≡ n * 3

@@ -5,16 +5,15 @@ ghost use Rattle.mesh.specs.Normals.{or_else};
 ghost use Rattle.lists.specs.Lists.{flat};
 ghost use Rattle.lists.specs.Loops.{tab};
 ghost use Rattle.lists.specs.Parts.{spliced};
-ghost use Rattle.parts.specs.Pushed.{RoomFor, pushed};
+ghost use Rattle.parts.specs.Pushed.{RoomFor, pushed, streams_of};
 ghost use Rattle.parts.specs.Written.{Written, Roomy};
 ghost use Rattle.cone.specs.Roots.{Roots};
 ghost use Rattle.cone.specs.Cone.{cone_normal, cone_foot, cone_apex, cone_verts, cone_tri, cone_side};
 
 use crate::lengths::{Lengths, is_known, known_unit, lengths_near};
 use block::Pair;
-use lists::put_three;
 use math::V3;
-use parts::{GeomCtx, Vert, index_of, put_vert, ring_at, share};
+use parts::{GeomCtx, Vert, index_of, put_verts, put_words, ring_at, share};
 
 // What is scaled to length 1 for the normal at pair p.
 fn cone_slope(pairs: &[f32], r: f32, height: f32, p: usize) -> V3
@@ -32,14 +31,11 @@ fn cone_slope(pairs: &[f32], r: f32, height: f32, p: usize) -> V3
 fn or_up(u: Option<V3>) -> V3
     ensures { result ≡ or_else u y_axis }
 {
-    match u {
-        Some(v) => v,
-        None => V3 {
-            x: 0.0,
-            y: 1.0,
-            z: 0.0,
-        },
-    }
+    u.unwrap_or(V3 {
+        x: 0.0,
+        y: 1.0,
+        z: 0.0,
+    })
 }
 
 // The normals of a slice: at its two places of the foot, and at the apex.
@@ -142,21 +138,9 @@ fn cone_apex(height: f32, normal: V3, s: f32) -> Vert
 }
 
 // The three vertices of slice i.
-fn put_slice(
-    c: GeomCtx,
-    pairs: &[f32],
-    known: Lengths,
-    r: f32,
-    height: f32,
-    n: usize,
-    i: usize,
-    positions: &mut [u32],
-    normals: &mut [u32],
-    textures: &mut [u32],
-)
-    requires { (n ≤ 1024) × (i < n) × Roots known × RoomFor c (i * 3 + 3) (record { positions = positions.old; normals = normals.old; textures = textures.old }) }
-    ensures { record { positions = positions.new; normals = normals.new; textures = textures.new }
-        ≡ pushed c (i * 3) (cone_verts pairs.now r height n i) (record { positions = positions.old; normals = normals.old; textures = textures.old }) }
+fn cone_verts(pairs: &[f32], known: Lengths, r: f32, height: f32, n: usize, i: usize) -> [Vert; 3]
+    requires { (n ≤ 1024) × (i < n) × Roots known }
+    ensures { result ≡ cone_verts pairs.now r height n i }
 {
     let s0 = share(i, n);
     let s1 = share(i + 1, n);
@@ -167,52 +151,17 @@ fn put_slice(
     let to = k.to;
     let up = k.apex;
     let a = cone_foot(pairs, r, height, p, from, s0);
-    put_vert(c, i * 3, a, positions, normals, textures);
     let b = cone_foot(pairs, r, height, p + 1, to, s1);
-    put_vert(c, i * 3 + 1, b, positions, normals, textures);
     let apex = cone_apex(height, up, sm);
-    put_vert(c, i * 3 + 2, apex, positions, normals, textures);
+    [a, b, apex]
 }
 
-fn put_slices(
-    c: GeomCtx,
-    pairs: &[f32],
-    r: f32,
-    height: f32,
-    n: usize,
-    positions: &mut [u32],
-    normals: &mut [u32],
-    textures: &mut [u32],
-)
-    requires { (n ≤ 1024) × RoomFor c (0 + n * 3) (record { positions = positions.old; normals = normals.old; textures = textures.old }) }
-    ensures { record { positions = positions.new; normals = normals.new; textures = textures.new }
-        ≡ pushed c 0 (flat (tab (cone_verts pairs.now r height n) n 0)) (record { positions = positions.old; normals = normals.old; textures = textures.old }) }
+// The triangle of slice i.
+fn cone_tri(i: usize) -> [u32; 3]
+    requires { i < 1024 }
+    ensures { result ≡ cone_tri i }
 {
-    let known = lengths_near(r, height);
-    let mut i = 0;
-    while i < n {
-        put_slice(
-            c, pairs, known, r, height, n, i, positions, normals, textures,
-        );
-        i += 1;
-    }
-}
-
-fn put_slice_tris(indices: &mut [u32], n: usize)
-    requires { (n ≤ 1024) × (0 + n * 3 ≤ length indices.old) }
-    ensures { indices.new ≡ spliced indices.old 0 (flat (tab cone_tri n 0)) }
-{
-    let mut i = 0;
-    while i < n {
-        put_three(
-            indices,
-            i * 3,
-            index_of(3 * i),
-            index_of(3 * i + 1),
-            index_of(3 * i + 2),
-        );
-        i += 1;
-    }
+    [index_of(3 * i), index_of(3 * i + 1), index_of(3 * i + 2)]
 }
 
 // The whole side.
@@ -227,12 +176,24 @@ pub fn put_side(
     textures: &mut [u32],
     indices: &mut [u32],
 )
-    requires { (n ≤ 1024) × Roomy c (cone_side pairs.now r height n) 0 0 (record { positions = positions.old; normals = normals.old; textures = textures.old }) indices.old }
+    requires { (n ≤ 1024) × Roomy c (cone_side pairs.now r height n) 0 0 (streams_of positions.old normals.old textures.old) indices.old }
     ensures { Written c (cone_side pairs.now r height n) 0 0
-        (record { positions = positions.old; normals = normals.old; textures = textures.old })
-        (record { positions = positions.new; normals = normals.new; textures = textures.new })
+        (streams_of positions.old normals.old textures.old)
+        (streams_of positions.new normals.new textures.new)
         indices.old indices.new }
 {
-    put_slices(c, pairs, r, height, n, positions, normals, textures);
-    put_slice_tris(indices, n);
+    let known = lengths_near(r, height);
+    put_verts(
+        c,
+        0,
+        n,
+        |i|
+            requires { (n ≤ 1024) × (i < n) × Roots known }
+            ensures { result ≡ cone_verts pairs.exit.now r height n i }
+        { cone_verts(pairs, known, r, height, n, i) },
+        positions,
+        normals,
+        textures,
+    );
+    put_words(indices, 0, n, cone_tri);
 }

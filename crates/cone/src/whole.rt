@@ -1,6 +1,7 @@
 // FORMAT 17.9, 17.10: the call of a cone.
 ghost use Rattle.std.specs.Prelude.{◌≤◌, ◌≡◌};
 ghost use Rattle.parts.specs.Parted.{Parted, lent_to};
+ghost use Rattle.parts.specs.Pushed.{streams_of};
 ghost use Rattle.parts.specs.Written.{Written, Roomy};
 ghost use Rattle.cone.specs.Cone.{cone_side_sizes, cone_side_at, cone_marks_of, cone_part, cone_of};
 
@@ -52,10 +53,10 @@ fn put_side_where(
     textures: &mut [u32],
     indices: &mut [u32],
 )
-    requires { (n ≤ 1024) × Roomy c (cone_side_at pairs.now side r height n) 0 0 (record { positions = positions.old; normals = normals.old; textures = textures.old }) indices.old }
+    requires { (n ≤ 1024) × Roomy c (cone_side_at pairs.now side r height n) 0 0 (streams_of positions.old normals.old textures.old) indices.old }
     ensures { Written c (cone_side_at pairs.now side r height n) 0 0
-        (record { positions = positions.old; normals = normals.old; textures = textures.old })
-        (record { positions = positions.new; normals = normals.new; textures = textures.new })
+        (streams_of positions.old normals.old textures.old)
+        (streams_of positions.new normals.new textures.new)
         indices.old indices.new }
 {
     if side {
@@ -80,10 +81,10 @@ fn put_cone(
     textures: &mut [u32],
     indices: &mut [u32],
 )
-    requires { (n ≤ 1024) × (m ≡ cone_marks_of n side bottom) × Roomy c (cone_part pairs.now r height n side bottom) 0 0 (record { positions = positions.old; normals = normals.old; textures = textures.old }) indices.old }
+    requires { (n ≤ 1024) × (m ≡ cone_marks_of n side bottom) × Roomy c (cone_part pairs.now r height n side bottom) 0 0 (streams_of positions.old normals.old textures.old) indices.old }
     ensures { Written c (cone_part pairs.now r height n side bottom) 0 0
-        (record { positions = positions.old; normals = normals.old; textures = textures.old })
-        (record { positions = positions.new; normals = normals.new; textures = textures.new })
+        (streams_of positions.old normals.old textures.old)
+        (streams_of positions.new normals.new textures.new)
         indices.old indices.new }
 {
     put_side_where(

@@ -8,8 +8,7 @@ use lib.ListN.{length}
 use lib.Ieee.{Float, binary32, of_bits, to_bits, of_int, add, sub, mul, div, lt}
 use Rattle.bits.specs.declared.Words2.{Words2}
 use Rattle.bits.specs.declared.Words3.{Words3}
-use Rattle.block.specs.declared.texture.TexTransform.{TexTransform}
-use Rattle.block.specs.Texture.{uv_words}
+use Rattle.std.specs.Prelude.{None}
 use Rattle.lists.specs.Lists.{flat}
 use Rattle.lists.specs.Loops.{tab}
 use Rattle.math.specs.Vector.{zero_f, one_f, two_f}
@@ -174,10 +173,10 @@ abbrev uv : ℕ → ℕ → Words2
 uv s t = record { s = s; t = t }
 
 -- where there is no transform
-textures : (x : TexTransform) → textures_of (record { need_uvs = true; has_transform = false; transform = x }) (made true true true).verts
+textures : textures_of (record { need_uvs = true; transform = None }) (made true true true).verts
     ≡ (uv o one) ∷ (uv o o) ∷ (uv 0x3eaa_aaab one) ∷ (uv 0x3eaa_aaab o) ∷ (uv 0x3f2a_aaab one) ∷ (uv 0x3f2a_aaab o) ∷ (uv one one) ∷ (uv one o) ∷ (uv half half) ∷ (uv half o) ∷ (uv o half) ∷ (uv half one) ∷ (uv half half) ∷ (uv half one) ∷ (uv o half) ∷ (uv half o) ∷ []
-unfolding textures_of uv_of uv_words cylinder_of cylinder_part followed side_at side_part side_verts side_vert cap_at cap_part cap_verts cap_vert cap_centre cap_texture held_to sine_at cosine_at ring_at share_of flat tab of_bits to_bits of_int add sub div
-textures x = refl
+unfolding textures_of uv_of cylinder_of cylinder_part followed side_at side_part side_verts side_vert cap_at cap_part cap_verts cap_vert cap_centre cap_texture held_to sine_at cosine_at ring_at share_of flat tab of_bits to_bits of_int add sub div
+textures = refl
 
 -- ---- these pairs come round, so that each edge of the whole cylinder has its way back
 

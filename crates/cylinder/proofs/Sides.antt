@@ -1,46 +1,32 @@
 -- The side of a cylinder, and then its caps: what is written, how large it is, and the call.
-use mathlib.Core.Path.{◌≡◌, refl, ap, ◌∙◌}
+use mathlib.Core.Path.{◌≡◌, refl, ap}
 use mathlib.Core.Bool.{Bool, true, false}
-use mathlib.Core.List.{List, [], ◌∷◌}
+use mathlib.Core.List.{List}
 use Prim.Native.Nat.{ℕ, ◌+◌, ◌*◌, ◌≤◌, ◌<◌, ◌^◌}
 use native.Mathlib.Omega.{arith}
 use lib.ListN.{length}
 use lib.Ieee.{Float, binary32, neg, div}
-use Rattle.math.specs.Vector.{zero_f, one_f, two_f}
+use Rattle.math.specs.Vector.{one_f, two_f}
 use Rattle.lists.specs.Lists.{flat}
 use Rattle.lists.specs.Loops.{tab}
 use Rattle.lists.specs.Parts.{spliced}
 use Rattle.lists.proofs.Pieces.{length_pieces}
-use Rattle.lists.proofs.Splices.{splice_more}
 use Rattle.parts.specs.declared.cap.Cap.{Cap}
 use Rattle.parts.specs.declared.sizes.PartSizes.{PartSizes}
 use Rattle.parts.specs.declared.vert.GeomCtx.{GeomCtx}
-use Rattle.parts.specs.declared.vert.Vert.{Vert}
 use Rattle.parts.specs.Sizes.{dim_of, held_to, sum_of, sizes_where}
 use Rattle.parts.specs.Part.{Part, followed}
 use Rattle.parts.specs.Pushed.{Streams, RoomFor, pushed}
 use Rattle.parts.specs.Cap.{cap_at, cap_sizes, Numbered}
 use Rattle.parts.specs.Written.{Sized, Written, Roomy}
-use Rattle.parts.proofs.Pushing.{room_less, pushed_next}
+use Rattle.parts.proofs.Pushing.{room_less}
 use Rattle.parts.proofs.Capping.{cap_sized}
 use Rattle.parts.proofs.Holding.{held_between}
 use Rattle.parts.proofs.Parting.{where_sized, where_room, where_written, where_absent, Small, where_small, cap_small, sum_small, sized_followed, roomy_first, roomy_next, written_followed}
 use Rattle.cylinder.specs.declared.whole.Marks.{Marks}
-use Rattle.cylinder.specs.Cylinder.{side_vert, side_verts, side_tris, side_part, side_at, side_sizes, marks_of, cylinder_part, cylinder_of}
+use Rattle.cylinder.specs.Cylinder.{side_verts, side_tris, side_part, side_at, side_sizes, marks_of, cylinder_part, cylinder_of}
 
 -- ---- the side
-
-pub two_pushed : (c : GeomCtx) (ps : List Float) (r h : Float) (n i : ℕ) {v w : Vert} {s s' s'' : Streams} → RoomFor c (i * 2 + 2) s → v ≡ side_vert ps r n i (neg h) zero_f → w ≡ side_vert ps r n i h one_f
-    → s' ≡ pushed c (i * 2) (v ∷ []) s → s'' ≡ pushed c (i * 2 + 1) (w ∷ []) s' → s'' ≡ pushed c (i * 2) (side_verts ps r h n i) s
-unfolding side_verts
-two_pushed c ps r h n i {v} {w} {s} R ev ew e₁ e₂ = pushed_next c (i * 2) (v ∷ []) w (room_less c (omega arith) R) e₁ e₂ ∙ (λ t. pushed c (i * 2) (ev t ∷ ew t ∷ []) s)
-
-pub tris_put : (i : ℕ) (l : List ℕ) {a b c d : ℕ} {l' l'' : List ℕ} → i * 6 + 6 ≤ length l → a ≡ 2 * i → b ≡ 2 * i + 2 → c ≡ 2 * i + 3 → d ≡ 2 * i + 1
-    → l' ≡ spliced l (i * 6) (a ∷ b ∷ c ∷ []) → l'' ≡ spliced l' (i * 6 + 3) (a ∷ c ∷ d ∷ []) → l'' ≡ spliced l (i * 6) (side_tris i)
-unfolding side_tris
-tris_put i l {a} {b} {c} {d} {l'} {l''} room ea eb ec ed e₁ e₂ =
-    e₂ ∙ ap (λ (m : List ℕ). spliced m (i * 6 + 3) (a ∷ c ∷ d ∷ [])) e₁ ∙ splice_more l (i * 6) (i * 6 + 3) (a ∷ b ∷ c ∷ []) (a ∷ c ∷ d ∷ []) refl (omega arith)
-    ∙ (λ t. spliced l (i * 6) (ea t ∷ eb t ∷ ec t ∷ ea t ∷ ec t ∷ ed t ∷ []))
 
 module _ (ps : List Float) (r h : Float) (n : ℕ) where
   verts_length : length (side_part ps r h n).verts ≡ (n + 1) * 2

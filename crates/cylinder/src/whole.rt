@@ -4,6 +4,7 @@ ghost use Rattle.parts.specs.Sizes.{sizes_where};
 ghost use Rattle.parts.specs.Part.{followed};
 ghost use Rattle.parts.specs.Cap.{cap_at};
 ghost use Rattle.parts.specs.Parted.{Parted, lent_to};
+ghost use Rattle.parts.specs.Pushed.{streams_of};
 ghost use Rattle.parts.specs.Written.{Written, Roomy};
 ghost use Rattle.cylinder.specs.Cylinder.{side_sizes, side_at, marks_of, cylinder_part, cylinder_of};
 
@@ -61,10 +62,10 @@ fn put_side_where(
     textures: &mut [u32],
     indices: &mut [u32],
 )
-    requires { (n ≤ 1024) × Roomy c (side_at pairs.now side r h n) 0 0 (record { positions = positions.old; normals = normals.old; textures = textures.old }) indices.old }
+    requires { (n ≤ 1024) × Roomy c (side_at pairs.now side r h n) 0 0 (streams_of positions.old normals.old textures.old) indices.old }
     ensures { Written c (side_at pairs.now side r h n) 0 0
-        (record { positions = positions.old; normals = normals.old; textures = textures.old })
-        (record { positions = positions.new; normals = normals.new; textures = textures.new })
+        (streams_of positions.old normals.old textures.old)
+        (streams_of positions.new normals.new textures.new)
         indices.old indices.new }
 {
     if side {
@@ -89,10 +90,10 @@ fn put_side_and_top(
 )
     requires { (n ≤ 1024) × (a ≡ sizes_where side (side_sizes n))
         × Roomy c (followed (side_at pairs.now side r h n) (cap_at pairs.now top h r n true)) 0 0
-        (record { positions = positions.old; normals = normals.old; textures = textures.old }) indices.old }
+        (streams_of positions.old normals.old textures.old) indices.old }
     ensures { Written c (followed (side_at pairs.now side r h n) (cap_at pairs.now top h r n true)) 0 0
-        (record { positions = positions.old; normals = normals.old; textures = textures.old })
-        (record { positions = positions.new; normals = normals.new; textures = textures.new })
+        (streams_of positions.old normals.old textures.old)
+        (streams_of positions.new normals.new textures.new)
         indices.old indices.new }
 {
     put_side_where(
@@ -127,10 +128,10 @@ fn put_cylinder(
     textures: &mut [u32],
     indices: &mut [u32],
 )
-    requires { (n ≤ 1024) × (m ≡ marks_of n side top bottom) × Roomy c (cylinder_part pairs.now r h n side top bottom) 0 0 (record { positions = positions.old; normals = normals.old; textures = textures.old }) indices.old }
+    requires { (n ≤ 1024) × (m ≡ marks_of n side top bottom) × Roomy c (cylinder_part pairs.now r h n side top bottom) 0 0 (streams_of positions.old normals.old textures.old) indices.old }
     ensures { Written c (cylinder_part pairs.now r h n side top bottom) 0 0
-        (record { positions = positions.old; normals = normals.old; textures = textures.old })
-        (record { positions = positions.new; normals = normals.new; textures = textures.new })
+        (streams_of positions.old normals.old textures.old)
+        (streams_of positions.new normals.new textures.new)
         indices.old indices.new }
 {
     let a = m.top;

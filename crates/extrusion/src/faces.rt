@@ -33,7 +33,7 @@ fn put_quad(work: &mut [u32], k: usize, m: usize, i: usize, j: usize)
     put_all(
         work,
         k,
-        [narrow(a.0), narrow(b.0), narrow(c.0), narrow(d.0)],
+        &[narrow(a.0), narrow(b.0), narrow(c.0), narrow(d.0)],
     );
 }
 

@@ -85,7 +85,7 @@ fn put_point(work: &mut [u32], k: usize, v: V3)
     put_all(
         work,
         k,
-        [math::bits_of(v.x), math::bits_of(v.y), math::bits_of(v.z)],
+        &[math::bits_of(v.x), math::bits_of(v.y), math::bits_of(v.z)],
     );
 }
 

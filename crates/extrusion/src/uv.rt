@@ -74,8 +74,7 @@ pub fn corner_texture(
 {
     if h.need_uvs {
         let w = plain_texture(block, h, floats, at, fit, number, point);
-        let x = s.transform;
-        return block::uv(h.transformed, x, w);
+        return block::uv(h.transformed.then_some(s.transform), w);
     }
     Words2 { s: 0, t: 0 }
 }

@@ -27,7 +27,7 @@ fn put_three(s: &mut [u32], k: usize, a: VertexNumber, b: VertexNumber, c: Verte
     requires { (k + 3 ≤ length s.old) × (a.0 < 2 ^ 32) × (b.0 < 2 ^ 32) × (c.0 < 2 ^ 32) }
     ensures { s.new ≡ spliced s.old k (a.0 ∷ b.0 ∷ c.0 ∷ []) }
 {
-    put_all(s, k, [a.0 as u32, b.0 as u32, c.0 as u32]);
+    put_all(s, k, &[a.0 as u32, b.0 as u32, c.0 as u32]);
 }
 
 // One triangle; b and c are exchanged where ccw is off.

@@ -1,25 +1,22 @@
 -- FORMAT 6.2, 8.1: the listings of the kept faces: how many, what each has, and that the faces made of them are those of the mesh.
-use mathlib.Core.Path.{◌≡◌, refl, sym, ap, ◌∙◌}
+use mathlib.Core.Path.{◌≡◌, refl, ap, ◌∙◌}
 use mathlib.Core.Bool.{Bool, true, false, cond}
 use mathlib.Core.List.{List, [], ◌∷◌, ◌++◌, map}
 use Prim.Native.Nat.{ℕ, suc, ◌+◌, ◌≤◌, ◌<◌}
 use native.Mathlib.Nat.{not-suc-le-zero}
 use native.Mathlib.Omega.{arith}
-use lib.ListN.{length, get_or, length-append, length-map}
-use lib.Seq.{ext_get_or}
+use lib.ListN.{length, get_or, length-append}
 use Rattle.bits.specs.Bits.{entries}
 use Rattle.bits.specs.declared.Words4.{Words4}
 use Rattle.block.specs.Runs.{Run, run_of, runs, kept, faces, sum_over}
 use Rattle.block.proofs.RunLaws.{kept_long, kept_below}
-use Rattle.lists.specs.Loops.{tab, All}
+use Rattle.lists.specs.Loops.{All}
 use Rattle.lists.specs.Lists.{map_n, join_n}
 use Rattle.mesh.specs.Soup.{Face, dense}
 use Rattle.mesh.specs.FaceSet.{Rest, point_count, corner_of, face_of, faces_of}
-use Rattle.lists.proofs.Lists.{All_join_n, length_map_n, get_or_map_n, get_or_map_lt}
-use Rattle.lists.proofs.Tabs.{length_tab, tab_at}
+use Rattle.lists.proofs.Lists.{All_join_n, length_map_n, get_or_map_n}
 use Rattle.tables.specs.Listed.{Use, no_use, Listing, faces_with}
 use Rattle.faceset.specs.Listings.{use_of, listing_of, listed, listings_of, corner_use}
-use Rattle.faceset.specs.Adding.{points_used, places_used}
 
 -- ---- the first of the runs, and the rest
 
@@ -61,20 +58,6 @@ listings_long points ws = listings_all (λ (l : Listing). 3 ≤ length l.uses) p
 -- use i of a run
 pub used_at : (s : ℕ) (es : List ℕ) (i : ℕ) → i < length es → get_or (map_n use_of s es) i no_use ≡ use_of (s + i) (get_or es i 0)
 used_at s es i h = get_or_map_n use_of s es i no_use 0 h
-
-pub used_points : (s : ℕ) (es : List ℕ) → es ≡ points_used (map_n use_of s es)
-unfolding map_n
-used_points s [] = refl
-used_points s (e ∷ es) = ap (λ (l : List ℕ). e ∷ l) (used_points (suc s) es)
-
-pub used_places : (s : ℕ) (es : List ℕ) → tab (λ i. s + i) (length es) 0 ≡ places_used (map_n use_of s es)
-used_places s es =
-    ext_get_or 0 (tab (λ i. s + i) (length es) 0) (places_used (map_n use_of s es))
-    (length_tab (λ i. s + i) (length es) 0 ∙ sym (length-map (map_n use_of s es) (λ (u : Use). u.place) ∙ length_map_n use_of s es))
-    (λ i h.
-    let l : i < length es = omega (arith, length_tab (λ i. s + i) (length es) 0) in
-    tab_at (λ i. s + i) (length es) i 0 l
-    ∙ sym (get_or_map_lt (λ (u : Use). u.place) (map_n use_of s es) i 0 no_use (omega (arith, length_map_n use_of s es)) ∙ ap (λ (u : Use). u.place) (used_at s es i l)))
 
 uses_below : (points s : ℕ) (es : List ℕ) → ((k : ℕ) → k < length es → get_or es k 0 < points) → All (λ (u : Use). u.point < points) (map_n use_of s es)
 unfolding map_n

@@ -1,12 +1,14 @@
 -- Words written to a part of the tables, and what other parts keep: one face more.
-use mathlib.Core.Path.{◌≡◌, refl, ap, ◌∙◌}
+use mathlib.Core.Path.{◌≡◌, refl, sym, ap, ◌∙◌}
 use mathlib.Core.Logic.{inl, inr}
-use mathlib.Core.List.{List}
+use mathlib.Core.List.{List, map}
 use Prim.Native.Nat.{ℕ, suc, ◌+◌, ◌≤◌, ◌<◌}
 use native.Mathlib.Numerals.{add-one}
 use native.Mathlib.Omega.{arith}
 use lib.ListN.{length, get_or, set, length-set, length-map}
+use Rattle.lists.specs.Loops.{tab}
 use Rattle.lists.specs.Parts.{spliced, Out}
+use Rattle.lists.proofs.Tabs.{tab_same, tab_list}
 use Rattle.lists.proofs.Keep.{set_hit, set_miss}
 use Rattle.lists.proofs.Lists.{get_or_map_lt}
 use Rattle.lists.proofs.Splices.{set_is, put_size, put_at, put_out}
@@ -14,7 +16,9 @@ use Rattle.tables.specs.declared.layout.Plan.{Plan}
 use Rattle.tables.specs.Soups.{point_in, start_in, number_in, place_in}
 use Rattle.tables.specs.Listed.{Use, no_use, Beside}
 use Rattle.tables.proofs.Besides.{beside_then, beside_corners, beside_starts, beside_places, beside_numbers}
-use Rattle.faceset.specs.Adding.{Fits, points_used, places_used, face_added}
+use Rattle.faceset.specs.declared.listing.Progress.{Progress}
+use Rattle.faceset.specs.Adding.{Fits, points_used, places_used, face_added, FacePut}
+use Rattle.faceset.proofs.Each.{put_are}
 
 -- ---- one face: its points, its places, its number, and the first corner after it
 
@@ -131,9 +135,19 @@ module _ (t : Plan) (j c number : ℕ) (us : List Use) (w : List ℕ) (F : Fits 
       face_put t.places i (omega arith) (λ e. omega arith)
       ∙ put_at w₁ (t.places + c) ps refl long room₂ 0 i h ∙ get_or_map_lt (λ (u : Use). u.place) us i 0 no_use h
 
--- as the functions leave it
-pub face_added_lem : (t : Plan) (j c number : ℕ) (us : List Use) (u : List ℕ) {n : ℕ} {es ps v w x : List ℕ} → length us ≡ n → es ≡ points_used us → ps ≡ places_used us
-    → v ≡ spliced u (t.corners + c) es → w ≡ spliced v (t.places + c) ps
-    → x ≡ set (set w (t.numbers + j) number) (t.starts + (j + 1)) (c + n) → x ≡ face_added t j c number us u
+-- as it is put: f says the points, and g the places
+pub face_put_is : {P Q : ℕ → ℕ → Type 0} {t : Plan} {p r : Progress} {number n : ℕ} {w w' : List ℕ} (f g : ℕ → ℕ) → FacePut P Q t p number n w w' r → (us : List Use) → length us ≡ n
+    → ((i : ℕ) → i < n → get_or us i no_use ≡ record { point = f i; place = g i })
+    → ((i v : ℕ) → i < n → P i v → v ≡ f i)
+    → ((i v : ℕ) → i < n → Q i v → v ≡ g i)
+    → w' ≡ face_added t p.faces p.corner.0 number us w
 unfolding face_added
-face_added_lem t j c number us u l ee ep ev ew ex = rw (ex, ew, ev, ee, ep, ← l, add-one) refl
+face_put_is {n = n} f g F us l u a b =
+    let e = put_are f F.points a ∙ ap (spliced _ _) (each (λ (u : Use). u.point) f (λ i h. ap (λ (u : Use). u.point) (u i h))) in
+    let d = put_are g F.places b ∙ ap (spliced _ _) (each (λ (u : Use). u.place) g (λ i h. ap (λ (u : Use). u.place) (u i h))) in
+    rw (F.row, d, e, ← l, add-one) refl
+  where
+    each : (of : Use → ℕ) (h : ℕ → ℕ) → ((i : ℕ) → i < n → of (get_or us i no_use) ≡ h i) → tab h n 0 ≡ map of us
+    each of h e =
+        tab_same h (λ i. get_or (map of us) i 0) n (λ i b. sym (get_or_map_lt of us i 0 no_use (omega arith) ∙ e i b))
+        ∙ tab_list 0 (map of us) n (length-map us of ∙ l)

@@ -4,5 +4,5 @@
 mod listing;
 mod points;
 
-pub use listing::{list_faces, put_row};
+pub use listing::{Progress, list_faces, put_face};
 pub use points::put_points;

@@ -44,7 +44,7 @@ fn put3(work: &mut [u32], a: usize, w: Words3)
     requires { a + 3 ≤ length work.old }
     ensures { work.new ≡ spliced work.old a (words3 w) }
 {
-    put_all(work, a, [w.x, w.y, w.z]);
+    put_all(work, a, &[w.x, w.y, w.z]);
 }
 
 // The points' words from place `at` on, row by row.

@@ -2,7 +2,7 @@
 ghost use Rattle.std.specs.Prelude.{◌≡◌};
 ghost use Rattle.host.specs.Context.{is_on, ctx_of};
 
-use block::TexTransform;
+use block::{Pair, TexTransform};
 use parts::{GeomCtx, float_at};
 
 pub fn is_on(flag: u32) -> bool
@@ -19,18 +19,23 @@ pub fn ctx_of(need_uvs: u32, transform: &[f32]) -> GeomCtx
     ensures { result ≡ ctx_of need_uvs transform.now }
 {
     let given = TexTransform {
-        center_s: float_at(transform, 0),
-        center_t: float_at(transform, 1),
+        center: Pair {
+            s: float_at(transform, 0),
+            t: float_at(transform, 1),
+        },
         sine: float_at(transform, 2),
         cosine: float_at(transform, 3),
-        scale_s: float_at(transform, 4),
-        scale_t: float_at(transform, 5),
-        translation_s: float_at(transform, 6),
-        translation_t: float_at(transform, 7),
+        scale: Pair {
+            s: float_at(transform, 4),
+            t: float_at(transform, 5),
+        },
+        translation: Pair {
+            s: float_at(transform, 6),
+            t: float_at(transform, 7),
+        },
     };
     GeomCtx {
         need_uvs: is_on(need_uvs),
-        has_transform: 8 <= transform.len(),
-        transform: given,
+        transform: (8 <= transform.len()).then_some(given),
     }
 }

@@ -27,7 +27,7 @@ fn put_line(indices: &mut [u32], at: usize, last: Option<VertexNumber>, next: Ve
 {
     match last {
         Some(v) => {
-            put_all(indices, at, [v.0 as u32, next.0 as u32]);
+            put_all(indices, at, &[v.0 as u32, next.0 as u32]);
             at + 2
         }
         None => at,

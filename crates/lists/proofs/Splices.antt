@@ -8,6 +8,7 @@ use native.Mathlib.Omega.{arith}
 use lib.ListN.{length, get_or, set, take, drop, replicate, length-append, length-take, length-drop, drop_of_length-le, length-replicate, get_or-replicate, take-append-drop}
 use lib.Seq.{take_at, drop_at, drop-append-add, drop-drop, length-take-le, sets, sets-eq, get_or-take, get_or-drop, take_all}
 use borrow.Rule.Slice.PartMut.{put_mid}
+use Rattle.std.proofs.lemmas.List.{take_more}
 use Rattle.lists.specs.Loops.{tab}
 use Rattle.lists.specs.Parts.{seg, spliced, Kept, Out, TableOf}
 use Rattle.lists.proofs.Tabs.{length_tab, tab_at}
@@ -75,6 +76,15 @@ module _ {A : Type 0} where
 
   pub set_is : (l : List A) (a : ℕ) (x : A) → a < length l → set l a x ≡ spliced l a (x ∷ [])
   set_is l a x h = sets_spliced l a (x ∷ []) (omega arith)
+
+  -- one element more of r
+  pub set_more : (l : List A) (a : ℕ) (r : List A) (x : A) {j : ℕ} {m : List A} → a + length r ≤ length l → j < length r → length m ≡ length l
+      → m ≡ spliced l a (take j r) → x ≡ get_or r j x → set m (a + j) x ≡ spliced l a (take (j + 1) r)
+  set_more l a r x {j} {m} room b size e is =
+      let z : length (take j r) ≡ j = length-take-le j r (omega arith) in
+      set_is m (a + j) x (omega arith) ∙ ap (λ (q : List A). spliced q (a + j) (x ∷ [])) e
+      ∙ splice_more l a (a + j) (take j r) (x ∷ []) (omega arith) (omega arith)
+      ∙ ap (λ (y : A). spliced l a (take j r ++ (y ∷ []))) is ∙ ap (spliced l a) (sym (take_more r j x b))
 
   -- ---- what is there then
 

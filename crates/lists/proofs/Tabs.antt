@@ -4,7 +4,7 @@ use mathlib.Core.List.{List, [], ◌∷◌, ◌++◌, map}
 use Prim.Native.Nat.{ℕ, zero, suc, ◌+◌, ◌<◌, ◌≤◌}
 use native.Mathlib.Nat.{not-suc-le-zero, le_of_suc-le-suc, zero-add, add-zero, add-suc, suc-add}
 use native.Mathlib.Omega.{arith}
-use lib.ListN.{length, get_or, take}
+use lib.ListN.{length, get_or, take, replicate}
 use Rattle.lists.specs.Loops.{tab}
 use lib.Seq.{ext_get_or, get_or-take, length-take-le, take_all}
 use Rattle.lists.specs.Parts.{seg}
@@ -51,6 +51,11 @@ module _ {A : Type 0} where
   unfolding tab
   map_tab {B} f h zero i = refl
   map_tab {B} f h (suc k) i = ap (λ (l : List B). h (f i) ∷ l) (map_tab f h k (suc i))
+
+pub tab_replicate : {A : Type 0} (v : A) (k i : ℕ) → tab (λ j. v) k i ≡ replicate k v
+unfolding tab
+tab_replicate v zero i = refl
+tab_replicate {A} v (suc k) i = ap (λ (l : List A). v ∷ l) (tab_replicate v k (suc i))
 
 -- the first n elements of a list
 pub tab_take : {A : Type 0} (d : A) (l : List A) (n : ℕ) → n ≤ length l → tab (λ i. get_or l i d) n 0 ≡ take n l

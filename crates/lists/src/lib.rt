@@ -23,10 +23,13 @@ pub fn put(table: &mut [u32], k: usize, v: u32)
     }
 }
 
-// The elements of an array, from place a on.
-pub fn put_all<T: Copy, const N: usize>(table: &mut [T], a: usize, all: [T; N])
-    requires { a + N ≤ length table.old }
-    ensures { table.new ≡ spliced table.old a all }
+// The elements of a list, from place a on: one by one, since with copy_from_slice a cylinder took a fifth longer.
+#[inline(always)]
+pub fn put_all<T: Copy>(table: &mut [T], a: usize, all: &[T])
+    requires { a + length all.now ≤ length table.old }
+    ensures { table.new ≡ spliced table.old a all.now }
 {
-    table[a..a + N].copy_from_slice(&all);
+    for (i, x) in all.iter().enumerate() {
+        table[a + i] = *x;
+    }
 }

@@ -37,7 +37,7 @@ pub fn store3(work: &mut [u32], a: usize, v: V3)
     put_all(
         work,
         a,
-        [math::bits_of(v.x), math::bits_of(v.y), math::bits_of(v.z)],
+        &[math::bits_of(v.x), math::bits_of(v.y), math::bits_of(v.z)],
     );
 }
 
@@ -63,7 +63,7 @@ pub fn put3(part: &mut [f32], a: usize, v: V3)
     requires { a + 3 ≤ length part.old }
     ensures { part.new ≡ spliced part.old a (three v) }
 {
-    put_all(part, a, [v.x, v.y, v.z]);
+    put_all(part, a, &[v.x, v.y, v.z]);
 }
 
 pub fn get3(part: &[f32], a: usize) -> V3

@@ -2,7 +2,7 @@
 use mathlib.Core.Path.{◌≡◌, refl, sym, ap, ◌∙◌, subst}
 use mathlib.Core.Bool.{Bool, true, false, cond}
 use mathlib.Core.List.{List, [], ◌∷◌}
-use Prim.Native.Nat.{ℕ, ◌+◌, ◌*◌, ◌%◌}
+use Prim.Native.Nat.{ℕ, ◌+◌, ◌*◌}
 use native.Mathlib.Omega.{arith}
 use lib.ListN.{length}
 use lib.Ieee.{Float}
@@ -28,16 +28,6 @@ either false x y e = sym e
 pub tri_wide : (k : Cap) (i : ℕ) → length (cap_tri k i) ≡ 3
 unfolding cap_tri
 tri_wide k i = either k.top _ _ refl
-
--- a triangle of a cap that was put
-module _ (k : Cap) (i : ℕ) {x y z : ℕ} (l : List ℕ) {l' : List ℕ} (a : ℕ) (ex : x ≡ k.first) (ey : y ≡ k.first + 1 + i) (ez : z ≡ k.first + 1 + (i + 1) % k.slices) where
-  pub tri_top : k.top ≡ true → l' ≡ spliced l a (x ∷ y ∷ z ∷ []) → l' ≡ spliced l a (cap_tri k i)
-  unfolding cap_tri
-  tri_top e p = rw e (p ∙ (λ j. spliced l a (ex j ∷ ey j ∷ ez j ∷ [])))
-
-  pub tri_bottom : k.top ≡ false → l' ≡ spliced l a (x ∷ z ∷ y ∷ []) → l' ≡ spliced l a (cap_tri k i)
-  unfolding cap_tri
-  tri_bottom e p = rw e (p ∙ (λ j. spliced l a (ex j ∷ ez j ∷ ey j ∷ [])))
 
 -- ---- the cap whole
 

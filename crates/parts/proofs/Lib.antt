@@ -6,3 +6,4 @@ pub mod Holding
 pub mod Naming
 pub mod Taking
 pub mod Edges
+pub mod Turning

@@ -11,7 +11,7 @@ use Rattle.lists.specs.Loops.{tab}
 use Rattle.lists.specs.Parts.{spliced}
 use Rattle.lists.proofs.Numbers.{piece_room}
 use Rattle.lists.proofs.Lists.{length_words}
-use Rattle.lists.proofs.Pieces.{flat_append, flat_more, flat_ones, length_pieces}
+use Rattle.lists.proofs.Pieces.{flat_append, flat_more, length_pieces}
 use Rattle.lists.proofs.Splices.{splice_start, splice_more, put_size}
 use Rattle.bits.specs.declared.Words2.{Words2}
 use Rattle.mesh.specs.Words.{words2, words3, bits}
@@ -137,12 +137,11 @@ pub record Filling (c : GeomCtx) (k : ℕ) (F : ℕ → List Vert) (w n : ℕ) (
   pub is : s ≡ pushed c k (flat (tab F i 0)) s₀
   pub room₀ : RoomFor c (k + n * w) s₀
   pub room : RoomFor c (k + n * w) s
-  pub sizes : SameSizes s₀ s
 
 module _ {c : GeomCtx} {k : ℕ} {F : ℕ → List Vert} {w n : ℕ} {s₀ : Streams} (wide : (t : ℕ) → length (F t) ≡ w) where
   pub filling_none : RoomFor c (k + n * w) s₀ → Filling c k F w n s₀ 0 s₀
   unfolding tab flat
-  filling_none R = record { so_far = omega arith; is = pushed_none c k s₀; room₀ = R; room = R; sizes = (refl, refl, refl) }
+  filling_none R = record { so_far = omega arith; is = pushed_none c k s₀; room₀ = R; room = R }
 
   pub filling_more : {i a : ℕ} {s s' : Streams} → Filling c k F w n s₀ i s → i < n → a ≡ k + i * w → s' ≡ pushed c a (F i) s → Filling c k F w n s₀ (i + 1) s'
   filling_more {i} {a} {s} {s'} P b ea es =
@@ -152,37 +151,17 @@ module _ {c : GeomCtx} {k : ℕ} {F : ℕ → List Vert} {w n : ℕ} {s₀ : Str
       let R : RoomFor c (k + length (flat (tab F i 0)) + length (F i)) s₀ = room_less c (omega arith) P.room₀ in
       let g : a ≡ k + length (flat (tab F i 0)) = omega arith in
       let q : s' ≡ pushed c k (flat (tab F i 0) ++ F i) s₀ = rw (es, g, P.is) (pushed_more c k (flat (tab F i 0)) (F i) s₀ R) in
-      let es-size : SameSizes s s' = rw es (pushed_sizes c a (F i) s (room_less c (omega arith) P.room)) in
       record {
         so_far = omega arith;
         is = q ∙ ap (λ (l : List Vert). pushed c k l s₀) (sym (flat_more F i));
         room₀ = P.room₀;
         room = rw es (pushed_room c a (F i) s (omega arith) P.room);
-        sizes = (es-size.0 ∙ P.sizes.0, es-size.1 ∙ P.sizes.1, es-size.2 ∙ P.sizes.2);
       }
 
   pub filling_all : {i : ℕ} {s : Streams} → Filling c k F w n s₀ i s → n ≤ i → s ≡ pushed c k (flat (tab F n 0)) s₀
   filling_all {i} P h =
       let e : i ≡ n = (let s = P.so_far in omega arith) in
       P.is ∙ ap (λ (j : ℕ). pushed c k (flat (tab F j 0)) s₀) e
-
--- ---- a vertex a turn
-
-module _ {c : GeomCtx} {k : ℕ} {f : ℕ → Vert} {n : ℕ} {s₀ : Streams} where
-  pub ones_none : RoomFor c (k + n) s₀ → Filling c k (λ j. f j ∷ []) 1 n s₀ 0 s₀
-  ones_none R = filling_none (λ t. refl) (room_less c (omega arith) R)
-
-  pub ones_more : {i a : ℕ} {s s' : Streams} (v : Vert) → Filling c k (λ j. f j ∷ []) 1 n s₀ i s → i < n → a ≡ k + i → v ≡ f i → s' ≡ pushed c a (v ∷ []) s
-      → Filling c k (λ j. f j ∷ []) 1 n s₀ (i + 1) s'
-  ones_more {i} {a} {s} {s'} v P b ea ev es =
-      let e : a ≡ k + i * 1 = omega arith in
-      filling_more (λ t. refl) P b e (es ∙ ap (λ (u : Vert). pushed c a (u ∷ []) s) ev)
-
-  pub ones_room : {i : ℕ} {s : Streams} → Filling c k (λ j. f j ∷ []) 1 n s₀ i s → i < n → RoomFor c (k + i + 1) s
-  ones_room P b = room_less c (omega arith) P.room
-
-  pub ones_all : {i : ℕ} {s : Streams} → Filling c k (λ j. f j ∷ []) 1 n s₀ i s → n ≤ i → s ≡ pushed c k (tab f n 0) s₀
-  ones_all P h = filling_all (λ t. refl) P h ∙ ap (λ (l : List Vert). pushed c k l s₀) (flat_ones f n 0)
 
 -- ---- one vertex
 

@@ -7,3 +7,4 @@ pub mod Cap
 pub mod Written
 pub mod Parted
 pub mod Edges
+pub mod Turns

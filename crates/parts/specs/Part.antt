@@ -1,11 +1,11 @@
 -- FORMAT 17.4, Builder: a part as it is built, and the mesh of it.
-use Rattle.std.specs.Prelude.{ℕ, ◌+◌, cond, List, [], ◌++◌, map, length}
+use Rattle.std.specs.Prelude.{ℕ, ◌+◌, cond, List, [], ◌++◌, map, length, option_map}
 use Rattle.std.specs.Float.{binary32}
 use Rattle.std.specs.Float.Ieee.{to_bits}
 use Rattle.bits.specs.declared.Words2.{Words2}
 use Rattle.bits.specs.declared.Words3.{Words3}
 use Rattle.block.specs.Settings.{finite_transform}
-use Rattle.block.specs.Texture.{uv_words}
+use Rattle.block.specs.Texture.{uv_by}
 use Rattle.mesh.specs.Words.{bits}
 use Rattle.mesh.specs.Mesh.{Mesh}
 use Rattle.parts.specs.declared.vert.GeomCtx.{GeomCtx}
@@ -27,11 +27,11 @@ followed p f = let q = f (length p.verts) p.pairs in record { verts = p.verts ++
 
 -- FORMAT 2.3, TexTransform::from_node: the pairs of the transform that are not finite replaced
 unfoldable pub finite_ctx : GeomCtx → GeomCtx
-finite_ctx c = record { need_uvs = c.need_uvs; has_transform = c.has_transform; transform = finite_transform c.transform }
+finite_ctx c = record { need_uvs = c.need_uvs; transform = option_map finite_transform c.transform }
 
 -- FORMAT 17.4, 7.3, Builder::vert (uv)
 unfoldable pub uv_of : GeomCtx → Vert → Words2
-uv_of c v = uv_words c.has_transform c.transform (record { s = to_bits binary32 v.st.s; t = to_bits binary32 v.st.t })
+uv_of c v = uv_by c.transform (record { s = to_bits binary32 v.st.s; t = to_bits binary32 v.st.t })
 
 -- FORMAT 17.4: the words of the positions, the normals and, where texture is wanted, the texture points
 unfoldable pub positions_of : List Vert → List Words3

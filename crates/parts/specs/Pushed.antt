@@ -13,6 +13,9 @@ pub record Streams : Type 0 where
   pub normals : List ℕ
   pub textures : List ℕ
 
+abbrev pub streams_of : List ℕ → List ℕ → List ℕ → Streams
+streams_of positions normals textures = record { positions = positions; normals = normals; textures = textures }
+
 -- the words of vertices, as they stand in a slice
 abbrev pub position_words : List Vert → List ℕ
 position_words vs = flat (map words3 (positions_of vs))

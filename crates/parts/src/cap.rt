@@ -1,17 +1,17 @@
 // FORMAT 17.4, cap: the flat end of a cylinder or a cone.
-ghost use Rattle.std.specs.Prelude.{◌≡◌, ◌+◌, ◌*◌, ◌≤◌, ◌<◌, ◌^◌, length};
+ghost use Rattle.std.specs.Prelude.{◌≡◌, [], ◌∷◌, ◌+◌, ◌*◌, ◌≤◌, ◌<◌, ◌^◌, length};
 ghost use Rattle.lists.specs.Lists.{flat};
 ghost use Rattle.lists.specs.Loops.{tab};
 ghost use Rattle.lists.specs.Parts.{spliced};
-ghost use Rattle.parts.specs.Pushed.{RoomFor, pushed};
+ghost use Rattle.parts.specs.Pushed.{RoomFor, pushed, streams_of};
 ghost use Rattle.parts.specs.Cap.{cap_normal, cap_texture, cap_centre, cap_vert, cap_tri, cap_verts, cap_indices, cap_sizes, cap_at, Numbered, Capped};
 ghost use Rattle.parts.specs.Written.{Written, Roomy};
 
 use crate::ring::ring_at;
 use crate::sizes::PartSizes;
+use crate::turns::{put_verts, put_words};
 use crate::vert::{GeomCtx, Vert, index_of, put_vert};
 use block::Pair;
-use lists::put_three;
 use math::V3;
 
 // Height, radius and slices, top or bottom; the numbers of its first vertex and of its first pair.
@@ -95,57 +95,19 @@ fn cap_vert(pairs: &[f32], k: Cap, i: usize) -> Vert
     }
 }
 
-// The vertices of its ring, behind the centre.
-fn put_cap_ring(
-    c: GeomCtx,
-    pairs: &[f32],
-    k: Cap,
-    positions: &mut [u32],
-    normals: &mut [u32],
-    textures: &mut [u32],
-)
-    requires { (k.pair < 2 ^ 24) × (k.first < 2 ^ 24) × (k.slices ≤ 1024) × RoomFor c (k.first + 1 + k.slices) (record { positions = positions.old; normals = normals.old; textures = textures.old }) }
-    ensures { record { positions = positions.new; normals = normals.new; textures = textures.new }
-        ≡ pushed c (k.first + 1) (tab (cap_vert pairs.now k) k.slices 0) (record { positions = positions.old; normals = normals.old; textures = textures.old }) }
-{
-    let mut i = 0;
-    while i < k.slices {
-        put_vert(
-            c,
-            k.first + 1 + i,
-            cap_vert(pairs, k, i),
-            positions,
-            normals,
-            textures,
-        );
-        i += 1;
-    }
-}
-
-fn put_cap_tri(indices: &mut [u32], at: usize, k: Cap, i: usize)
-    requires { (i < k.slices) × (k.first < 2 ^ 24) × (k.slices ≤ 1024) × (at + 3 * k.slices ≤ length indices.old) }
-    ensures { indices.new ≡ spliced indices.old (at + i * 3) (cap_tri k i) }
+// The triangle of slice i.
+fn cap_tri(k: Cap, i: usize) -> [u32; 3]
+    requires { (i < k.slices) × (k.first < 2 ^ 24) × (k.slices ≤ 1024) }
+    ensures { result ≡ cap_tri k i }
 {
     let slices = k.slices;
     let centre = index_of(k.first);
     let a = index_of(k.first + 1 + i);
     let b = index_of(k.first + 1 + (i + 1) % slices);
     if k.top {
-        put_three(indices, at + i * 3, centre, a, b);
-        return;
+        return [centre, a, b];
     }
-    put_three(indices, at + i * 3, centre, b, a);
-}
-
-fn put_cap_tris(indices: &mut [u32], at: usize, k: Cap)
-    requires { (k.first < 2 ^ 24) × (k.slices ≤ 1024) × (at + 3 * k.slices ≤ length indices.old) }
-    ensures { indices.new ≡ spliced indices.old at (cap_indices k) }
-{
-    let mut i = 0;
-    while i < k.slices {
-        put_cap_tri(indices, at, k, i);
-        i += 1;
-    }
+    [centre, b, a]
 }
 
 // The centre, the ring, and a triangle for each slice, from place `at` of the indices on.
@@ -159,14 +121,33 @@ pub fn put_cap(
     textures: &mut [u32],
     indices: &mut [u32],
 )
-    requires { Capped c k at (record { positions = positions.old; normals = normals.old; textures = textures.old }) (length indices.old) }
-    ensures { (record { positions = positions.new; normals = normals.new; textures = textures.new }
-        ≡ pushed c k.first (cap_verts pairs.now k) (record { positions = positions.old; normals = normals.old; textures = textures.old }))
+    requires { Capped c k at (streams_of positions.old normals.old textures.old) (length indices.old) }
+    ensures { (streams_of positions.new normals.new textures.new
+        ≡ pushed c k.first (cap_verts pairs.now k) (streams_of positions.old normals.old textures.old))
         × (indices.new ≡ spliced indices.old at (cap_indices k)) }
 {
     put_vert(c, k.first, cap_centre(k), positions, normals, textures);
-    put_cap_ring(c, pairs, k, positions, normals, textures);
-    put_cap_tris(indices, at, k);
+    put_verts(
+        c,
+        k.first + 1,
+        k.slices,
+        |i|
+            requires { (k.pair < 2 ^ 24) × (i < 2 ^ 16) }
+            ensures { result ≡ cap_vert pairs.exit.now k i ∷ [] }
+        { [cap_vert(pairs, k, i)] },
+        positions,
+        normals,
+        textures,
+    );
+    put_words(
+        indices,
+        at,
+        k.slices,
+        |i|
+            requires { (i < k.slices) × (k.first < 2 ^ 24) × (k.slices ≤ 1024) }
+            ensures { result ≡ cap_tri k i }
+        { cap_tri(k, i) },
+    );
 }
 
 // The sizes of a cap of n slices.
@@ -193,10 +174,10 @@ pub fn put_cap_at(
     textures: &mut [u32],
     indices: &mut [u32],
 )
-    requires { Numbered k × Roomy c (cap_at pairs.now there k.y k.r k.slices k.top k.first k.pair) k.first at (record { positions = positions.old; normals = normals.old; textures = textures.old }) indices.old }
+    requires { Numbered k × Roomy c (cap_at pairs.now there k.y k.r k.slices k.top k.first k.pair) k.first at (streams_of positions.old normals.old textures.old) indices.old }
     ensures { Written c (cap_at pairs.now there k.y k.r k.slices k.top k.first k.pair) k.first at
-        (record { positions = positions.old; normals = normals.old; textures = textures.old })
-        (record { positions = positions.new; normals = normals.new; textures = textures.new })
+        (streams_of positions.old normals.old textures.old)
+        (streams_of positions.new normals.new textures.new)
         indices.old indices.new }
 {
     if there {

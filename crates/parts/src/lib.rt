@@ -4,6 +4,7 @@
 mod cap;
 mod ring;
 mod sizes;
+mod turns;
 mod vert;
 
 pub use cap::{Cap, cap_sizes, put_cap_at};
@@ -11,4 +12,5 @@ pub use ring::{Ring, cosine_at, float_at, ring_at, share, sine_at};
 pub use sizes::{
     PartLengths, PartSizes, dim, held, part_refusal, part_report, sizes_where, sum_sizes,
 };
+pub use turns::{put_verts, put_words};
 pub use vert::{GeomCtx, Vert, finite_ctx, index_of, put_vert};

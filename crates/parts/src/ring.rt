@@ -17,7 +17,7 @@ pub fn float_at(floats: &[f32], k: usize) -> f32
     if k < floats.len() {
         return floats[k];
     }
-    0.0 / 0.0
+    f32::NAN
 }
 
 // The sine of pair k.

@@ -3,19 +3,18 @@ ghost use Rattle.std.specs.Prelude.{◌≡◌, ◌+◌, ◌≤◌, ◌<◌, ◌^
 ghost use Rattle.mesh.specs.Words.{words2, words3, bits};
 ghost use Rattle.lists.specs.Parts.{spliced};
 ghost use Rattle.parts.specs.Part.{finite_ctx, uv_of};
-ghost use Rattle.parts.specs.Pushed.{RoomFor, pushed};
+ghost use Rattle.parts.specs.Pushed.{RoomFor, pushed, streams_of};
 
 use bits::Words2;
 use block::{Pair, TexTransform};
-use lists::{put_three, put_two};
+use lists::put_all;
 use math::V3;
 
-// GeomCtx: whether texture is wanted, whether there is a transform, and which.
+// GeomCtx: whether texture is wanted, and the transform, if there is one.
 #[derive(Clone, Copy)]
 pub struct GeomCtx {
     pub need_uvs: bool,
-    pub has_transform: bool,
-    pub transform: TexTransform,
+    pub transform: Option<TexTransform>,
 }
 
 // A position, a normal, and a texture point before FORMAT 7.3.
@@ -30,11 +29,9 @@ pub struct Vert {
 pub fn finite_ctx(c: GeomCtx) -> GeomCtx
     ensures { result ≡ finite_ctx c }
 {
-    let transform = block::finite_transform(c.transform);
     GeomCtx {
         need_uvs: c.need_uvs,
-        has_transform: c.has_transform,
-        transform,
+        transform: c.transform.map(block::finite_transform),
     }
 }
 
@@ -50,13 +47,7 @@ fn put_vector(words: &mut [u32], a: usize, v: V3)
     requires { a + 3 ≤ length words.old }
     ensures { words.new ≡ spliced words.old a (words3 (bits v)) }
 {
-    put_three(
-        words,
-        a,
-        math::bits_of(v.x),
-        math::bits_of(v.y),
-        math::bits_of(v.z),
-    );
+    put_all(words, a, &[math::bits_of(v.x), math::bits_of(v.y), math::bits_of(v.z)]);
 }
 
 fn uv_of(c: GeomCtx, v: Vert) -> Words2
@@ -67,7 +58,7 @@ fn uv_of(c: GeomCtx, v: Vert) -> Words2
         s: math::bits_of(st.s),
         t: math::bits_of(st.t),
     };
-    block::uv(c.has_transform, c.transform, w)
+    block::uv(c.transform, w)
 }
 
 // Vertex k.
@@ -79,14 +70,14 @@ pub fn put_vert(
     normals: &mut [u32],
     textures: &mut [u32],
 )
-    requires { RoomFor c (k + 1) (record { positions = positions.old; normals = normals.old; textures = textures.old }) }
-    ensures { record { positions = positions.new; normals = normals.new; textures = textures.new }
-        ≡ pushed c k (v ∷ []) (record { positions = positions.old; normals = normals.old; textures = textures.old }) }
+    requires { RoomFor c (k + 1) (streams_of positions.old normals.old textures.old) }
+    ensures { streams_of positions.new normals.new textures.new
+        ≡ pushed c k (v ∷ []) (streams_of positions.old normals.old textures.old) }
 {
     put_vector(positions, 3 * k, v.position);
     put_vector(normals, 3 * k, v.normal);
     if c.need_uvs {
         let w = uv_of(c, v);
-        put_two(textures, 2 * k, w.s, w.t);
+        put_all(textures, 2 * k, &[w.s, w.t]);
     }
 }

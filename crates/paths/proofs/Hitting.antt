@@ -1,17 +1,18 @@
 -- Hits counted, and answers that are all there: what a triangle does not change. Assumes nothing.
 use mathlib.Core.Path.{◌≡◌, refl, sym, ap, ◌∙◌}
 use mathlib.Core.Bool.{Bool, true, false, ◌&&◌, ◌||◌, cond}
-use mathlib.Core.List.{List}
+use mathlib.Core.List.{List, [], ◌∷◌}
 use mathlib.Core.Logic.{⊎_elim}
 use Prim.Native.Nat.{ℕ, zero, suc, ◌+◌, ◌-◌, ◌≤◌, ◌<◌}
-use native.Mathlib.Nat.{eq-or-lt_of_le, sub-zero}
+use native.Mathlib.Nat.{eq-or-lt_of_le, sub-zero, add-zero, add-suc, suc-add, not-suc-le-zero}
 use native.Mathlib.Omega.{arith}
-use lib.Dec.{eqb}
+use lib.Dec.{eqb, ltb}
 use lib.Ieee.{Float}
-use lib.ListN.{get_or}
+use lib.ListN.{length, get_or, take}
+use Rattle.std.specs.List.{list_any}
 use borrow.Author.Tests.{eq-eqb, ne_eqb, lt-ltb, le-ltb, ltb-false}
-use Rattle.lists.specs.Loops.{run, first}
-use Rattle.lists.proofs.Loops.{run_go, run_end, first_go, first_stop, first_end}
+use Rattle.lists.specs.Loops.{pick, run, first}
+use Rattle.lists.proofs.Loops.{run_go, run_end}
 use Rattle.lists.proofs.Searches.{first_has}
 use Rattle.lists.proofs.Tests.{never, and_no, or_none}
 use Rattle.paths.specs.declared.intersect.Triangle.{Triangle}
@@ -84,29 +85,26 @@ none_hit rays tri number m l e = sym (updated_kept (step_at rays tri number) m l
 
 -- ---- no path is left clear
 
--- of the first m answers the first j are there
-pub record Looking (l : List ℕ) (m j : ℕ) : Type 0 where
-  pub so_far : j ≤ m
-  pub rest : first (λ (i : ℕ). eqb (get_or l i 0) 0) (m - j) j ≡ first (λ (i : ℕ). eqb (get_or l i 0) 0) m 0
+-- the library's search in the first k elements finds what a search by number finds
+found_first : (p g : ℕ → Bool) (l : List ℕ) (k i : ℕ) → k ≤ length l → ((t : ℕ) → t < k → g (i + t) ≡ p (get_or l t 0)) → list_any p (take k l) ≡ ltb (first g k i) (i + k)
+unfolding first
+found_first p g l zero i h e = sym (le-ltb i (i + 0) (omega arith))
+found_first p g [] (suc k) i h e = absurd (not-suc-le-zero h)
+found_first p g (x ∷ xs) (suc k) i h e =
+    let a : g i ≡ p x = rw add-zero at (e 0 (omega arith)) in
+    let b : list_any p (take k xs) ≡ ltb (first g k (suc i)) (suc i + k) =
+    found_first p g xs k (suc i) (omega arith) (λ t w. rw (add-suc i t ∙ sym (suc-add i t)) at (e (suc t) (omega arith))) in
+    rw (← a) (go (g i) b)
+  where
+    go : (q : Bool) → list_any p (take k xs) ≡ ltb (first g k (suc i)) (suc i + k) → q || list_any p (take k xs) ≡ ltb (pick q i (first g k (suc i))) (i + suc k)
+    go true b = sym (lt-ltb i (i + suc k) (omega arith))
+    go false b = let c : suc i + k ≡ i + suc k = omega arith in b ∙ ap (ltb (first g k (suc i))) c
 
-module _ {l : List ℕ} {m : ℕ} where
-  pub looking_none : Looking l m 0
-  looking_none = record { so_far = omega arith; rest = ap (λ (k : ℕ). first (λ (i : ℕ). eqb (get_or l i 0) 0) k 0) (sub-zero m) }
-
-  pub looking_more : {j : ℕ} → Looking l m j → j < m → eqb (get_or l j 0) 0 ≡ false → Looking l m (j + 1)
-  looking_more {j} L b e = record { so_far = omega arith; rest = sym (first_go (λ (i : ℕ). eqb (get_or l i 0) 0) m j b e) ∙ L.rest }
-
-  pub looking_found : {j : ℕ} → Looking l m j → j < m → eqb (get_or l j 0) 0 ≡ true → true ≡ any_clear l m
-  unfolding any_clear
-  looking_found {j} L b e =
-      let q : first (λ (i : ℕ). eqb (get_or l i 0) 0) m 0 ≡ j = sym L.rest ∙ first_stop (λ (i : ℕ). eqb (get_or l i 0) 0) m j b e in
-      sym (lt-ltb (first (λ (i : ℕ). eqb (get_or l i 0) 0) m 0) m (omega arith))
-
-  pub looking_all : {j : ℕ} → Looking l m j → m ≤ j → false ≡ any_clear l m
-  unfolding any_clear
-  looking_all {j} L b =
-      let q : first (λ (i : ℕ). eqb (get_or l i 0) 0) m 0 ≡ j = sym L.rest ∙ first_end (λ (i : ℕ). eqb (get_or l i 0) 0) m j b in
-      sym (le-ltb (first (λ (i : ℕ). eqb (get_or l i 0) 0) m 0) m (omega arith))
+pub any_clear_is : (l : List ℕ) (m : ℕ) → m ≤ length l → list_any (λ (a : ℕ). eqb a 0) (take m l) ≡ any_clear l m
+unfolding any_clear
+any_clear_is l m h =
+    let z : 0 + m ≡ m = omega arith in
+    found_first (λ (a : ℕ). eqb a 0) (λ (j : ℕ). eqb (get_or l j 0) 0) l m 0 h (λ t w. let y : 0 + t ≡ t = omega arith in rw y refl) ∙ ap (ltb (first (λ (j : ℕ). eqb (get_or l j 0) 0) m 0)) z
 
 all_there : (l : List ℕ) (m : ℕ) → any_clear l m ≡ false → (j : ℕ) → j < m → eqb (get_or l j 0) 0 ≡ false
 unfolding any_clear

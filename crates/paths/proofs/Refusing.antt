@@ -1,14 +1,13 @@
 -- What is known of a call that is not refused, and that each ground refuses. Assumes nothing.
-use mathlib.Core.Path.{◌≡◌, refl, sym, ap, ◌∙◌}
-use mathlib.Core.Bool.{Bool, true, false}
-use mathlib.Core.List.{List}
-use Prim.Native.Nat.{ℕ, ◌+◌, ◌/◌, ◌%◌, ◌≤◌, ◌<◌}
-use native.Mathlib.Omega.{arith}
+use mathlib.Core.Path.{◌≡◌, refl}
+use mathlib.Core.Bool.{Bool, true, false, ◌||◌}
+use mathlib.Core.List.{List, [], ◌∷◌}
+use Rattle.std.specs.List.{list_any}
+use Prim.Native.Nat.{ℕ, ◌/◌, ◌%◌, ◌≤◌, ◌<◌}
 use lib.Dec.{leb}
-use lib.ListN.{length, get_or, drop, drop_of_length-le}
+use lib.ListN.{length, get_or}
 use borrow.Author.Tests.{eq-eqb, eqb-true, le-ltb, ltb-false, leb-false, not-false}
 use Rattle.lists.specs.Loops.{pick, any}
-use Rattle.lists.proofs.Lists.{drop_next}
 use Rattle.lists.proofs.Searches.{any_at}
 use Rattle.lists.proofs.Tests.{or_none}
 use Rattle.paths.specs.Paths.{paths_in, is_refused}
@@ -49,28 +48,12 @@ module _ (positions indices paths : List ℕ) (room : ℕ) where
 pub inside_at : (n : ℕ) (l : List ℕ) (k : ℕ) → any (leb n) l ≡ false → k < length l → get_or l k 0 < n
 inside_at n l k e h = leb-false n (get_or l k 0) (any_at (leb n) l k e h)
 
--- ---- a search in a list
+-- the library's search for an element
+or_pick : (b : Bool) {x y : Bool} → x ≡ y → b || x ≡ pick b true y
+or_pick true e = refl
+or_pick false e = e
 
--- the first k elements of l do not pass the test
-pub record Searching (test : ℕ → Bool) (l : List ℕ) (k : ℕ) : Type 0 where
-  pub within : k ≤ length l
-  pub rest : any test (drop k l) ≡ any test l
-
-any_next : (test : ℕ → Bool) (l : List ℕ) (k : ℕ) (b : Bool) → k < length l → test (get_or l k 0) ≡ b → any test (drop k l) ≡ pick b true (any test (drop (k + 1) l))
+pub any_is : (test : ℕ → Bool) (l : List ℕ) → list_any test l ≡ any test l
 unfolding any
-any_next test l k b h e =
-    ap (λ (r : List ℕ). any test r) (drop_next 0 l k h) ∙ ap (λ (x : Bool). pick x true (any test (drop (k + 1) l))) e
-
-module _ {test : ℕ → Bool} {l : List ℕ} where
-  pub searching_none : Searching test l 0
-  searching_none = record { within = omega arith; rest = refl }
-
-  pub searching_more : {k : ℕ} → Searching test l k → k < length l → test (get_or l k 0) ≡ false → Searching test l (k + 1)
-  searching_more {k} S h e = record { within = omega arith; rest = sym (any_next test l k false h e) ∙ S.rest }
-
-  pub searching_found : {k : ℕ} → Searching test l k → k < length l → test (get_or l k 0) ≡ true → true ≡ any test l
-  searching_found {k} S h e = sym (any_next test l k true h e) ∙ S.rest
-
-  pub searching_all : {k : ℕ} → Searching test l k → length l ≤ k → false ≡ any test l
-  unfolding any
-  searching_all {k} S h = ap (λ (r : List ℕ). any test r) (sym (drop_of_length-le l h)) ∙ S.rest
+any_is test [] = refl
+any_is test (x ∷ xs) = or_pick (test x) (any_is test xs)

@@ -1,4 +1,5 @@
 // FORMAT 19.3: what a call answers.
+ghost use Rattle.std.specs.Prelude.{◌≡◌};
 ghost use Rattle.paths.specs.Paths.{refusal_number};
 
 // The one refusal of this call.

@@ -34,10 +34,8 @@ fn mark(rays: &[f32], m: usize, tri: Triangle, number: u64, answers: &mut [u64])
     ensures { answers.new
         ≡ updated (step_at rays.now tri number) m answers.old }
 {
-    let mut j: usize = 0;
-    while j < m {
+    for j in 0..m {
         answers[j] = verdict(rays, j, tri, number, answers[j]);
-        j += 1;
     }
 }
 
@@ -57,10 +55,8 @@ fn count_hits(rays: &[f32], m: usize, tri: Triangle) -> u32
     ensures { result ≡ hit_count rays.now tri m }
 {
     let mut count: u32 = 0;
-    let mut j: usize = 0;
-    while j < m {
+    for j in 0..m {
         count += one_where(hits(ray_at(rays, j), tri));
-        j += 1;
     }
     count
 }
@@ -70,14 +66,7 @@ fn any_clear(answers: &[u64], m: usize) -> bool
     requires { m ≤ length answers.now }
     ensures { result ≡ any_clear answers.now m }
 {
-    let mut j: usize = 0;
-    while j < m {
-        if answers[j] == 0 {
-            return true;
-        }
-        j += 1;
-    }
-    false
+    answers[..m].iter().any(|answer| *answer == 0)
 }
 
 // One triangle for the first m paths. Few triangles hit any, and only then are answers looked at.
@@ -105,11 +94,9 @@ pub fn pass(positions: &[u32], indices: &[u32], rays: &[f32], m: usize, answers:
         (length indices.now / 3) 0 answers.old }
 {
     let n = indices.len() / 3;
-    let mut t: usize = 0;
-    while t < n {
+    for t in 0..n {
         let tri = triangle_at(positions, indices, t);
-        t += 1;
-        if turn(rays, m, tri, t as u64, answers) {} else {
+        if !turn(rays, m, tri, t as u64 + 1, answers) {
             return;
         }
     }
@@ -120,9 +107,5 @@ pub fn clear(answers: &mut [u64], m: usize)
     requires { m ≤ length answers.old }
     ensures { answers.new ≡ updated (λ (j r : ℕ). 0) m answers.old }
 {
-    let mut j: usize = 0;
-    while j < m {
-        answers[j] = 0;
-        j += 1;
-    }
+    answers[..m].fill(0);
 }

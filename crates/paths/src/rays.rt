@@ -44,12 +44,10 @@ pub fn load(paths: &[u32], rays: &mut [f32])
         (length paths.now / 6) }
 {
     let m = paths.len() / 6;
-    let mut j: usize = 0;
-    while j < m {
+    for j in 0..m {
         let from = point_at(paths, 2 * j);
         let to = point_at(paths, 2 * j + 1);
         put_spot(rays, j, from);
         put_spot(rays, j + 192, sub(to, from));
-        j += 1;
     }
 }

@@ -7,15 +7,7 @@ ghost use Rattle.paths.specs.Paths.{is_refused};
 fn any_beyond(n: usize, indices: &[u32]) -> bool
     ensures { result ≡ any (leb n) indices.now }
 {
-    let mut k: usize = 0;
-    while k < indices.len() {
-        let i = indices[k] as usize;
-        if n <= i {
-            return true;
-        }
-        k += 1;
-    }
-    false
+    indices.iter().any(|i| n <= *i as usize)
 }
 
 // With `room` answers lent.

@@ -7,7 +7,7 @@ ghost use Rattle.block.specs.Value.{opaque_of};
 ghost use Rattle.mesh.specs.Words.{words4, point_words};
 ghost use Rattle.pointset.specs.PointSet.{colours_in, colour_at};
 
-use lists::put_four;
+use parts::put_words;
 
 const ONE: u32 = 0x3f80_0000;
 
@@ -16,11 +16,7 @@ pub fn copy_words(from: &[u32], to: &mut [u32], n: usize)
     requires { (n ≤ length from.now) × (n ≤ length to.old) }
     ensures { to.new ≡ spliced to.old 0 (take n from.now) }
 {
-    let mut i = 0;
-    while i < n {
-        to[i] = from[i];
-        i += 1;
-    }
+    to[..n].copy_from_slice(&from[..n]);
 }
 
 // Source k is k.
@@ -28,20 +24,18 @@ pub fn put_sources(sources: &mut [u32], n: usize)
     requires { (n < 2 ^ 32) × (n ≤ length sources.old) }
     ensures { sources.new ≡ spliced sources.old 0 (tab (λ k. k) n 0) }
 {
-    let mut k = 0;
-    while k < n {
+    for k in 0..n {
         sources[k] = k as u32;
-        k += 1;
     }
 }
 
 // Colour k, of three words, with alpha 1.
-fn put_opaque(listed: &[u32], colours: &mut [u32], k: usize)
-    requires { (k < 2 ^ 32) × (k * 3 + 3 ≤ length listed.now) × (k * 4 + 4 ≤ length colours.old) }
-    ensures { colours.new ≡ spliced colours.old (k * 4) (words4 (opaque_of (point_words listed.now k))) }
+fn opaque(listed: &[u32], k: usize) -> [u32; 4]
+    requires { (k < 2 ^ 32) × (k * 3 + 3 ≤ length listed.now) }
+    ensures { result ≡ words4 (opaque_of (point_words listed.now k)) }
 {
     let i = k * 3;
-    put_four(colours, k * 4, listed[i], listed[i + 1], listed[i + 2], ONE);
+    [listed[i], listed[i + 1], listed[i + 2], ONE]
 }
 
 // The first n colours of three words.
@@ -49,11 +43,15 @@ fn put_opaques(listed: &[u32], colours: &mut [u32], n: usize)
     requires { (n < 2 ^ 32) × (n * 3 ≤ length listed.now) × (n * 4 ≤ length colours.old) }
     ensures { colours.new ≡ spliced colours.old 0 (flat (tab (λ k. words4 (opaque_of (point_words listed.now k))) n 0)) }
 {
-    let mut k = 0;
-    while k < n {
-        put_opaque(listed, colours, k);
-        k += 1;
-    }
+    put_words(
+        colours,
+        0,
+        n,
+        |k|
+            requires { (k < 2 ^ 32) × (k * 3 + 3 ≤ length listed.now) }
+            ensures { result ≡ words4 (opaque_of (point_words listed.exit.now k)) }
+        { opaque(listed, k) },
+    );
 }
 
 // The first n colours, where they are made.

@@ -94,22 +94,19 @@ module _ {A : Type 0} (a : Run → ℕ → A) (points : ℕ) where
     unfolding kept_over flat
     kept_cons r rs = refl
 
-    pub kept_step : (bs : List ℕ) (s : ℕ) (r : List ℕ) (n : ℕ) → n ≡ next_start s r → s < length bs / 4 → StretchPart g bs s r
-        → kept_over a points g (stretches_left g (entries bs) s) ≡ kept_by (a (run_of s (entries r))) points g (entries r) ++ kept_over a points g (stretches_left g (entries bs) n)
-    kept_step bs s r n q h P = ap (kept_over a points g) (stretches_step bs s r n q h g P) ∙ kept_cons (run_of s (entries r)) (stretches_left g (entries bs) n)
+    -- one stretch more
+    module _ {rs rs' : List Run} {r : Run} (first : rs ≡ r ∷ rs') where
+      pub kept_first : kept_over a points g rs ≡ kept_by (a r) points g r.items ++ kept_over a points g rs'
+      kept_first = ap (kept_over a points g) first ∙ kept_cons r rs'
 
-    pub kept_over_lem : (bs : List ℕ) (s : ℕ) → length bs / 4 ≤ s → kept_over a points g (stretches_left g (entries bs) s) ≡ []
+      -- as it is counted: c of it before them
+      pub count_first : (c : ℕ) {m all : ℕ} → c + length (kept_over a points g rs) ≡ all → m ≡ length (kept_by (a r) points g r.items) → c + m + length (kept_over a points g rs') ≡ all
+      count_first c e k = omega (arith, e, k, ap length kept_first, length-append (kept_by (a r) points g r.items) (kept_over a points g rs'))
+
+    -- and none
+    pub kept_end : {rs : List Run} → rs ≡ [] → kept_over a points g rs ≡ []
     unfolding kept_over flat
-    kept_over_lem bs s h = ap (kept_over a points g) (stretches_over g bs s h)
+    kept_end e = ap (kept_over a points g) e
 
-    -- as it is counted: c of it before entry s
-    module _ (bs : List ℕ) (s c : ℕ) {all : ℕ} (e : c + length (kept_over a points g (stretches_left g (entries bs) s)) ≡ all) where
-      pub count_step : (r : List ℕ) {m n : ℕ} → n ≡ next_start s r → s < length bs / 4 → StretchPart g bs s r → m ≡ length (kept_by (a (run_of s (entries r))) points g (entries r))
-          → c + m + length (kept_over a points g (stretches_left g (entries bs) n)) ≡ all
-      count_step r {m} {n} q h P k =
-          let d = ap length (kept_step bs s r n q h P) in
-          let l = length-append (kept_by (a (run_of s (entries r))) points g (entries r)) (kept_over a points g (stretches_left g (entries bs) n)) in
-          omega (arith, e, d, l, k)
-
-      pub count_over : length bs / 4 ≤ s → c ≡ all
-      count_over h = omega (arith, e, ap length (kept_over_lem bs s h))
+    pub count_end : {rs : List Run} (c : ℕ) {all : ℕ} → rs ≡ [] → c + length (kept_over a points g rs) ≡ all → c ≡ all
+    count_end c n e = omega (arith, e, ap length (kept_end n))

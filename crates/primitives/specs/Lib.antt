@@ -2,3 +2,4 @@
 pub mod Primitives
 pub mod Kept
 pub mod Stretches
+pub mod Walk

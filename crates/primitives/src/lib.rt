@@ -6,5 +6,5 @@ mod stretches;
 mod totals;
 
 pub use places::{count_in, is_present, place_of, width_of};
-pub use stretches::stretch_at;
+pub use stretches::{Stretches, stretch_at, stretches_in};
 pub use totals::primitive_totals;

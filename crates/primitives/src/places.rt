@@ -83,12 +83,10 @@ pub fn is_present(part: &[u8], points: u32, g: Topology, k: usize) -> bool
     ensures { result ≡ all_below points (primitive_of g (entries part.now) k) }
 {
     let n = width_of(g);
-    let mut i = 0;
-    while i < n {
+    for i in 0..n {
         if points as usize <= point_at(part, place_of(g, k, i)).0 {
             return false;
         }
-        i += 1;
     }
     true
 }

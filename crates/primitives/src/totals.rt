@@ -6,8 +6,8 @@ ghost use Rattle.primitives.specs.Primitives.{primitive_of, face_list};
 ghost use Rattle.primitives.specs.Kept.{kept_by, kept_primitives};
 
 use crate::places::{count_in, is_present, width_of};
-use crate::stretches::stretch_at;
-use block::{Topology, Totals, next_start};
+use crate::stretches::stretches_in;
+use block::{Topology, Totals};
 
 // How many primitives of a stretch are kept.
 fn kept_in(part: &[u8], points: u32, g: Topology) -> usize
@@ -15,12 +15,10 @@ fn kept_in(part: &[u8], points: u32, g: Topology) -> usize
 {
     let n = count_in(g, part.len() / 4);
     let mut kept: usize = 0;
-    let mut k = 0;
-    while k < n {
+    for k in 0..n {
         if is_present(part, points, g, k) {
             kept += 1;
         }
-        k += 1;
     }
     kept
 }
@@ -29,13 +27,9 @@ fn kept_in(part: &[u8], points: u32, g: Topology) -> usize
 fn kept_count(list: &[u8], points: u32, g: Topology) -> usize
     ensures { (result ≡ length (kept_primitives points g (entries list.now))) × (result ≤ length list.now / 4 + 1) }
 {
-    let n = list.len() / 4;
-    let mut start: usize = 0;
     let mut kept: usize = 0;
-    while start < n {
-        let part = stretch_at(list, g, start);
+    for (_, part) in stretches_in(list, g) {
         kept += kept_in(part, points, g);
-        start = next_start(start, part);
     }
     kept
 }

@@ -15,19 +15,20 @@ use Rattle.primitives.specs.Kept.{width_of, kept_over, kept_primitives}
 use Rattle.primitives.proofs.Closed.{map_over, all_over, places_long, primitive_long, width_three, all_below_lem}
 use Rattle.tables.specs.Listed.{Use, no_use, no_listing, Listing}
 use Rattle.faceset.specs.Listings.{use_of}
-use Rattle.faceset.specs.Adding.{points_used, places_used}
+use Rattle.faceset.specs.Adding.{points_used}
 use Rattle.primitiveset.specs.Listings.{uses_of, primitive_uses, listing_of, primitive_listings}
 
 -- ---- the corners of a primitive
 
 module _ (g : Topology) (r : Run) (k : ℕ) where
+  -- corner i
+  pub used_at : (i : ℕ) → i < width_of g → get_or (uses_of g r k) i no_use ≡ use_of (r.start + get_or (places_of g k) i 0) (get_or r.items (get_or (places_of g k) i 0) 0)
+  unfolding uses_of
+  used_at i h = get_or_map_lt (λ (i : ℕ). use_of (r.start + i) (get_or r.items i 0)) (places_of g k) i no_use 0 (omega (arith, places_long g k))
+
   pub uses_points : primitive_of g r.items k ≡ points_used (uses_of g r k)
   unfolding uses_of primitive_of
   uses_points = sym (map-map (λ (u : Use). u.point) (λ (i : ℕ). use_of (r.start + i) (get_or r.items i 0)) (places_of g k))
-
-  pub uses_places : map (λ (i : ℕ). r.start + i) (places_of g k) ≡ places_used (uses_of g r k)
-  unfolding uses_of
-  uses_places = sym (map-map (λ (u : Use). u.place) (λ (i : ℕ). use_of (r.start + i) (get_or r.items i 0)) (places_of g k))
 
   pub uses_long : length (uses_of g r k) ≡ width_of g
   unfolding uses_of

@@ -1,16 +1,16 @@
 -- FORMAT 6.4: a pass over the stretches of coordIndex, and over the primitives of each, that lists the kept ones.
-use Rattle.std.specs.Prelude.{◌≡◌, true, cond, List, ℕ, ◌+◌, ◌*◌, ◌/◌, ◌≤◌, ◌<◌, length, drop}
+use Rattle.std.specs.Prelude.{◌≡◌, true, List, ℕ, ◌+◌, ◌*◌, ◌/◌, ◌≤◌, ◌<◌, length, drop}
 use Rattle.bits.specs.Bits.{entries}
 use Rattle.block.specs.declared.topology.Topology.{Topology}
-use Rattle.block.specs.Runs.{run_of, all_below}
+use Rattle.block.specs.Runs.{all_below}
 use Rattle.primitives.specs.Primitives.{primitive_count, primitive_of}
 use Rattle.primitives.specs.Kept.{width_of, kept_over, kept_primitives}
 use Rattle.primitives.specs.Stretches.{stretches_left}
 use Rattle.tables.specs.declared.layout.Plan.{Plan}
 use Rattle.tables.specs.Layout.{most, Room}
 use Rattle.tables.specs.Listed.{Use, Beside, Listed}
-use Rattle.faceset.specs.Adding.{face_added, ListedTo}
-use Rattle.primitiveset.specs.declared.listing.Progress.{Progress}
+use Rattle.faceset.specs.Adding.{ListedTo}
+use Rattle.faceset.specs.declared.listing.Progress.{Progress}
 use Rattle.primitiveset.specs.Listings.{uses_of, primitive_uses, primitive_listings}
 
 -- the plan is that of the kept primitives of coordIndex, whose bytes are bs, in len words (FORMAT 3: no list has more than 8,192 entries)
@@ -21,23 +21,14 @@ pub record Planned (points : ℕ) (g : Topology) (bs : List ℕ) (len : ℕ) (t 
   pub count : t.count ≡ width_of g * length (kept_primitives points g (entries bs))
   pub few : length bs / 4 ≤ most
 
--- primitive k of a stretch with the entries es can be put as the next face, if it is kept
-pub record Fits (points : ℕ) (g : Topology) (len : ℕ) (t : Plan) (es : List ℕ) (k : ℕ) (p : Progress) : Type 0 where
+-- primitive k of a stretch at entry s with the entries es can be put as the next face, if it is kept
+pub record Fits (points : ℕ) (g : Topology) (len : ℕ) (t : Plan) (s : ℕ) (es : List ℕ) (k : ℕ) (p : Progress) : Type 0 where
   pub room : Room len t
   pub spots : t.spots ≡ points
   pub there : k < primitive_count g (length es)
-  pub places : p.start + length es ≤ most
+  pub places : s + length es ≤ most
   pub face : all_below points (primitive_of g es k) ≡ true → p.faces < t.faces
   pub corners : all_below points (primitive_of g es k) ≡ true → p.corner.0 + width_of g ≤ t.count
-
--- one face more, where the primitive is kept: the words, and how far the pass has come
-unfoldable pub words_after : ℕ → Topology → Plan → List ℕ → ℕ → Progress → List ℕ → List ℕ
-words_after points g t es k p w =
-    cond (all_below points (primitive_of g es k)) (face_added t p.faces p.corner.0 p.faces (uses_of g (run_of p.start es) k) w) w
-
-unfoldable pub progress_after : ℕ → Topology → List ℕ → ℕ → Progress → Progress
-progress_after points g es k p =
-    cond (all_below points (primitive_of g es k)) (record { start = p.start; faces = p.faces + 1; corner = record { 0 = p.corner.0 + width_of g } }) p
 
 -- the faces before p are listed, and what is left is rest
 pub record Underway (points : ℕ) (g : Topology) (ws w : List ℕ) (t : Plan) (p : Progress) (rest : List (List Use)) : Type 0 where
@@ -50,15 +41,14 @@ pub record Underway (points : ℕ) (g : Topology) (ws w : List ℕ) (t : Plan) (
 abbrev pub uses_from : ℕ → Topology → List ℕ → ℕ → List (List Use)
 uses_from points g ws s = kept_over (uses_of g) points g (stretches_left g ws s)
 
--- the stretches before p.start are passed
-abbrev pub Passed : ℕ → Topology → List ℕ → List ℕ → Plan → Progress → Type 0
-Passed points g bs w t p = Underway points g (entries bs) w t p (uses_from points g (entries bs) p.start)
+-- the stretches before entry s are passed
+abbrev pub Passed : ℕ → Topology → List ℕ → List ℕ → Plan → ℕ → Progress → Type 0
+Passed points g bs w t s p = Underway points g (entries bs) w t p (uses_from points g (entries bs) s)
 
--- one stretch more
-pub record Turned (points : ℕ) (g : Topology) (bs w w' : List ℕ) (t : Plan) (p r : Progress) : Type 0 where
+-- one stretch more, after which the next starts at entry n
+pub record Turned (points : ℕ) (g : Topology) (bs w w' : List ℕ) (t : Plan) (n : ℕ) (p : Progress) : Type 0 where
   pub beside : Beside t w w'
-  pub passed : Passed points g bs w' t r
-  pub later : p.start < r.start
+  pub passed : Passed points g bs w' t n p
 
 -- all stretches
 pub record PrimitivesListed (points : ℕ) (g : Topology) (bs : List ℕ) (t : Plan) (w w' : List ℕ) : Type 0 where

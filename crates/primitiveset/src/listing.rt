@@ -1,117 +1,75 @@
 // The kept primitives of a triangle, fan, strip or quad set, listed in one pass over the stretches of coordIndex (FORMAT 6.4).
-ghost use Rattle.std.specs.Prelude.{◌≡◌, true, map, ◌+◌, ◌/◌, ◌≤◌, ◌<◌, length};
+ghost use Rattle.std.specs.Prelude.{◌≡◌, ◌+◌, ◌/◌, ◌<◌, length};
 ghost use Rattle.bits.specs.Bits.{entries};
-ghost use Rattle.block.specs.Runs.{all_below};
-ghost use Rattle.primitives.specs.Primitives.{primitive_count, places_of, primitive_of};
+ghost use Rattle.block.specs.Runs.{run_of, all_below};
+ghost use Rattle.primitives.specs.Primitives.{primitive_of};
 ghost use Rattle.primitives.specs.Kept.{width_of};
-ghost use Rattle.tables.specs.Layout.{most, Room};
-ghost use Rattle.lists.specs.Parts.{spliced};
-ghost use Rattle.primitiveset.specs.Passing.{Planned, Fits, words_after, progress_after, Passed, Turned, PrimitivesListed};
+ghost use Rattle.primitives.specs.Stretches.{StretchPart};
+ghost use Rattle.faceset.specs.Adding.{words_after, progress_after};
+ghost use Rattle.primitiveset.specs.Listings.{uses_of};
+ghost use Rattle.primitiveset.specs.Passing.{Planned, Fits, Passed, Turned, PrimitivesListed};
 
-use block::{CornerNumber, Topology, next_start, point_at};
-use faceset::put_row;
-use primitives::{count_in, is_present, place_of, stretch_at, width_of};
+use block::{CornerNumber, Topology, point_at};
+use faceset::{Progress, put_face};
+use primitives::{count_in, is_present, place_of, stretches_in, width_of};
 use tables::{Plan, narrow};
 
-// The start of the stretch, how many faces were listed, and the next corner.
+// What primitives are taken from: coordIndex, of so many points.
 #[derive(Clone, Copy)]
-pub struct Progress {
-    pub start: usize,
-    pub faces: usize,
-    pub corner: CornerNumber,
+pub struct Source<'a> {
+    pub coord: &'a [u8],
+    pub points: u32,
+    pub g: Topology,
 }
 
-// The points that kept primitive `k` of a stretch names, of the corners from `from` on.
-fn put_corners(part: &[u8], g: Topology, k: usize, work: &mut [u32], t: Plan, from: CornerNumber)
-    requires { Room (length work.old) t × (from.0 + width_of g ≤ t.count) × (k < primitive_count g (length (entries part.now))) × (all_below t.spots (primitive_of g (entries part.now) k) ≡ true) }
-    ensures { work.new ≡ spliced work.old (t.corners + from.0) (primitive_of g (entries part.now) k) }
-{
-    let n = width_of(g);
-    let at = t.corners + from.0;
-    let mut i = 0;
-    while i < n {
-        let p = point_at(part, place_of(g, k, i));
-        work[at + i] = narrow(p.0);
-        i += 1;
-    }
-}
-
-// Their places, in a stretch of `size` entries that starts at entry `start`.
-fn put_places(
-    start: usize,
-    size: usize,
-    g: Topology,
-    k: usize,
-    work: &mut [u32],
-    t: Plan,
-    from: CornerNumber,
-)
-    requires { Room (length work.old) t × (from.0 + width_of g ≤ t.count) × (k < primitive_count g size) × (start + size ≤ most) }
-    ensures { work.new ≡ spliced work.old (t.places + from.0) (map (λ i. start + i) (places_of g k)) }
-{
-    let n = width_of(g);
-    let at = t.places + from.0;
-    let mut i = 0;
-    while i < n {
-        work[at + i] = narrow(start + place_of(g, k, i));
-        i += 1;
-    }
-}
-
-// Primitive `k` of the stretch: listed as the next face if it is kept.
+// Primitive `k` of the stretch that starts at entry `start`: listed as the next face if it is kept.
 fn pass_primitive(
+    x: Source<'_>,
     part: &[u8],
-    points: u32,
-    g: Topology,
+    start: usize,
     k: usize,
     work: &mut [u32],
     t: Plan,
     p: Progress,
 ) -> Progress
-    requires { Fits points g (length work.old) t (entries part.now) k p }
-    ensures { (work.new ≡ words_after points g t (entries part.now) k p work.old) × (result ≡ progress_after points g (entries part.now) k p) }
+    requires { Fits x.points x.g (length work.old) t start (entries part.now) k p }
+    ensures { (work.new ≡ words_after (all_below x.entry.points (primitive_of x.entry.g (entries part.now) k)) t p p.faces (uses_of x.entry.g (run_of start (entries part.now)) k) work.old)
+        × (result ≡ progress_after (all_below x.entry.points (primitive_of x.entry.g (entries part.now) k)) p (width_of x.entry.g)) }
 {
-    if is_present(part, points, g, k) {
-        let from = p.corner;
-        let next = CornerNumber(from.0 + width_of(g));
-        put_corners(part, g, k, work, t, from);
-        put_places(p.start, part.len() / 4, g, k, work, t, from);
-        put_row(work, t, p.faces, p.faces, next);
-        return Progress {
-            start: p.start,
-            faces: p.faces + 1,
-            corner: next,
-        };
+    let g = x.g;
+    if is_present(part, x.points, g, k) {
+        return put_face(
+            work,
+            t,
+            p,
+            p.faces,
+            width_of(g),
+            |i| narrow(point_at(part, place_of(g, k, i)).0),
+            |i| narrow(start + place_of(g, k, i)),
+        );
     }
     p
 }
 
-// The kept primitives of one stretch.
+// The kept primitives of the stretch that starts at entry `start`.
 fn pass_stretch(
-    coord: &[u8],
-    points: u32,
-    g: Topology,
+    x: Source<'_>,
+    part: &[u8],
+    start: usize,
     work: &mut [u32],
     t: Plan,
     first: Progress,
 ) -> Progress
-    requires { Planned points g coord.now (length work.old) t × Passed points g coord.now work.old t first × (first.start < length coord.now / 4) }
-    ensures { Turned points g coord.now work.old work.new t first result }
+    requires { Planned x.points x.g x.coord.now (length work.old) t × Passed x.points x.g x.coord.now work.old t start first
+        × (start < length x.coord.now / 4) × StretchPart x.g x.coord.now start part.now }
+    ensures { Turned x.entry.points x.entry.g x.entry.coord.now work.old work.new t (start + length part.now / 4 + 1) result }
 {
-    let part = stretch_at(coord, g, first.start);
-    let n = count_in(g, part.len() / 4);
+    let n = count_in(x.g, part.len() / 4);
     let mut p = first;
-    let mut k = 0;
-    while k < n {
-        p = pass_primitive(part, points, g, k, work, t, p);
-        k += 1;
+    for k in 0..n {
+        p = pass_primitive(x, part, start, k, work, t, p);
     }
-    let corner = p.corner;
-    Progress {
-        start: next_start(first.start, part),
-        faces: p.faces,
-        corner,
-    }
+    p
 }
 
 // The kept primitives of coordIndex, to the tables of first corners, face numbers, and the corners' points and places.
@@ -119,14 +77,14 @@ pub fn list_primitives(coord: &[u8], points: u32, g: Topology, work: &mut [u32],
     requires { Planned points g coord.now (length work.old) t }
     ensures { PrimitivesListed points g coord.now t work.old work.new }
 {
+    let x = Source { coord, points, g };
     let first = t.starts;
     work[first] = 0;
     let mut p = Progress {
-        start: 0,
         faces: 0,
         corner: CornerNumber(0),
     };
-    while p.start < coord.len() / 4 {
-        p = pass_stretch(coord, points, g, work, t, p);
+    for (start, part) in stretches_in(coord, g) {
+        p = pass_stretch(x, part, start, work, t, p);
     }
 }

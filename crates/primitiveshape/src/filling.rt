@@ -15,6 +15,7 @@ use soups::prepare;
 use tables::Plan;
 
 // All tables but that of texture.
+// As in facesetshape but for one call: with that call as a closure (tried), the contract is longer than the lines that it saves.
 pub fn put_tables<'a>(
     block: &'a [u8],
     coord: &'a [u8],

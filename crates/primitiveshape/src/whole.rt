@@ -17,6 +17,7 @@ use tables::plan_of;
 
 // The mesh of an accepted set of primitives of the sizes z, into the six slices; the working slices are left with zeros. A quad is split as a fan, whatever
 // the convex bit says.
+// As make_face_set but for the convex bit and what is listed: one function for both would take all that is proved of the list in its contract.
 pub fn make_primitives(
     block: &[u8],
     h: Header,

@@ -6,8 +6,7 @@ use Prim.Native.Nat.{ℕ}
 use lib.Ieee.{Float, binary32, of_bits, to_bits, of_int, add, sub, mul, div, lt}
 use Rattle.bits.specs.declared.Words2.{Words2}
 use Rattle.bits.specs.declared.Words3.{Words3}
-use Rattle.block.specs.declared.texture.TexTransform.{TexTransform}
-use Rattle.block.specs.Texture.{uv_words}
+use Rattle.std.specs.Prelude.{None}
 use Rattle.lists.specs.Lists.{flat}
 use Rattle.lists.specs.Loops.{tab}
 use Rattle.math.specs.Vector.{zero_f, one_f, two_f}
@@ -78,6 +77,6 @@ abbrev row : ℕ → List Words2
 row t = record { s = o; t = t } ∷ record { s = 0x3eaa_aaab; t = t } ∷ record { s = 0x3f2a_aaab; t = t } ∷ record { s = one; t = t } ∷ []
 
 -- where there is no transform
-textures : (x : TexTransform) → textures_of (record { need_uvs = true; has_transform = false; transform = x }) whole.verts ≡ row one ++ (row 0x3f00_0000 ++ row o)
-unfolding textures_of uv_of uv_words sphere_of sphere_part sphere_row sphere_vert held_to share_of flat tab of_bits to_bits of_int sub div
-textures x = refl
+textures : textures_of (record { need_uvs = true; transform = None }) whole.verts ≡ row one ++ (row 0x3f00_0000 ++ row o)
+unfolding textures_of uv_of sphere_of sphere_part sphere_row sphere_vert held_to share_of flat tab of_bits to_bits of_int sub div
+textures = refl

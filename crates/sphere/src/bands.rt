@@ -5,7 +5,7 @@ ghost use Rattle.lists.specs.Loops.{tab};
 ghost use Rattle.lists.specs.Parts.{Added, spliced};
 ghost use Rattle.sphere.specs.Sphere.{sphere_quad, sphere_band};
 
-use lists::put_three;
+use lists::put_all;
 use parts::index_of;
 
 // A triangle where it is wanted, and the next place.
@@ -14,7 +14,7 @@ fn put_where(indices: &mut [u32], at: usize, wanted: bool, a: u32, b: u32, c: u3
     ensures { Added spliced (cond wanted (a ∷ b ∷ c ∷ []) []) at indices.old result indices.new }
 {
     if wanted {
-        put_three(indices, at, a, b, c);
+        put_all(indices, at, &[a, b, c]);
         return at + 3;
     }
     at
@@ -39,10 +39,8 @@ fn put_band(indices: &mut [u32], at: usize, n: usize, k: usize, j: usize) -> usi
     ensures { Added spliced (sphere_band n k j) at indices.old result indices.new }
 {
     let mut at = at;
-    let mut i = 0;
-    while i < n {
+    for i in 0..n {
         at = put_quad(indices, at, n, k, j, i);
-        i += 1;
     }
     at
 }
@@ -53,9 +51,7 @@ pub fn put_bands(indices: &mut [u32], n: usize, k: usize)
     ensures { indices.new ≡ spliced indices.old 0 (flat (tab (sphere_band n k) k 0)) }
 {
     let mut at = 0;
-    let mut j = 0;
-    while j < k {
+    for j in 0..k {
         at = put_band(indices, at, n, k, j);
-        j += 1;
     }
 }

@@ -1,13 +1,13 @@
 // FORMAT 17.7, sphere: the vertices, row by row.
-ghost use Rattle.std.specs.Prelude.{◌≡◌, ◌+◌, ◌*◌, ◌≤◌};
+ghost use Rattle.std.specs.Prelude.{◌≡◌, [], ◌∷◌, ◌+◌, ◌*◌, ◌≤◌};
 ghost use Rattle.lists.specs.Lists.{flat};
 ghost use Rattle.lists.specs.Loops.{tab};
-ghost use Rattle.parts.specs.Pushed.{RoomFor, pushed};
+ghost use Rattle.parts.specs.Pushed.{RoomFor, pushed, streams_of};
 ghost use Rattle.sphere.specs.Sphere.{sphere_vert, sphere_row};
 
 use block::Pair;
 use math::V3;
-use parts::{GeomCtx, Vert, cosine_at, put_vert, ring_at, share, sine_at};
+use parts::{GeomCtx, Vert, cosine_at, put_verts, ring_at, share, sine_at};
 
 // Vertex i of row j.
 fn sphere_vert(r: f32, n: usize, k: usize, pairs: &[f32], j: usize, i: usize) -> Vert
@@ -45,16 +45,22 @@ fn put_row(
     normals: &mut [u32],
     textures: &mut [u32],
 )
-    requires { (n ≤ 1024) × (k ≤ 1024) × (j ≤ k) × RoomFor c (j * (n + 1) + (n + 1)) (record { positions = positions.old; normals = normals.old; textures = textures.old }) }
-    ensures { record { positions = positions.new; normals = normals.new; textures = textures.new }
-        ≡ pushed c (j * (n + 1)) (sphere_row r n k pairs.now j) (record { positions = positions.old; normals = normals.old; textures = textures.old }) }
+    requires { (n ≤ 1024) × (k ≤ 1024) × (j ≤ k) × RoomFor c (j * (n + 1) + (n + 1)) (streams_of positions.old normals.old textures.old) }
+    ensures { streams_of positions.new normals.new textures.new
+        ≡ pushed c (j * (n + 1)) (sphere_row r n k pairs.now j) (streams_of positions.old normals.old textures.old) }
 {
-    let mut i = 0;
-    while i < n + 1 {
-        let v = sphere_vert(r, n, k, pairs, j, i);
-        put_vert(c, j * (n + 1) + i, v, positions, normals, textures);
-        i += 1;
-    }
+    put_verts(
+        c,
+        j * (n + 1),
+        n + 1,
+        |i|
+            requires { (n ≤ 1024) × (k ≤ 1024) × (j ≤ k) × (i ≤ n) }
+            ensures { result ≡ sphere_vert r n k pairs.exit.now j i ∷ [] }
+        { [sphere_vert(r, n, k, pairs, j, i)] },
+        positions,
+        normals,
+        textures,
+    );
 }
 
 // All rows.
@@ -68,13 +74,11 @@ pub fn put_rows(
     normals: &mut [u32],
     textures: &mut [u32],
 )
-    requires { (n ≤ 1024) × (k ≤ 1024) × RoomFor c (0 + (k + 1) * (n + 1)) (record { positions = positions.old; normals = normals.old; textures = textures.old }) }
-    ensures { record { positions = positions.new; normals = normals.new; textures = textures.new }
-        ≡ pushed c 0 (flat (tab (sphere_row r n k pairs.now) (k + 1) 0)) (record { positions = positions.old; normals = normals.old; textures = textures.old }) }
+    requires { (n ≤ 1024) × (k ≤ 1024) × RoomFor c (0 + (k + 1) * (n + 1)) (streams_of positions.old normals.old textures.old) }
+    ensures { streams_of positions.new normals.new textures.new
+        ≡ pushed c 0 (flat (tab (sphere_row r n k pairs.now) (k + 1) 0)) (streams_of positions.old normals.old textures.old) }
 {
-    let mut j = 0;
-    while j < k + 1 {
+    for j in 0..k + 1 {
         put_row(c, r, n, k, pairs, j, positions, normals, textures);
-        j += 1;
     }
 }

@@ -16,14 +16,14 @@ pub fn corner_texture<'a>(
 ) -> Words2
     ensures { result ≡ texture_in block.now coord.now h s place default }
 {
-    let x = s.transform;
+    let x = h.transformed.then_some(s.transform);
     if h.texture_points {
         let none = Words2 { s: 0, t: 0 };
         let listed = block::get(block, coord, texture_stream(h), place, 0, none);
-        return uv(h.transformed, x, listed);
+        return uv(x, listed);
     }
     if h.need_uvs {
-        return uv(h.transformed, x, default);
+        return uv(x, default);
     }
     Words2 { s: 0, t: 0 }
 }

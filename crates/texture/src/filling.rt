@@ -18,7 +18,7 @@ pub fn put2(work: &mut [u32], a: usize, w: Words2)
     requires { a + 2 ≤ length work.old }
     ensures { work.new ≡ spliced work.old a (words2 w) }
 {
-    put_all(work, a, [w.s, w.t]);
+    put_all(work, a, &[w.s, w.t]);
 }
 
 // The texture at a place, of a point whose words are in `work`. Where texture points are listed no default is made.

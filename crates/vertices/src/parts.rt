@@ -27,7 +27,7 @@ pub fn put_words(dst: &mut [u32], at: usize, src: &[u32], j: usize, n: usize)
     ensures { dst.new ≡ sets dst.old at (seg src.now j n) }
 {
     if n == 3 {
-        put_all(dst, at, [src[j], src[j + 1], src[j + 2]]);
+        put_all(dst, at, &[src[j], src[j + 1], src[j + 2]]);
         return;
     }
     dst[at..at + n].copy_from_slice(&src[j..j + n]);

@@ -1,11 +1,9 @@
-use mathlib.Core.Path.{sym, ap, ◌∙◌}
-use Prim.Native.Nat.{◌+◌}
-use lib.ListN.{length}
-use borrow.Rule.Slice.PartMut.{mid_len}
-use Rattle.lists.proofs.Splices.{mid_spliced}
+use Rattle.lists.proofs.Splices.{splice_start, set_more}
 use Rattle.lists.proofs.put_all.Goals as goal
 
-pub returns : goal.returns
-returns g c =
-    let e = c.copy_from_slice.ensures in
-    mid_spliced _ _ _ e.after (ap (λ l. length l) (sym e.after) ∙ e.len ∙ mid_len c.args.a (c.args.a + g.row.N) c.args.table.now c.requires)
+pub loop-i-init : goal.loop-i-init
+loop-i-init g c = splice_start c.args.table.now c.args.a
+
+pub loop-i-preserved : goal.loop-i-preserved
+loop-i-preserved g c =
+    set_more _ _ _ c.index-all-i.result c.requires c.loop-i-test.true c.loop-i.auto.table c.loop-i.invariant c.index-all-i.is

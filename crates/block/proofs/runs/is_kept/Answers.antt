@@ -10,29 +10,20 @@ returns-then-n-lt3 c =
     let l = entries_length bs in
     kept_short _ (entries bs) (omega arith)
 
-pub entry-requires : goal.entry-requires
-entry-requires c = omega arith
-
 pub returns-then-points-entry : goal.returns-then-points-entry
 returns-then-points-entry c =
     let bs = c.args.run.now in
     let l = entries_length bs in
-    kept_not _ _ (below_not _ (entries bs) c.loop-k.k _ (omega arith) c.entry.ensures c.loop-k.invariant.1 c.if-points-entry.true)
-
-pub overflow_add-k : goal.overflow_add-k
-overflow_add-k c = omega arith
-
-pub loop-k-smaller : goal.loop-k-smaller
-loop-k-smaller c = omega arith
+    kept_not _ _ (below_not _ (entries bs) c.loop-k.k _ (omega arith) c.entry.ensures c.loop-k.invariant c.if-points-entry.true)
 
 pub loop-k-preserved : goal.loop-k-preserved
 loop-k-preserved c =
     let bs = c.args.run.now in
     let l = entries_length bs in
-    (omega arith, below_step _ (entries bs) c.loop-k.k _ (omega arith) c.entry.ensures c.loop-k.invariant.1 c.if-points-entry.false)
+    below_step _ (entries bs) c.loop-k.k _ (omega arith) c.entry.ensures c.loop-k.invariant c.if-points-entry.false
 
 pub returns : goal.returns
 returns c =
     let bs = c.args.run.now in
     let l = entries_length bs in
-    kept_all _ (entries bs) (omega arith) (below_all _ (entries bs) c.loop-k.k (omega arith) c.loop-k.invariant.1)
+    kept_all _ (entries bs) (omega arith) (below_all _ (entries bs) c.loop-k.k (omega arith) c.loop-k.invariant)

@@ -4,20 +4,11 @@ use Rattle.bits.specs.Bits.{entries}
 use Rattle.block.proofs.RunLaws.{run_stop, run_more, run_over}
 use Rattle.block.proofs.runs.run_end.Goals as goal
 
-pub entry-requires : goal.entry-requires
-entry-requires c = omega arith
-
 pub returns-then-ends_run : goal.returns-then-ends_run
 returns-then-ends_run c =
     let bs = c.args.list.now in
     let l = entries_length bs in
     omega (arith, run_stop (entries bs) c.loop-k.k _ _ (omega arith) c.entry.ensures c.ends_run.ensures c.if-ends_run.true)
-
-pub overflow_add-k : goal.overflow_add-k
-overflow_add-k c = omega arith
-
-pub loop-k-smaller : goal.loop-k-smaller
-loop-k-smaller c = omega arith
 
 pub loop-k-preserved : goal.loop-k-preserved
 loop-k-preserved c =

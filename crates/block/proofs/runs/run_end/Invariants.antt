@@ -1,4 +1,4 @@
-use Prim.Native.Nat.{◌+◌, ◌≤◌, ◌-◌}
+use Prim.Native.Nat.{◌+◌}
 use mathlib.Core.Path.{◌≡◌}
 use lib.ListN.{drop}
 use Rattle.bits.specs.Bits.{entries}
@@ -6,7 +6,4 @@ use Rattle.block.specs.Runs.{run_length}
 use Rattle.block.proofs.runs.run_end.Given as goal
 
 abbrev pub invariant-loop-k : goal.invariant-loop-k
-invariant-loop-k l = (l.k ≤ l.n) × (l.start + run_length (drop l.start (entries l.list)) ≡ l.k + run_length (drop l.k (entries l.list)))
-
-abbrev pub decreases-loop-k : goal.decreases-loop-k
-decreases-loop-k l = l.n - l.k
+invariant-loop-k l = l.start + run_length (drop l.start (entries l.list)) ≡ l.k + run_length (drop l.k (entries l.list))

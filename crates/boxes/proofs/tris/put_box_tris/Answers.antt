@@ -1,20 +1,11 @@
-use mathlib.Core.Path.{refl}
 use native.Mathlib.Omega.{arith}
-use Rattle.lists.proofs.Pieces.{pieces_none, pieces_more, pieces_all}
+use Rattle.parts.proofs.Turning.{wide_given}
+use Rattle.boxes.specs.Box.{box_tris}
 use Rattle.boxes.proofs.Sized.{tris_wide}
 use Rattle.boxes.proofs.tris.put_box_tris.Goals as goal
 
-pub loop-k-init : goal.loop-k-init
-loop-k-init c = pieces_none
-
-pub put_tris-requires : goal.put_tris-requires
-put_tris-requires c = (c.loop-k-test.true, omega (arith, c.loop-k-test.true, c.loop-k.invariant.size, c.requires))
-
-pub loop-k-preserved : goal.loop-k-preserved
-loop-k-preserved c = pieces_more 6 tris_wide (omega (arith, c.requires)) c.loop-k.invariant c.loop-k-test.true (omega arith) refl c.put_tris.ensures
-
-pub shape_of-indices : goal.shape_of-indices
-shape_of-indices c = c.loop-k.invariant.size
+pub put_words-requires-clause-given : goal.put_words-requires-clause-given
+put_words-requires-clause-given c = (box_tris, wide_given 6 _ tris_wide (λ i b x p. p) (omega (arith, c.requires)))
 
 pub returns : goal.returns
-returns c = pieces_all c.loop-k.invariant c.loop-k-test.false
+returns c = c.put_words.ensures box_tris (wide_given 6 _ tris_wide (λ i b x p. p) (omega (arith, c.requires)))

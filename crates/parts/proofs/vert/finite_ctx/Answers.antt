@@ -1,6 +1,7 @@
+use Rattle.std.proofs.Common.{rules}
 use Rattle.parts.specs.Part.{finite_ctx}
 use Rattle.parts.proofs.vert.finite_ctx.Goals as goal
 
 pub returns : goal.returns
 unfolding finite_ctx
-returns c = rw c.finite_transform-transform.ensures
+returns c = search rules

@@ -1,15 +1,13 @@
-use mathlib.Core.Path.{refl}
-use Rattle.paths.proofs.Updates.{changing_none, changing_more, changing_all}
+use mathlib.Core.Path.{sym, ap, ◌∙◌}
+use mathlib.Core.List.{List, ◌++◌}
+use Prim.Native.Nat.{ℕ}
+use lib.ListN.{drop, replicate}
+use Rattle.std.proofs.Common.{rules, ◌≡◌}
+use Rattle.lists.proofs.Tabs.{tab_replicate}
+use Rattle.paths.proofs.Updates.{updated_tab}
 use Rattle.paths.proofs.pass.clear.Goals as goal
 
-pub loop-j-init : goal.loop-j-init
-loop-j-init c = changing_none
-
-pub loop-j-preserved : goal.loop-j-preserved
-loop-j-preserved c = changing_more c.loop-j.invariant c.loop-j-test.true refl
-
-pub shape_of-answers : goal.shape_of-answers
-shape_of-answers c = c.loop-j.invariant.size
-
 pub returns : goal.returns
-returns c = changing_all c.loop-j.invariant c.loop-j-test.false
+returns c =
+    let e : c.fill.new.self ≡ replicate c.args.m 0 = search rules in
+    ap (λ (l : List ℕ). l ++ drop c.args.m c.args.answers.now) (e ∙ sym (tab_replicate 0 c.args.m 0)) ∙ sym (updated_tab (λ j. 0) c.args.m c.args.answers.now c.requires)

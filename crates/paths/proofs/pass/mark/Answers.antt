@@ -7,8 +7,5 @@ loop-j-init c = changing_none
 pub loop-j-preserved : goal.loop-j-preserved
 loop-j-preserved c = changing_more c.loop-j.invariant c.loop-j-test.true c.verdict.ensures
 
-pub shape_of-answers : goal.shape_of-answers
-shape_of-answers c = c.loop-j.invariant.size
-
 pub returns : goal.returns
 returns c = changing_all c.loop-j.invariant c.loop-j-test.false

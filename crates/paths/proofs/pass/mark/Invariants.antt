@@ -1,10 +1,6 @@
-use Prim.Native.Nat.{◌-◌}
 use Rattle.paths.specs.Pass.{step_at}
 use Rattle.paths.proofs.Updates.{Changing}
 use Rattle.paths.proofs.pass.mark.Given as goal
 
 abbrev pub invariant-loop-j : goal.invariant-loop-j
 invariant-loop-j l = Changing (step_at l.rays l.tri l.number) l.m l.initial.answers l.j l.answers
-
-abbrev pub decreases-loop-j : goal.decreases-loop-j
-decreases-loop-j l = l.m - l.j

@@ -1,27 +1,18 @@
-use mathlib.Core.Path.{◌∙◌}
 use lib.Dec.{eqb}
+use Rattle.std.proofs.Common.{rules}
 use Rattle.paths.specs.Pass.{hit_count}
-use Rattle.paths.proofs.Updates.{running_none, running_more, running_all}
+use Rattle.paths.proofs.Updates.{running_more, running_all}
 use Rattle.paths.proofs.Passing.{turned}
 use Rattle.paths.proofs.Hitting.{turns_end}
 use Rattle.paths.proofs.pass.pass.Goals as goal
-
-pub loop-t-init : goal.loop-t-init
-loop-t-init c = running_none
 
 pub loop-t-preserved : goal.loop-t-preserved
 loop-t-preserved c =
     running_more c.loop-t.invariant c.loop-t-test.true (turned _ _ _ _ _ _ _ _ c.triangle_at-tri.ensures c.turn.ensures.0) c.turn.auto.answers
 
-pub shape_of-answers-else-turn : goal.shape_of-answers-else-turn
-shape_of-answers-else-turn c = c.turn.auto.answers ∙ c.loop-t.invariant.size
-
-pub returns-else-turn : goal.returns-else-turn
-returns-else-turn c =
-    turns_end c.args.positions.now c.args.indices.now c.args.rays.now c.args.m (eqb (hit_count c.args.rays.now c.triangle_at-tri.result c.args.m) 0) (running_more c.loop-t.invariant c.loop-t-test.true (turned _ _ _ _ _ _ _ _ c.triangle_at-tri.ensures c.turn.ensures.0) c.turn.auto.answers) c.turn.ensures.1 c.if-turn.false
-
-pub shape_of-answers : goal.shape_of-answers
-shape_of-answers c = c.loop-t.invariant.size
+pub returns-then-not-turn : goal.returns-then-not-turn
+returns-then-not-turn c =
+    turns_end c.args.positions.now c.args.indices.now c.args.rays.now c.args.m (eqb (hit_count c.args.rays.now c.triangle_at-tri.result c.args.m) 0) (running_more c.loop-t.invariant c.loop-t-test.true (turned _ _ _ _ _ _ _ _ c.triangle_at-tri.ensures c.turn.ensures.0) c.turn.auto.answers) c.turn.ensures.1 (search rules)
 
 pub returns : goal.returns
 returns c = running_all c.loop-t.invariant c.loop-t-test.false

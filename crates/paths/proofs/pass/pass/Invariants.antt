@@ -1,10 +1,6 @@
-use Prim.Native.Nat.{◌-◌}
 use Rattle.paths.specs.Pass.{turn_of}
 use Rattle.paths.proofs.Updates.{Running}
 use Rattle.paths.proofs.pass.pass.Given as goal
 
 abbrev pub invariant-loop-t : goal.invariant-loop-t
 invariant-loop-t l = Running (turn_of l.positions l.indices l.rays l.m) l.n l.initial.answers l.t l.answers
-
-abbrev pub decreases-loop-t : goal.decreases-loop-t
-decreases-loop-t l = l.n - l.t

@@ -8,8 +8,5 @@ pub loop-j-preserved : goal.loop-j-preserved
 loop-j-preserved c =
     loading_more c.loop-j.invariant c.loop-j-test.true c.requires.0 c.requires.1 c.point_at-from.ensures c.point_at-to.ensures c.sub.ensures c.put_spot.ensures c.put_spot-in-loop-j.ensures
 
-pub shape_of-rays : goal.shape_of-rays
-shape_of-rays c = c.loop-j.invariant.size
-
 pub returns : goal.returns
 returns c = loading_all c.loop-j.invariant c.loop-j-test.false

@@ -1,19 +1,9 @@
-use native.Mathlib.Omega.{arith}
-use borrow.Author.Tests.{le-leb, lt-leb}
-use Rattle.paths.proofs.Refusing.{searching_none, searching_more, searching_found, searching_all}
+use Rattle.std.proofs.Common.{rules, tests, leb, ◌∙◌}
+use Rattle.std.proofs.lemmas.Iterator.{YieldsList-from_slice}
+use Rattle.std.proofs.lemmas.Iterator.Search.{any_from_yields_List}
+use Rattle.paths.proofs.Refusing.{any_is}
 use Rattle.paths.proofs.refusal.any_beyond.Goals as goal
 
-pub loop-k-init : goal.loop-k-init
-loop-k-init c = searching_none
-
-pub overflow_cast-i : goal.overflow_cast-i
-overflow_cast-i c = omega (arith, c.shared_slice_known-1.given c.loop-k.k)
-
-pub returns-then-n-i : goal.returns-then-n-i
-returns-then-n-i c = searching_found c.loop-k.invariant c.loop-k-test.true (le-leb _ _ c.if-n-i.true)
-
-pub loop-k-preserved : goal.loop-k-preserved
-loop-k-preserved c = searching_more c.loop-k.invariant c.loop-k-test.true (lt-leb _ _ c.if-n-i.false)
-
 pub returns : goal.returns
-returns c = searching_all c.loop-k.invariant c.loop-k-test.false
+returns c =
+    any_from_yields_List (leb c.args.n) _ _ _ c.any.ensures.ran (YieldsList-from_slice c.args.indices.now (cc)) (λ x b q k. search (rules, tests)) ∙ any_is (leb c.args.n) c.args.indices.now

@@ -17,14 +17,8 @@ pub returns-else-made : goal.returns-else-made
 unfolding flat
 returns-else-made c = rw c.if-made.false (splice_start c.args.colours.now 0)
 
-pub copy_words-requires : goal.copy_words-requires
-copy_words-requires c = let q : c.args.n ≤ length c.args.listed.now / 4 = rw c.if-alpha.true at (c.requires.1 c.if-made.true).0 in (omega arith, (c.requires.1 c.if-made.true).1)
-
 pub returns-then-alpha : goal.returns-then-alpha
 returns-then-alpha c = let q : c.args.n ≤ length c.args.listed.now / 4 = rw c.if-alpha.true at (c.requires.1 c.if-made.true).0 in rw (c.if-made.true, c.if-alpha.true) (c.copy_words.ensures ∙ ap (spliced c.args.colours.now 0) (sym (colours_copied c.args.listed.now c.args.n (omega arith))))
-
-pub put_opaques-requires : goal.put_opaques-requires
-put_opaques-requires c = let q : c.args.n ≤ length c.args.listed.now / 3 = rw c.if-alpha.false at (c.requires.1 c.if-made.true).0 in (c.requires.0, omega arith, omega (arith, (c.requires.1 c.if-made.true).1))
 
 pub returns : goal.returns
 unfolding colour_at

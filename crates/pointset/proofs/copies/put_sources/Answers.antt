@@ -10,8 +10,5 @@ loop-k-init c = singles_none
 pub loop-k-preserved : goal.loop-k-preserved
 loop-k-preserved c = rw (zero-add c.loop-k.k) at (singles_more _ (omega arith) c.loop-k.invariant c.loop-k-test.true refl)
 
-pub shape_of-sources : goal.shape_of-sources
-shape_of-sources c = c.loop-k.invariant.size
-
 pub returns : goal.returns
 returns c = singles_all c.loop-k.invariant c.loop-k-test.false

@@ -1,4 +1,3 @@
-use Prim.Native.Nat.{◌≤◌, ◌-◌}
 use mathlib.Core.Path.{◌≡◌}
 use lib.ListN.{drop}
 use Rattle.bits.specs.Bits.{entries}
@@ -7,7 +6,4 @@ use Rattle.primitives.specs.Primitives.{primitive_of}
 use Rattle.primitives.proofs.places.is_present.Given as goal
 
 abbrev pub invariant-loop-i : goal.invariant-loop-i
-invariant-loop-i l = (l.i ≤ l.n) × (all_below l.points (drop l.i (primitive_of l.g (entries l.part) l.k)) ≡ all_below l.points (primitive_of l.g (entries l.part) l.k))
-
-abbrev pub decreases-loop-i : goal.decreases-loop-i
-decreases-loop-i l = l.n - l.i
+invariant-loop-i l = all_below l.points (drop l.i (primitive_of l.g (entries l.part) l.k)) ≡ all_below l.points (primitive_of l.g (entries l.part) l.k)

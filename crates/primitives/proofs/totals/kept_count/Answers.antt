@@ -1,29 +1,35 @@
-use mathlib.Core.Path.{ap}
+use mathlib.Core.Path.{refl, ap, ◌∙◌}
 use native.Mathlib.Omega.{arith}
+use native.Mathlib.Nat.{zero-add}
 use lib.ListN.{length}
 use Rattle.bits.specs.Bits.{entries}
+use Rattle.block.proofs.Walks.{walks_on}
 use Rattle.primitives.specs.Primitives.{primitive_of}
 use Rattle.primitives.specs.Kept.{kept_primitives}
-use Rattle.primitives.proofs.Meeting.{kept_start, count_step, count_over}
+use Rattle.primitives.proofs.Meeting.{kept_start, count_first, count_end}
 use Rattle.primitives.proofs.totals.kept_count.Goals as goal
 
-pub loop-start-init : goal.loop-start-init
+pub loop-part-init : goal.loop-part-init
 unfolding kept_primitives
-loop-start-init c = (omega arith, omega arith, omega (arith, ap length (kept_start (λ r. primitive_of c.args.g r.items) c.args.points c.args.g (entries c.args.list.now))))
+loop-part-init c =
+    rw (c.into_iter-part-iterator.ensures.into_iter_gives, c.stretches_in-part-items.ensures) (record {
+      walk = record { list = refl; start = omega arith };
+      kind = refl;
+      few = omega arith;
+      left = rw zero-add (ap length (kept_start (λ r. primitive_of c.args.g r.items) c.args.points c.args.g (entries c.args.list.now)));
+    })
 
-pub overflow_add-kept : goal.overflow_add-kept
-overflow_add-kept c = omega (arith, c.loop-start.invariant, c.kept_in-kept.ensures.1, c.stretch_at-part.ensures.within, c.loop-start-test.true)
-
-pub next_start-start-requires : goal.next_start-start-requires
-next_start-start-requires c = omega (arith, c.stretch_at-part.ensures.within, c.loop-start-test.true)
-
-pub loop-start-smaller : goal.loop-start-smaller
-loop-start-smaller c = omega (arith, c.next_start-start.ensures, c.loop-start-test.true)
-
-pub loop-start-preserved : goal.loop-start-preserved
-loop-start-preserved c =
-    (omega (arith, c.next_start-start.ensures, c.stretch_at-part.ensures.within, c.loop-start-test.true), omega (arith, c.next_start-start.ensures, c.kept_in-kept.ensures.1, c.loop-start.invariant.1), count_step (λ r. primitive_of c.args.g r.items) c.args.points c.args.g c.args.list.now c.loop-start.start c.loop-start.kept c.loop-start.invariant.2 c.stretch_at-part.result.now c.next_start-start.ensures c.loop-start-test.true c.stretch_at-part.ensures c.kept_in-kept.ensures.0)
+pub loop-part-preserved : goal.loop-part-preserved
+loop-part-preserved c =
+    let I = c.loop-part.invariant in
+    let G = c.in-Some.ensures.steps in
+    record {
+      walk = walks_on I.walk G.passes G.part.within;
+      kind = G.kind ∙ I.kind;
+      few = omega (arith, G.passes.next);
+      left = count_first _ _ _ G.first _ I.left c.kept_in-kept.ensures.0;
+    }
 
 pub returns : goal.returns
 returns c =
-    (count_over (λ r. primitive_of c.args.g r.items) c.args.points c.args.g c.args.list.now c.loop-start.start c.loop-start.kept c.loop-start.invariant.2 c.loop-start-test.false, omega (arith, c.loop-start.invariant))
+    let I = c.loop-part.invariant in (count_end _ _ _ _ c.in-None.ensures.steps I.left, omega (arith, I.walk.start))

@@ -1,4 +1,4 @@
-use Prim.Native.Nat.{◌+◌, ◌-◌, ◌≤◌}
+use Prim.Native.Nat.{◌+◌, ◌≤◌}
 use mathlib.Core.Path.{◌≡◌}
 use lib.ListN.{length}
 use Rattle.bits.specs.Bits.{entries}
@@ -8,7 +8,4 @@ use Rattle.primitives.proofs.Counting.{kept_left}
 use Rattle.primitives.proofs.totals.kept_in.Given as goal
 
 abbrev pub invariant-loop-k : goal.invariant-loop-k
-invariant-loop-k l = (l.k ≤ l.n) × (l.kept ≤ l.k) × (l.kept + length (kept_left (primitive_of l.g (entries l.part)) l.points l.g (entries l.part) l.k) ≡ length (kept_by (primitive_of l.g (entries l.part)) l.points l.g (entries l.part)))
-
-abbrev pub decreases-loop-k : goal.decreases-loop-k
-decreases-loop-k l = l.n - l.k
+invariant-loop-k l = (l.kept ≤ l.k) × (l.kept + length (kept_left (primitive_of l.g (entries l.part)) l.points l.g (entries l.part) l.k) ≡ length (kept_by (primitive_of l.g (entries l.part)) l.points l.g (entries l.part)))

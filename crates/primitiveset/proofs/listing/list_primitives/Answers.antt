@@ -1,25 +1,41 @@
+use mathlib.Core.Path.{refl, ◌∙◌}
 use native.Mathlib.Omega.{arith}
+use Rattle.block.proofs.Walks.{walks_on}
 use Rattle.tables.proofs.Besides.{beside_all, beside_then}
 use Rattle.faceset.proofs.Adding.{first_beside}
 use Rattle.primitiveset.proofs.Turns.{planned_beside, pass_start, pass_end}
 use Rattle.primitiveset.proofs.listing.list_primitives.Goals as goal
 
-pub loop-p-init : goal.loop-p-init
-loop-p-init c =
-    (planned_beside c.requires (first_beside c.args.work.now c.requires.room), beside_all, pass_start c.args.work.now c.requires)
+pub loop-start-init : goal.loop-start-init
+loop-start-init c =
+    rw (c.into_iter-start-iterator.ensures.into_iter_gives, c.stretches_in-start-items.ensures) (record {
+      planned = planned_beside c.requires (first_beside c.args.work.now c.requires.room);
+      beside = beside_all;
+      walk = record { list = refl; start = omega arith };
+      kind = refl;
+      passed = pass_start c.args.work.now c.requires;
+    })
 
 pub pass_stretch-p-requires : goal.pass_stretch-p-requires
-pass_stretch-p-requires c = (c.loop-p.invariant.0, c.loop-p.invariant.2, c.loop-p-test.true)
+pass_stretch-p-requires c =
+    let I = c.loop-start.invariant in
+    let G = c.in-Some.ensures.steps in
+    (I.planned, rw G.here I.passed, rw (G.here, ← I.walk.list) G.passes.there, rw (G.here, ← I.walk.list, ← I.kind) G.part)
 
-pub loop-p-smaller : goal.loop-p-smaller
-loop-p-smaller c = omega (arith, c.pass_stretch-p.ensures.later, c.loop-p-test.true)
-
-pub loop-p-preserved : goal.loop-p-preserved
-loop-p-preserved c = let E = c.pass_stretch-p.ensures in (planned_beside c.loop-p.invariant.0 E.beside, beside_then c.loop-p.invariant.1 E.beside, E.passed)
-
-pub shape_of-work : goal.shape_of-work
-shape_of-work c = let k = first_beside c.args.work.now c.requires.room in omega (arith, k.len, c.loop-p.invariant.1.len)
+pub loop-start-preserved : goal.loop-start-preserved
+loop-start-preserved c =
+    let I = c.loop-start.invariant in
+    let G = c.in-Some.ensures.steps in
+    let T = c.pass_stretch-p.ensures in
+    record {
+      planned = planned_beside I.planned T.beside;
+      beside = beside_then I.beside T.beside;
+      walk = walks_on I.walk G.passes G.part.within;
+      kind = G.kind ∙ I.kind;
+      passed = rw (G.passes.next, ← G.here) T.passed;
+    }
 
 pub returns : goal.returns
 returns c =
-    pass_end c.args.work.now c.requires (beside_then (first_beside c.args.work.now c.requires.room) c.loop-p.invariant.1) c.loop-p.invariant.2 c.loop-p-test.false
+    let I = c.loop-start.invariant in
+    pass_end c.args.work.now c.requires _ (beside_then (first_beside c.args.work.now c.requires.room) I.beside) I.passed (rw (← I.kind, ← I.walk.list) c.in-None.ensures.steps)

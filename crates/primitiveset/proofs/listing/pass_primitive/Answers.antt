@@ -1,38 +1,63 @@
-use mathlib.Core.Path.{sym, ◌∙◌}
+use Prim.Native.Nat.{ℕ, ◌+◌, ◌^◌, ◌≤◌, ◌<◌}
+use mathlib.Core.Path.{◌≡◌, refl, sym, ◌∙◌}
 use native.Mathlib.Omega.{arith}
-use lib.ListN.{length}
+use lib.ListN.{length, get_or}
+use Rattle.std.proofs.Common.{rules}
+use Rattle.std.proofs.iter.Serving.{serving}
 use Rattle.bits.specs.Bits.{entries}
 use Rattle.bits.proofs.Entries.{entries_length}
+use Rattle.block.specs.Runs.{run_of}
+use Rattle.primitives.specs.Primitives.{places_of}
+use Rattle.primitives.specs.Kept.{width_of}
 use Rattle.primitives.proofs.Counting.{count_most}
-use Rattle.primitiveset.proofs.Writing.{after_kept, after_lost}
+use Rattle.tables.specs.Layout.{most}
+use Rattle.faceset.specs.Adding.{words_after, progress_after}
+use Rattle.faceset.proofs.Writing.{face_put_is}
+use Rattle.primitiveset.specs.Listings.{uses_of}
+use Rattle.primitiveset.proofs.Faces.{used_at, uses_long}
+use Rattle.primitiveset.proofs.Writing.{point_low, place_low}
 use Rattle.primitiveset.proofs.listing.pass_primitive.Goals as goal
 
 pub is_present-requires : goal.is_present-requires
-is_present-requires c = omega (arith, c.requires.there, count_most c.args.g (length (entries c.args.part.now)), entries_length c.args.part.now)
+is_present-requires c = omega (arith, c.requires.there, count_most c.args.x.g (length (entries c.args.part.now)), entries_length c.args.part.now)
 
-pub overflow_add-next : goal.overflow_add-next
-overflow_add-next c = let e = sym c.is_present.ensures ∙ c.if-is_present.true in let F = c.requires in omega (arith, F.corners e, F.room.few, c.width_of.ensures)
+pub put_face-requires-clause-points : goal.put_face-requires-clause-points
+put_face-requires-clause-points c =
+    let g = c.args.x.g in
+    let es = entries c.args.part.now in
+    let k = c.args.k in
+    let e = sym c.is_present.ensures ∙ c.if-is_present.true in
+    let n = c.width_of.ensures in
+    let few : k < 2 ^ 61 = omega (arith, c.requires.there, count_most g (length es), entries_length c.args.part.now) in
+    let low : (i p v : ℕ) → i < width_of g → p ≡ get_or (places_of g k) i 0 → v ≡ get_or es p 0 → v ≤ most = λ i p v h ep ev.
+    let b = point_low g es k i h ep ev e in omega (arith, b, c.requires.room.some, c.requires.spots) in
+    grind (serving, n, few, low)
 
-pub put_corners-requires : goal.put_corners-requires
-put_corners-requires c =
-    let e = sym c.is_present.ensures ∙ c.if-is_present.true in let F = c.requires in (F.room, F.corners e, F.there, rw F.spots e)
-
-pub put_places-requires : goal.put_places-requires
-put_places-requires c =
-    let e = sym c.is_present.ensures ∙ c.if-is_present.true in let F = c.requires in (rw c.put_corners.auto.work F.room, F.corners e, rw (← (entries_length c.args.part.now)) F.there, omega (arith, F.places, entries_length c.args.part.now))
-
-pub put_row-requires : goal.put_row-requires
-put_row-requires c =
-    let e = sym c.is_present.ensures ∙ c.if-is_present.true in let F = c.requires in (rw (c.put_places.auto.work, c.put_corners.auto.work) F.room, F.face e, omega (arith, F.face e, F.room.many), omega (arith, F.corners e, F.room.few, c.width_of.ensures))
-
-pub overflow_add-result : goal.overflow_add-result
-overflow_add-result c =
-    let e = sym c.is_present.ensures ∙ c.if-is_present.true in let F = c.requires in omega (arith, F.face e, F.room.many)
+pub put_face-requires-clause-places : goal.put_face-requires-clause-places
+put_face-requires-clause-places c =
+    let g = c.args.x.g in
+    let es = entries c.args.part.now in
+    let k = c.args.k in
+    let n = c.width_of.ensures in
+    let few : k < 2 ^ 61 = omega (arith, c.requires.there, count_most g (length es), entries_length c.args.part.now) in
+    let low : (i p : ℕ) → i < width_of g → p ≡ get_or (places_of g k) i 0 → c.args.start + p ≤ most = λ i p h ep.
+    let b = place_low g (length es) k i c.requires.there h ep in omega (arith, b, c.requires.places) in
+    grind (serving, n, few, low)
 
 pub returns-then-is_present : goal.returns-then-is_present
+unfolding words_after progress_after
 returns-then-is_present c =
-    let e = sym c.is_present.ensures ∙ c.if-is_present.true in after_kept c.args.points c.args.g c.args.t (entries c.args.part.now) c.args.k c.args.p c.args.work.now e c.width_of.ensures c.put_corners.ensures c.put_places.ensures c.put_row.ensures
+    let g = c.args.x.g in
+    let es = entries c.args.part.now in
+    let k = c.args.k in
+    let e = sym c.is_present.ensures ∙ c.if-is_present.true in
+    let r = run_of c.args.start es in
+    let n = c.width_of.ensures in (
+      rw e (face_put_is (λ i. get_or es (get_or (places_of g k) i 0) 0) (λ i. c.args.start + get_or (places_of g k) i 0) c.put_face.ensures (uses_of g r k) (uses_long g r k ∙ sym n)
+          (λ i b. used_at g r k i (omega arith)) (λ i v b h. search rules) (λ i v b h. search rules)),
+      rw e (rw n at c.put_face.ensures.next),
+    )
 
 pub returns : goal.returns
-returns c =
-    after_lost c.args.points c.args.g c.args.t (entries c.args.part.now) c.args.k c.args.p c.args.work.now (sym c.is_present.ensures ∙ c.if-is_present.false)
+unfolding words_after progress_after
+returns c = let e = sym c.is_present.ensures ∙ c.if-is_present.false in (rw e refl, rw e refl)

@@ -5,22 +5,15 @@ use Rattle.primitiveset.proofs.Turns.{stretch_start, along_fits, along_more, str
 use Rattle.primitiveset.proofs.listing.pass_stretch.Goals as goal
 
 pub loop-k-init : goal.loop-k-init
-loop-k-init c =
-    (stretch_start c.requires.0 c.requires.1 c.requires.2 c.stretch_at-part.ensures refl, omega arith)
+loop-k-init c = stretch_start c.requires.0 c.requires.1 c.requires.2 c.requires.3 refl
 
 pub pass_primitive-p-requires : goal.pass_primitive-p-requires
 pass_primitive-p-requires c =
-    along_fits c.loop-k.invariant.0 (rw (entries_length c.stretch_at-part.result.now) (omega (arith, c.loop-k-test.true, c.count_in-n.ensures))) c.stretch_at-part.ensures c.requires.2
+    along_fits c.loop-k.invariant (rw (entries_length c.args.part.now) (omega (arith, c.loop-k-test.true, c.count_in-n.ensures))) c.requires.3 c.requires.2
 
 pub loop-k-preserved : goal.loop-k-preserved
 loop-k-preserved c =
-    (along_more c.loop-k.invariant.0 (rw (entries_length c.stretch_at-part.result.now) (omega (arith, c.loop-k-test.true, c.count_in-n.ensures))) c.pass_primitive-p.ensures.0 c.pass_primitive-p.ensures.1, omega (arith, c.loop-k-test.true))
-
-pub next_start-requires : goal.next_start-requires
-next_start-requires c = omega (arith, c.stretch_at-part.ensures.within, c.requires.2)
-
-pub shape_of-work : goal.shape_of-work
-shape_of-work c = c.loop-k.invariant.0.beside.len
+    along_more c.loop-k.invariant (rw (entries_length c.args.part.now) (omega (arith, c.loop-k-test.true, c.count_in-n.ensures))) c.pass_primitive-p.ensures.0 c.pass_primitive-p.ensures.1
 
 pub returns : goal.returns
-returns c = stretch_end c.loop-k.invariant.0 (rw (entries_length c.stretch_at-part.result.now) (omega (arith, c.loop-k-test.false, c.count_in-n.ensures))) (omega arith) c.next_start.ensures
+returns c = stretch_end c.loop-k.invariant (rw (entries_length c.args.part.now) (omega (arith, c.loop-k-test.false, c.count_in-n.ensures)))

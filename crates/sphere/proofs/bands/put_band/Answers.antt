@@ -10,16 +10,10 @@ pub put_quad-at-requires : goal.put_quad-at-requires
 unfolding sphere_band
 put_quad-at-requires c = (c.requires.0, c.requires.1, c.requires.2, c.loop-i-test.true, omega (arith, uneven_room (sphere_quad c.args.n c.args.k c.args.j) c.args.n c.loop-i.i c.loop-i-test.true, c.requires.3, c.loop-i.invariant.next, c.loop-i.invariant.size))
 
-pub overflow_add-i : goal.overflow_add-i
-overflow_add-i c = omega (arith, c.loop-i-test.true, c.requires.0)
-
 pub loop-i-preserved : goal.loop-i-preserved
 unfolding sphere_band
 loop-i-preserved c =
     uneven_more c.requires.3 c.loop-i.invariant c.loop-i-test.true c.put_quad-at.ensures.next c.put_quad-at.ensures.made
-
-pub shape_of-indices : goal.shape_of-indices
-shape_of-indices c = c.loop-i.invariant.size
 
 pub returns : goal.returns
 unfolding sphere_band

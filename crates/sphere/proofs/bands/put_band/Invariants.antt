@@ -1,10 +1,6 @@
-use Prim.Native.Nat.{◌-◌}
 use Rattle.lists.proofs.Pieces.{Uneven}
 use Rattle.sphere.specs.Sphere.{sphere_quad}
 use Rattle.sphere.proofs.bands.put_band.Given as goal
 
 abbrev pub invariant-loop-i : goal.invariant-loop-i
 invariant-loop-i l = Uneven (sphere_quad l.n l.k l.j) l.n l.initial.indices l.at-2 l.i l.at l.indices
-
-abbrev pub decreases-loop-i : goal.decreases-loop-i
-decreases-loop-i l = l.n - l.i

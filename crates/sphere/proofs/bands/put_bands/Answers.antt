@@ -9,14 +9,8 @@ loop-j-init c = uneven_none
 pub put_band-at-requires : goal.put_band-at-requires
 put_band-at-requires c = (c.requires.0, c.requires.1, c.loop-j-test.true, omega (arith, uneven_room (sphere_band c.args.n c.args.k) c.args.k c.loop-j.j c.loop-j-test.true, c.requires.2, c.loop-j.invariant.next, c.loop-j.invariant.size))
 
-pub overflow_add-j : goal.overflow_add-j
-overflow_add-j c = omega (arith, c.loop-j-test.true, c.requires.1)
-
 pub loop-j-preserved : goal.loop-j-preserved
 loop-j-preserved c = uneven_more (omega (arith, c.requires.2)) c.loop-j.invariant c.loop-j-test.true c.put_band-at.ensures.next c.put_band-at.ensures.made
-
-pub shape_of-indices : goal.shape_of-indices
-shape_of-indices c = c.loop-j.invariant.size
 
 pub returns : goal.returns
 returns c = uneven_all c.loop-j.invariant (omega (arith, c.loop-j-test.false))

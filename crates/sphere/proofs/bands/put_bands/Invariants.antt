@@ -1,10 +1,6 @@
-use Prim.Native.Nat.{◌-◌}
 use Rattle.lists.proofs.Pieces.{Uneven}
 use Rattle.sphere.specs.Sphere.{sphere_band}
 use Rattle.sphere.proofs.bands.put_bands.Given as goal
 
 abbrev pub invariant-loop-j : goal.invariant-loop-j
 invariant-loop-j l = Uneven (sphere_band l.n l.k) l.k l.initial.indices 0 l.j l.at l.indices
-
-abbrev pub decreases-loop-j : goal.decreases-loop-j
-decreases-loop-j l = l.k - l.j

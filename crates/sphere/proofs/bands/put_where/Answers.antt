@@ -1,11 +1,8 @@
-use Rattle.sphere.proofs.Adding.{wanted_room, wanted_added, unwanted_added}
+use Rattle.sphere.proofs.Adding.{wanted_added, unwanted_added}
 use Rattle.sphere.proofs.bands.put_where.Goals as goal
 
-pub put_three-requires : goal.put_three-requires
-put_three-requires c = wanted_room _ _ _ c.args.indices.now _ c.args.wanted c.if-wanted.true c.requires
-
 pub returns-then-wanted : goal.returns-then-wanted
-returns-then-wanted c = wanted_added _ _ _ _ _ _ c.if-wanted.true c.put_three.ensures
+returns-then-wanted c = wanted_added _ _ _ _ _ _ c.if-wanted.true c.put_all.ensures
 
 pub returns : goal.returns
 returns c = unwanted_added _ _ _ _ _ _ c.if-wanted.false

@@ -1,10 +1,8 @@
-use Prim.Native.Nat.{◌+◌, ◌-◌}
+use Prim.Native.Nat.{◌+◌}
 use Rattle.sphere.specs.Sphere.{sphere_row}
 use Rattle.parts.proofs.Pushing.{Filling}
+use Rattle.parts.specs.Pushed.{streams_of}
 use Rattle.sphere.proofs.rows.put_rows.Given as goal
 
 abbrev pub invariant-loop-j : goal.invariant-loop-j
-invariant-loop-j l = Filling l.c 0 (sphere_row l.r l.n l.k l.pairs) (l.n + 1) (l.k + 1) (record { positions = l.initial.positions; normals = l.initial.normals; textures = l.initial.textures }) l.j (record { positions = l.positions; normals = l.normals; textures = l.textures })
-
-abbrev pub decreases-loop-j : goal.decreases-loop-j
-decreases-loop-j l = l.k + 1 - l.j
+invariant-loop-j l = Filling l.c 0 (sphere_row l.r l.n l.k l.pairs) (l.n + 1) (l.k + 1) (streams_of l.initial.positions l.initial.normals l.initial.textures) l.j (streams_of l.positions l.normals l.textures)
