@@ -7,6 +7,7 @@ use Prim.Native.Nat.{ℕ, zero, suc, ◌+◌, ◌≤◌, ◌<◌}
 use native.Mathlib.Omega.{arith}
 use lib.ListN.{replicate}
 use lib.Ieee.{binary32, of_bits, to_bits}
+use Rattle.std.specs.Prelude.{None}
 use Rattle.block.specs.declared.stream.Stream.{Stream}
 use Rattle.block.specs.declared.crease.CreaseRule.TheVariants.{Own}
 use Rattle.lists.specs.Loops.{tab}
@@ -51,7 +52,7 @@ shared =
       ccw = true;
       convex = true;
       widths = record { normal = 3; colour = 0; texture = 0 };
-      attributes = record { supplied = false; normals = nowhere; colours = nowhere; alpha = false; missing = no4 };
+      attributes = record { normals = None; colours = nowhere; alpha = false; missing = no4 };
     }
 
 abbrev frame : Frame

@@ -1,11 +1,11 @@
 -- The loop over all corners: a corner's key is read as it was before the loop, one corner more, and what is left at the end.
 use mathlib.Core.Path.{◌≡◌, sym, ap₂, ◌∙◌}
-use mathlib.Core.Bool.{cond}
 use mathlib.Core.List.{List, [], ◌∷◌, ◌++◌}
 use Prim.Native.Nat.{ℕ, ◌+◌, ◌*◌, ◌≤◌, ◌<◌}
 use native.Mathlib.Omega.{arith}
 use lib.Dec.{T}
 use lib.ListN.{length, get_or, set, replicate, length-replicate}
+use Rattle.std.specs.Option.{option_map_or}
 use Rattle.block.specs.Stream.{get3_at, get4_at}
 use Rattle.lists.specs.Lists.{has, place, meet, firsts}
 use Rattle.mesh.specs.Words.{words2, words3, words4, no3}
@@ -93,7 +93,7 @@ module _ {t : CornerTables} {w m : List ℕ} (Q : Laid t (length w)) (S : Same t
   module _ (L : Lent) (a : Attributes) where
     normal_same : normal_at L a m t c ≡ normal_at L a w t c
     unfolding normal_at
-    normal_same = λ i. cond a.supplied (get3_at L.block L.coord a.normals (place_same i) (number_same i) no3) (generated_at L.floats c)
+    normal_same = λ i. option_map_or (λ s. get3_at L.block L.coord s (place_same i) (number_same i) no3) a.normals (generated_at L.floats c)
 
     colour_same : colour_at L a m t c ≡ colour_at L a w t c
     unfolding colour_at

@@ -1,5 +1,6 @@
 -- FORMAT 7, 11: the key of a corner, from the block, the generated normals and the tables.
-use Rattle.std.specs.Prelude.{cond, List, ◌++◌, ℕ, ◌+◌, ◌*◌, get_or, Float}
+use Rattle.std.specs.Prelude.{List, ◌++◌, ℕ, ◌+◌, ◌*◌, get_or, Float}
+use Rattle.std.specs.Option.{option_map_or}
 use Rattle.std.specs.Float.{binary32}
 use Rattle.std.specs.Float.Ieee.{to_bits}
 use Rattle.bits.specs.declared.Words2.{Words2}
@@ -46,8 +47,7 @@ generated_at floats c =
 -- FORMAT 10.2, PolyMesh::build (corner_normals): the supplied words at the corner's place or face, or the generated ones
 unfoldable pub normal_at : Lent → Attributes → List ℕ → CornerTables → ℕ → Words3
 normal_at L a w t c =
-    let supplied = get3_at L.block L.coord a.normals (place_at w t c) (number_at w t c) no3 in
-    cond a.supplied supplied (generated_at L.floats c)
+    option_map_or (λ s. get3_at L.block L.coord s (place_at w t c) (number_at w t c) no3) a.normals (generated_at L.floats c)
 
 -- FORMAT 7.2: its colour
 unfoldable pub colour_at : Lent → Attributes → List ℕ → CornerTables → ℕ → Words4

@@ -2,11 +2,10 @@
 use bits::Words4;
 use block::Stream;
 
-// Normals are read from the block where they are supplied. `missing` is the colour of a missing entry.
+// Where the block supplies no normals, there is no stream of them. `missing` is the colour of a missing entry.
 #[derive(Clone, Copy)]
 pub struct Attributes {
-    pub supplied: bool,
-    pub normals: Stream,
+    pub normals: Option<Stream>,
     pub colours: Stream,
     pub alpha: bool,
     pub missing: Words4,

@@ -68,13 +68,13 @@ fn normal_of<'a>(
     requires { Laid t (length work.now) × (c.0 < t.count) × (3 * t.count ≤ length floats.now) }
     ensures { result ≡ normal_at (record { block = block.now; coord = coord.now; floats = floats.now }) a work.now t c.0 }
 {
-    if a.supplied {
-        let place = place_of(work, t, c);
-        let face = number_of(work, t, c);
-        let none = Words3 { x: 0, y: 0, z: 0 };
-        return block::get(block, coord, a.normals, place, face, none);
-    }
-    generated_of(floats, c)
+    let Some(s) = a.normals else {
+        return generated_of(floats, c);
+    };
+    let place = place_of(work, t, c);
+    let face = number_of(work, t, c);
+    let none = Words3 { x: 0, y: 0, z: 0 };
+    block::get(block, coord, s, place, face, none)
 }
 
 fn colour_of<'a>(

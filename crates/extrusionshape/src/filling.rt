@@ -46,7 +46,14 @@ pub fn put_tables(
     list_faces(h, cap, work, t);
     let rule = s.crease;
     let attributes = shared.attributes;
-    prepare(work, t, attributes.supplied, shared.ccw, rule, floats);
+    prepare(
+        work,
+        t,
+        attributes.normals.is_some(),
+        shared.ccw,
+        rule,
+        floats,
+    );
     arcs_where(block, h, t, floats);
 }
 

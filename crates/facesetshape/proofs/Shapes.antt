@@ -1,5 +1,5 @@
 -- FORMAT 7, 8.1: a face set is a shape, and its mesh is that of what is listed.
-use mathlib.Core.Path.{◌≡◌, refl, ap, ◌∙◌}
+use mathlib.Core.Path.{◌≡◌, refl, sym, ap, ap₂, ◌∙◌}
 use mathlib.Core.Bool.{Bool, true, ◌||◌}
 use mathlib.Core.List.{List}
 use Prim.Native.Nat.{ℕ, ◌≤◌, ◌<◌}
@@ -20,12 +20,11 @@ use Rattle.mesh.specs.Texture.{fit_of, default_at}
 use Rattle.mesh.specs.Result.{makes_normals, makes_colours, makes_textures}
 use Rattle.mesh.proofs.Dense.{mesh_dense}
 use Rattle.tables.specs.Listed.{Listing, no_listing, faces_with, uses_at}
-use Rattle.soups.specs.Attributes.{attributes_of}
 use Rattle.soups.proofs.Streams.{rest_streamed}
 use Rattle.build.specs.declared.shared.Shared.{Shared}
 use Rattle.shaping.specs.Shared.{listed_shared, frame_by}
 use Rattle.shaping.specs.Shape.{Shape}
-use Rattle.shaping.proofs.Reading.{listed_shape}
+use Rattle.shaping.proofs.Reading.{listed_frame, listed_shape}
 use Rattle.faceset.specs.Listings.{corner_use}
 use Rattle.faceset.proofs.Faces.{dense_listed, listings_long}
 use Rattle.facesetshape.specs.Shape.{face_set_listings, face_set_texture}
@@ -54,10 +53,10 @@ module _ (missing : Words4) (bs : List ℕ) where
   mesh_own : face_set_mesh missing bs
       ≡ mesh (frame_by (entries (list_bytes bs (header_of bs) 0)) (listed_shared missing (header_of bs).convex (header_of bs)) (settings_of bs).crease)
       (faces_with (corner_use missing (rest_of bs) (list_bytes bs (header_of bs) 1)) (face_set_listings bs (header_of bs)))
-  unfolding face_set_mesh frame_of rest_of coord_in frame_by listed_shared attributes_of
+  unfolding face_set_mesh frame_of rest_of coord_in
   mesh_own =
       let F = frame_of (rest_of bs) in
-      mesh_dense F (faces_of missing (rest_of bs) (coord_in bs)) ∙ ap (mesh F) (dense_listed missing (rest_of bs) (coord_in bs))
+      mesh_dense F (faces_of missing (rest_of bs) (coord_in bs)) ∙ ap₂ mesh (sym (listed_frame _ missing (header_of bs).convex (header_of bs) _)) (dense_listed missing (rest_of bs) (coord_in bs))
 
   -- with the header, the settings, what the faces share and coordIndex as the code has them
   module _ {h : Header} {s : Settings} {sh : Shared} {coord : List ℕ} (eh : h ≡ header_of bs) (es : s ≡ settings_of bs) (q : sh ≡ listed_shared missing h.convex h) (c : coord ≡ list_bytes bs h 1) where

@@ -40,7 +40,14 @@ pub fn put_tables<'a>(
     list_faces(coord, points, work, t);
     let rule = s.crease;
     let attributes = shared.attributes;
-    prepare(work, t, attributes.supplied, shared.ccw, rule, floats);
+    prepare(
+        work,
+        t,
+        attributes.normals.is_some(),
+        shared.ccw,
+        rule,
+        floats,
+    );
 }
 
 // FORMAT 7.4: how the points in the tables fit.

@@ -1,5 +1,5 @@
 -- FORMAT 7, 8.3: a grid is a shape, and its mesh is that of what is listed.
-use mathlib.Core.Path.{◌≡◌, refl, sym, ap, ◌∙◌}
+use mathlib.Core.Path.{◌≡◌, refl, sym, ap, ap₂, ◌∙◌}
 use mathlib.Core.Bool.{true}
 use mathlib.Core.List.{List, []}
 use Prim.Native.Nat.{ℕ, ◌-◌, ◌*◌, ◌/◌, ◌%◌, ◌≤◌, ◌<◌}
@@ -23,12 +23,11 @@ use Rattle.mesh.specs.FaceSet.{convex_frame}
 use Rattle.mesh.specs.Grid.{x_dimension, z_dimension, grid_points, grid_default, grid_of, grid_mesh}
 use Rattle.tables.specs.Listed.{Use, Listing, no_use, no_listing, faces_with, uses_at}
 use Rattle.texture.specs.Corner.{texture_in}
-use Rattle.soups.specs.Attributes.{attributes_of}
 use Rattle.soups.proofs.Streams.{grid_streamed}
 use Rattle.build.specs.declared.shared.Shared.{Shared}
 use Rattle.shaping.specs.Shared.{listed_shared, frame_by}
 use Rattle.shaping.specs.Shape.{Shape}
-use Rattle.shaping.proofs.Reading.{listed_shape}
+use Rattle.shaping.proofs.Reading.{listed_frame, listed_shape}
 use Rattle.grid.specs.Listings.{quad_of, use_of, grid_listing, grid_listings, grid_use}
 use Rattle.grid.specs.Textures.{grid_texture}
 use Rattle.grid.proofs.Theorem.{grid_faces_lem, four_uses}
@@ -72,8 +71,8 @@ module _ (missing : Words4) (bs : List ℕ) where
   mesh_own : 2 ≤ x_dimension (header_of bs) → grid_mesh missing bs
       ≡ mesh (frame_by (grid_points (header_of bs) (settings_of bs) (entries (list_bytes bs (header_of bs) 3))) (listed_shared missing true (header_of bs)) (settings_of bs).crease)
       (faces_with (grid_use missing (grid_of bs)) (grid_listings (x_dimension (header_of bs)) (z_dimension (header_of bs))))
-  unfolding grid_mesh convex_frame grid_of frame_by listed_shared attributes_of
-  mesh_own h = ap (mesh (convex_frame (grid_of bs))) (grid_faces_lem missing (grid_of bs) h)
+  unfolding grid_mesh convex_frame grid_of
+  mesh_own h = ap₂ mesh (sym (listed_frame _ missing true (header_of bs) _)) (grid_faces_lem missing (grid_of bs) h)
 
   -- with the header, the settings, what the faces share and the empty coordIndex as the code has them
   module _ {h : Header} {s : Settings} {sh : Shared} (eh : h ≡ header_of bs) (es : s ≡ settings_of bs) (q : sh ≡ listed_shared missing true h) where

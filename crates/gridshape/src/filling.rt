@@ -47,7 +47,14 @@ pub fn put_tables(
     list_faces(h, work, t);
     let rule = s.crease;
     let attributes = shared.attributes;
-    prepare(work, t, attributes.supplied, shared.ccw, rule, floats);
+    prepare(
+        work,
+        t,
+        attributes.normals.is_some(),
+        shared.ccw,
+        rule,
+        floats,
+    );
 }
 
 // The table of texture, where texture is made.

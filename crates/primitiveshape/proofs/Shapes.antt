@@ -1,5 +1,5 @@
 -- FORMAT 6.4, 7, 8.5: a triangle, fan, strip or quad set is a shape, and its mesh is that of what is listed.
-use mathlib.Core.Path.{◌≡◌, refl, ap, ◌∙◌}
+use mathlib.Core.Path.{◌≡◌, refl, sym, ap, ap₂, ◌∙◌}
 use mathlib.Core.Bool.{true, false}
 use mathlib.Core.List.{List}
 use Prim.Native.Nat.{ℕ, ◌≤◌}
@@ -24,10 +24,10 @@ use Rattle.mesh.specs.Primitives.{listed_coord, primitive_mesh}
 use Rattle.mesh.proofs.Dense.{mesh_dense}
 use Rattle.mesh.proofs.Primitives.{listed_entries}
 use Rattle.tables.specs.Listed.{Listing, no_listing, faces_with}
-use Rattle.soups.specs.Attributes.{attributes_of}
 use Rattle.build.specs.declared.shared.Shared.{Shared}
 use Rattle.shaping.specs.Shared.{listed_shared, frame_by}
 use Rattle.shaping.specs.Shape.{Shape}
+use Rattle.shaping.proofs.Reading.{listed_frame}
 use Rattle.faceset.specs.Listings.{corner_use}
 use Rattle.primitiveset.proofs.Faces.{listings_long}
 use Rattle.primitiveset.proofs.Join.{Plain, join}
@@ -59,11 +59,11 @@ module _ (missing : Words4) (g : Topology) (bs : List ℕ) where
       → primitive_mesh missing g bs
       ≡ mesh (frame_by (entries (list_bytes bs (header_of bs) 0)) (listed_shared missing true (header_of bs)) (settings_of bs).crease)
       (faces_with (corner_use missing (rest_of bs) (list_bytes bs (header_of bs) 1)) (listings_in g bs (header_of bs)))
-  unfolding primitive_mesh convex_frame rest_of coord_in frame_by listed_shared attributes_of
+  unfolding primitive_mesh convex_frame rest_of coord_in
   mesh_own k e low =
       let F = convex_frame (rest_of bs) in
       mesh_dense F (faces_of missing (rest_of bs) (listed_coord g bs))
-      ∙ ap (mesh F) (join missing (rest_of bs) (plain_rest k e) low g (coord_in bs) (listed_coord g bs) (listed_entries g bs))
+      ∙ ap₂ mesh (sym (listed_frame _ missing true (header_of bs) _)) (join missing (rest_of bs) (plain_rest k e) low g (coord_in bs) (listed_coord g bs) (listed_entries g bs))
 
   -- with the header, the settings, what the faces share and coordIndex as the code has them
   module _ {h : Header} {s : Settings} {sh : Shared} {coord : List ℕ} (eh : h ≡ header_of bs) (es : s ≡ settings_of bs) (q : sh ≡ listed_shared missing true h) (c : coord ≡ list_bytes bs h 1) where

@@ -39,5 +39,12 @@ pub fn put_tables<'a>(
     list_primitives(coord, points, g, work, t);
     let rule = s.crease;
     let attributes = shared.attributes;
-    prepare(work, t, attributes.supplied, shared.ccw, rule, floats);
+    prepare(
+        work,
+        t,
+        attributes.normals.is_some(),
+        shared.ccw,
+        rule,
+        floats,
+    );
 }

@@ -1,25 +1,35 @@
 -- FORMAT 5, 7, 8: shapes whose corners read the block's lists, and shapes whose block lists no attribute.
 use mathlib.Core.Path.{◌≡◌, refl, sym, ap, ◌∙◌}
-use mathlib.Core.Bool.{Bool, true, false, ◌||◌, cond, true≢false}
+use mathlib.Core.Bool.{Bool, true, false, ◌||◌, cond}
 use mathlib.Core.Logic.{inr}
 use mathlib.Core.List.{List}
 use Prim.Native.Nat.{ℕ, ◌≤◌, ◌<◌}
 use native.Mathlib.Omega.{arith}
 use lib.ListN.{length, get_or}
+use Rattle.std.proofs.lemmas.Option.{none-some}
 use Rattle.bits.specs.declared.Words2.{Words2}
 use Rattle.bits.specs.declared.Words4.{Words4}
+use Rattle.block.specs.declared.crease.CreaseRule.{CreaseRule}
 use Rattle.block.specs.declared.header.Header.{Header}
+use Rattle.block.specs.Stream.{stream_of}
 use Rattle.mesh.specs.Words.{no2, no4}
 use Rattle.mesh.specs.Soup.{Corner, gathered}
 use Rattle.mesh.specs.FaceSet.{Rest, corner_by}
 use Rattle.mesh.specs.Result.{makes_normals, makes_colours, makes_textures}
 use Rattle.tables.specs.Listed.{Use, Listing, no_use, no_listing, uses_at}
-use Rattle.soups.specs.Attributes.{face_widths, Streamed}
-use Rattle.soups.proofs.Streams.{corner_use, reads_of, untextured}
+use Rattle.soups.specs.Attributes.{attributes_of, face_widths, Streamed}
+use Rattle.soups.proofs.Streams.{is_some_then, corner_use, reads_of, untextured}
 use Rattle.texture.specs.Corner.{texture_in}
 use Rattle.texture.proofs.Streams.{texture_rest}
-use Rattle.shaping.specs.Shared.{listed_shared, plain_widths, plain_attributes, plain_shared}
+use Rattle.shaping.specs.Shared.{listed_shared, plain_widths, plain_attributes, plain_shared, frame_by}
 use Rattle.shaping.specs.Shape.{Shape}
+
+-- the frame of listed faces: normals are supplied where the block lists them
+pub listed_frame : (points : List ℕ) (missing : Words4) (convex : Bool) (h : Header) (rule : CreaseRule)
+    → frame_by points (listed_shared missing convex h) rule ≡ record { points = points; ccw = h.ccw; convex = convex; supplied = h.normals; crease = rule }
+unfolding frame_by listed_shared attributes_of
+listed_frame points missing convex h rule =
+    λ i. record { points = points; ccw = h.ccw; convex = convex; supplied = is_some_then h.normals (stream_of h h.normal_per_vertex 4) i; crease = rule }
 
 -- `default` is the default texture of a point; f may go by the point alone where that is the place too
 pub listed_shape : (missing : Words4) (R : Rest) (bs coord : List ℕ) (default : ℕ → Words2) (convex : Bool) (ls : List Listing) {f : ℕ → Use → Words2} → Streamed bs R
@@ -53,7 +63,7 @@ pub plain_shape : (bs coord : List ℕ) (h : Header) (convex : Bool) (ring : ℕ
 unfolding plain_shared plain_widths plain_attributes
 plain_shape bs coord h convex ring ls {corner = corner} K long at bleak same bare = record {
   long = long;
-  reads = λ floats. record { point = at; given = λ q. absurd (true≢false (sym q)); normal = refl; colour = inr (refl, bleak) };
+  reads = λ floats. record { point = at; given = λ s e. absurd (none-some s e); normal = refl; colour = inr (refl, bleak) };
   texture = same;
   bare = go h.need_uvs refl;
   normals = K.0;

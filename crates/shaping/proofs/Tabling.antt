@@ -7,6 +7,7 @@ use native.Mathlib.Omega.{arith}
 use native.Mathlib.Nat.{le_refl}
 use lib.ListN.{length, take}
 use lib.Ieee.{Float}
+use Rattle.std.specs.Prelude.{is_some}
 use Rattle.bits.specs.declared.Words2.{Words2}
 use Rattle.block.specs.declared.crease.CreaseRule.{CreaseRule}
 use Rattle.lists.specs.Parts.{spliced}
@@ -41,7 +42,7 @@ prepared_front P q = record { kept = P.kept; numbers = P.numbers; normals = q �
 module _ {points : List ℕ} {ls : List Listing} {sh : Shared} {rule : CreaseRule} {t : Plan} where
   -- the points, then the faces, then what is made ready
   pub tabled : {w w₁ w₂ w₃ : List ℕ} {d d₁ e : List Float} → Room (length w) t → (length w₁ ≡ length w) × (points_in w₁ t ≡ points) → Beside t w₁ w₂ → Listed w₂ t ls
-      → Prepared sh.attributes.supplied sh.ccw rule t w₂ w₃ d₁ e → length e ≡ length d → Tabled points ls sh rule t w w₃ d e
+      → Prepared (is_some sh.attributes.normals) sh.ccw rule t w₂ w₃ d₁ e → length e ≡ length d → Tabled points ls sh rule t w w₃ d e
   unfolding points_in
   tabled {w} {w₁} {w₂} {w₃} {d} {d₁} R G B E Q n =
       let l = G.0 in

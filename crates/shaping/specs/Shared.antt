@@ -1,5 +1,5 @@
 -- FORMAT 5, 7, 8: what the faces of a shape share, where the block lists attributes and where it lists none.
-use Rattle.std.specs.Prelude.{Bool, false, cond, List, ℕ}
+use Rattle.std.specs.Prelude.{Bool, None, is_some, cond, List, ℕ}
 use Rattle.bits.specs.declared.Words4.{Words4}
 use Rattle.block.specs.declared.crease.CreaseRule.{CreaseRule}
 use Rattle.block.specs.declared.header.Header.{Header}
@@ -19,12 +19,11 @@ listed_shared missing convex h = record { ccw = h.ccw; convex = convex; widths =
 unfoldable pub plain_widths : Header → Widths
 plain_widths h = record { normal = 3; colour = 0; texture = cond h.need_uvs 2 0 }
 
--- FORMAT 8.4, extrusion (pm): no normals are supplied; the streams are not read
+-- FORMAT 8.4, extrusion (pm): no normals are supplied; the colours are not read
 unfoldable pub plain_attributes : Header → Attributes
 plain_attributes h =
     record {
-      supplied = false;
-      normals = stream_of h h.normal_per_vertex 4;
+      normals = None;
       colours = stream_of h h.color_per_vertex 2;
       alpha = h.alpha;
       missing = no4;
@@ -36,4 +35,4 @@ plain_shared convex h = record { ccw = h.ccw; convex = convex; widths = plain_wi
 
 -- FORMAT 8, PolyMesh: the frame of the points, of what is shared and of the crease rule
 unfoldable pub frame_by : List ℕ → Shared → CreaseRule → Frame
-frame_by points sh rule = record { points = points; ccw = sh.ccw; convex = sh.convex; supplied = sh.attributes.supplied; crease = rule }
+frame_by points sh rule = record { points = points; ccw = sh.ccw; convex = sh.convex; supplied = is_some sh.attributes.normals; crease = rule }

@@ -1,5 +1,5 @@
 -- FORMAT 4, 7, 8: the plan of a shape, the room for it, and what the shape leaves in its tables.
-use Rattle.std.specs.Prelude.{◌≡◌, List, ℕ, ◌+◌, ◌*◌, ◌-◌, ◌^◌, ◌≤◌, ◌<◌, length, Float}
+use Rattle.std.specs.Prelude.{◌≡◌, is_some, List, ℕ, ◌+◌, ◌*◌, ◌-◌, ◌^◌, ◌≤◌, ◌<◌, length, Float}
 use Rattle.bits.specs.declared.Words2.{Words2}
 use Rattle.block.specs.declared.crease.CreaseRule.{CreaseRule}
 use Rattle.lists.specs.Parts.{Kept}
@@ -43,7 +43,7 @@ pub record Tabled (ps : List ℕ) (ls : List Listing) (sh : Shared) (rule : Crea
   pub before : List Float
   pub faces : Listed listed t ls
   pub points : points_in listed t ≡ ps
-  pub prepared : Prepared sh.attributes.supplied sh.ccw rule t listed w' before e
+  pub prepared : Prepared (is_some sh.attributes.normals) sh.ccw rule t listed w' before e
 
 -- FORMAT 7.1: corner c as it is listed
 abbrev pub use_in : List ℕ → Plan → ℕ → Use

@@ -3,7 +3,7 @@ ghost use Rattle.std.specs.Prelude.{◌≡◌, cond};
 ghost use Rattle.shaping.specs.Shared.{plain_attributes, listed_shared, plain_shared};
 
 use bits::Words4;
-use block::{Header, color_stream, normal_stream};
+use block::{Header, color_stream};
 use build::Shared;
 use corners::Attributes;
 use soups::{attributes_of, face_widths};
@@ -27,7 +27,6 @@ pub fn listed_shared(h: Header, missing: Words4, convex: bool) -> Shared
 fn plain_attributes(h: Header) -> Attributes
     ensures { result ≡ plain_attributes h }
 {
-    let normals = normal_stream(h);
     let colours = color_stream(h);
     let missing = Words4 {
         r: 0,
@@ -36,8 +35,7 @@ fn plain_attributes(h: Header) -> Attributes
         a: 0,
     };
     Attributes {
-        supplied: false,
-        normals,
+        normals: None,
         colours,
         alpha: h.alpha,
         missing,

@@ -6,6 +6,7 @@ use Prim.Native.Nat.{ℕ, suc, ◌+◌, ◌*◌, ◌≤◌, ◌<◌}
 use native.Mathlib.Omega.{arith}
 use lib.ListN.{length, get_or}
 use lib.Ieee.{Float}
+use Rattle.std.specs.Prelude.{is_some}
 use Rattle.lists.specs.Loops.{tab}
 use Rattle.lists.specs.Lists.{join_n}
 use Rattle.mesh.specs.Soup.{Corner, no_corner, Frame}
@@ -30,9 +31,9 @@ use Rattle.soups.proofs.Keyed.{three_at, keys_held}
 
 -- v the words as listed, w as made ready, w' with the texture; d the floats before
 module _ {L : Lent} {a : Attributes} {widths : Widths} {v w w' : List ℕ} {t : Plan} {ls : List Listing} {corner : ℕ → Use → Corner} {d : List Float} (F : Frame)
-    (E : Listed v t ls) (P : Prepared a.supplied F.ccw F.crease t v w d L.floats) (K : Kept (t.owners + t.count) w w')
+    (E : Listed v t ls) (P : Prepared (is_some a.normals) F.ccw F.crease t v w d L.floats) (K : Kept (t.owners + t.count) w w')
     (R : Reads L a widths t.ring corner) (T : Textures widths w' t ls corner)
-    (full : (j : ℕ) → j < t.faces → 0 < length (uses_at ls j)) (points : points_in v t ≡ F.points) (supplied : F.supplied ≡ a.supplied) where
+    (full : (j : ℕ) → j < t.faces → 0 < length (uses_at ls j)) (points : points_in v t ≡ F.points) (supplied : F.supplied ≡ is_some a.normals) where
   kept : Kept t.owners v w'
   kept = kept_then P.kept K (omega arith)
 
@@ -52,7 +53,7 @@ module _ {L : Lent} {a : Attributes} {widths : Widths} {v w w' : List ℕ} {t : 
       ap (λ (k : ℕ). owner_in w' t (k + i)) (start j (omega arith)) ∙ owner_kept K t (start_in v t j + i) (omega arith)
       ∙ P.numbers.at j (start_in v t j + i) h (omega arith) (omega arith) ∙ E.numbers j h
 
-  normals : a.supplied ≡ false → (j i : ℕ) → j < t.faces → i < length (get_or (faces_with corner ls) j [])
+  normals : is_some a.normals ≡ false → (j i : ℕ) → j < t.faces → i < length (get_or (faces_with corner ls) j [])
       → generated_at L.floats (start_in w' t j + i) ≡ corner_normal F (faces_with corner ls) j (get_or (faces_with corner ls) j []) (get_or (get_or (faces_with corner ls) j []) i no_corner)
   unfolding normals_after generated_at
   normals e j i h b =

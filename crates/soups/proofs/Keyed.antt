@@ -1,6 +1,6 @@
 -- FORMAT 11: the keys that are read from the tables are those of the soup's corners, face by face and corner by corner.
 use mathlib.Core.Path.{◌≡◌, refl, sym, ap, ap₂, ◌∙◌, subst}
-use mathlib.Core.Bool.{Bool, true, false, cond}
+use mathlib.Core.Bool.{Bool, false, cond}
 use mathlib.Core.Logic.{◌⊎◌, inl, inr, ⊎_elim}
 use mathlib.Core.List.{List, [], ◌++◌, map}
 use Prim.Native.Nat.{ℕ, suc, ◌+◌, ◌-◌, ◌≤◌, ◌<◌}
@@ -9,10 +9,13 @@ use native.Mathlib.Omega.{arith}
 use lib.ListN.{length, get_or, take, drop, length-map}
 use lib.Seq.{ext_get_or, get_or-take, get_or-drop}
 use lib.Ieee.{Float, binary32, to_bits}
+use Rattle.std.specs.Prelude.{Option, None, Some, is_some}
+use Rattle.std.specs.Option.{option_map_or}
 use Rattle.bits.specs.declared.Words2.{Words2}
 use Rattle.bits.specs.declared.Words3.{Words3}
 use Rattle.bits.specs.declared.Words4.{Words4}
 use Rattle.math.specs.Vector.{zero_f}
+use Rattle.block.specs.declared.stream.Stream.{Stream}
 use Rattle.block.specs.Stream.{get3_at, get4_at}
 use Rattle.lists.specs.Loops.{tab}
 use Rattle.lists.proofs.Tabs.{length_tab, get_or_tab}
@@ -96,9 +99,9 @@ three_at e m v h = λ i. record { x = (ap (λ (k : ℕ). to_bits binary32 (get_o
 
 -- the corners of listed faces, which read their attributes as the code does
 module _ {L : Lent} {a : Attributes} {widths : Widths} {ring : ℕ} {w : List ℕ} {t : Plan} {ls : List Listing} {corner : ℕ → Use → Corner}
-    (E : Listed w t ls) (R : Reads L a widths ring corner) (T : Textures widths w t ls corner) {F : Frame} (H : Holds w t F (faces_with corner ls)) (supplied : F.supplied ≡ a.supplied)
+    (E : Listed w t ls) (R : Reads L a widths ring corner) (T : Textures widths w t ls corner) {F : Frame} (H : Holds w t F (faces_with corner ls)) (supplied : F.supplied ≡ is_some a.normals)
     (numbers : (j i : ℕ) → j < t.faces → i < length (uses_at ls j) → owner_in w t (start_in w t j + i) ≡ (get_or ls j no_listing).number)
-    (normals : a.supplied ≡ false → (j i : ℕ) → j < t.faces → i < length (get_or (faces_with corner ls) j [])
+    (normals : is_some a.normals ≡ false → (j i : ℕ) → j < t.faces → i < length (get_or (faces_with corner ls) j [])
     → generated_at L.floats (start_in w t j + i) ≡ corner_normal F (faces_with corner ls) j (get_or (faces_with corner ls) j []) (get_or (get_or (faces_with corner ls) j []) i no_corner)) where
   module _ (j i : ℕ) (h : j < t.faces) (b : i < length (get_or (faces_with corner ls) j [])) where
     c : ℕ
@@ -138,18 +141,18 @@ module _ {L : Lent} {a : Attributes} {widths : Widths} {ring : ℕ} {w : List �
 
     normal_is : normal_at L a w (tables_of t) c ≡ corner_normal F (faces_with corner ls) j f q
     unfolding normal_at corner_normal c f q
-    normal_is = go a.supplied refl
+    normal_is = go a.normals refl
       where
-        read : Words3
-        read = get3_at L.block L.coord a.normals (place_at w (tables_of t) c) (number_at w (tables_of t) c) no3
+        read : Stream → Words3
+        read s = get3_at L.block L.coord s (place_at w (tables_of t) c) (number_at w (tables_of t) c) no3
 
-        go : (s : Bool) → a.supplied ≡ s → normal_at L a w (tables_of t) c ≡ corner_normal F (faces_with corner ls) j f q
-        go true e =
-            ap (λ (r : Bool). cond r read (generated_at L.floats c)) e
-            ∙ (λ z. get3_at L.block L.coord a.normals (place_is z) (number_is z) no3)
-            ∙ sym (R.given e n u) ∙ sym (ap (λ (x : Corner). x.given) is)
-            ∙ sym (ap (λ (r : Bool). cond r q.given (bits (generated F (faces_with corner ls) j f q.gather))) (supplied ∙ e))
-        go false e = ap (λ (r : Bool). cond r read (generated_at L.floats c)) e ∙ normals e j i h b
+        go : (o : Option Stream) → a.normals ≡ o → normal_at L a w (tables_of t) c ≡ corner_normal F (faces_with corner ls) j f q
+        go (Some s) e =
+            ap (λ (o : Option Stream). option_map_or read o (generated_at L.floats c)) e
+            ∙ (λ z. get3_at L.block L.coord s (place_is z) (number_is z) no3)
+            ∙ sym (R.given s e n u) ∙ sym (ap (λ (x : Corner). x.given) is)
+            ∙ sym (ap (λ (r : Bool). cond r q.given (bits (generated F (faces_with corner ls) j f q.gather))) (supplied ∙ ap is_some e))
+        go None e = ap (λ (o : Option Stream). option_map_or read o (generated_at L.floats c)) e ∙ normals (ap is_some e) j i h b
 
     words_normal : three (seg (words_at L a w (tables_of t) c) 0 widths.normal) ≡ corner_normal F (faces_with corner ls) j f q
     unfolding words_at

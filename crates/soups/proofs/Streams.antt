@@ -6,8 +6,12 @@ use mathlib.Core.List.{List}
 use Prim.Native.Nat.{ℕ}
 use native.Mathlib.Omega.{arith}
 use lib.Ieee.{Float}
+use Rattle.std.specs.Prelude.{Some, is_some}
+use Rattle.std.specs.Bool.{then_some}
+use Rattle.std.proofs.lemmas.Option.{none-some, same_Some}
 use Rattle.bits.specs.declared.Words2.{Words2}
 use Rattle.bits.specs.declared.Words4.{Words4}
+use Rattle.block.specs.declared.stream.Stream.{Stream}
 use Rattle.block.specs.Kind.{is_indexed}
 use Rattle.block.specs.Header.{header_of}
 use Rattle.block.specs.Stream.{stream_of, number_at, get3_at, get4_at}
@@ -20,6 +24,15 @@ use Rattle.mesh.specs.Grid.{grid_of}
 use Rattle.tables.specs.Listed.{Use}
 use Rattle.soups.specs.Keyed.{Reads}
 use Rattle.soups.specs.Attributes.{attributes_of, face_widths, Streamed}
+
+-- whether there is a stream, and which
+pub is_some_then : {A : Type 0} (b : Bool) (x : A) → is_some (then_some b x) ≡ b
+is_some_then true x = refl
+is_some_then false x = refl
+
+then_some_is : {A : Type 0} (b : Bool) (x y : A) → then_some b x ≡ Some y → (b ≡ true) × (x ≡ y)
+then_some_is true x y e = (refl, same_Some x y e)
+then_some_is false x y e = absurd (none-some y e)
 
 -- a corner at its use, with a default texture by its point
 abbrev pub corner_use : Words4 → Rest → List ℕ → (ℕ → Words2) → ℕ → Use → Corner
@@ -46,7 +59,9 @@ module _ (missing : Words4) (R : Rest) (bs coord : List ℕ) (floats : List Floa
   unfolding attributes_of face_widths corner_by
   reads_of = record {
     point = λ n u. (refl, sym (gathered_alone u.point));
-    given = λ e n u. normal_read e n u.place;
+    given = λ s e n u.
+        let p = then_some_is R.head.normals (stream_of R.head R.head.normal_per_vertex 4) s e in
+        normal_read p.0 n u.place ∙ ap (λ (s : Stream). get3_at bs coord s u.place n no3) p.1;
     normal = refl;
     colour = go R.head.colors refl;
   }

@@ -1,5 +1,6 @@
 -- FORMAT 5, 7: where the corners of a face set or a grid get their attributes, and which are made.
 use Rattle.std.specs.Prelude.{◌≡◌, true, ◌||◌, cond, List, ℕ}
+use Rattle.std.specs.Bool.{then_some}
 use Rattle.bits.specs.declared.Words4.{Words4}
 use Rattle.block.specs.declared.header.Header.{Header}
 use Rattle.block.specs.Stream.{stream_of, values_in, index_in}
@@ -11,8 +12,7 @@ use Rattle.corners.specs.declared.attributes.Attributes.{Attributes}
 unfoldable pub attributes_of : Words4 → Header → Attributes
 attributes_of missing h =
     record {
-      supplied = h.normals;
-      normals = stream_of h h.normal_per_vertex 4;
+      normals = then_some h.normals (stream_of h h.normal_per_vertex 4);
       colours = stream_of h h.color_per_vertex 2;
       alpha = h.alpha;
       missing = missing;

@@ -1,5 +1,6 @@
 -- FORMAT 7, 11: how the corners of listed faces get their attributes, and that the tables have them.
-use Rattle.std.specs.Prelude.{◌≡◌, true, ◌⊎◌, List, ℕ, ◌+◌, ◌<◌, length, get_or}
+use Rattle.std.specs.Prelude.{◌≡◌, Some, ◌⊎◌, List, ℕ, ◌+◌, ◌<◌, length, get_or}
+use Rattle.block.specs.declared.stream.Stream.{Stream}
 use Rattle.block.specs.Stream.{get3_at, get4_at}
 use Rattle.mesh.specs.Words.{no2, no3, no4}
 use Rattle.mesh.specs.Soup.{Corner, gathered}
@@ -15,7 +16,7 @@ use Rattle.corners.specs.Corner.{Lent, texture_at}
 -- block has at its place or face; its colour and texture, where they are made
 pub record Reads (L : Lent) (a : Attributes) (widths : Widths) (ring : ℕ) (corner : ℕ → Use → Corner) : Type 0 where
   pub point : (n : ℕ) (u : Use) → ((corner n u).point ≡ u.point) × ((corner n u).gather ≡ gathered ring u.point)
-  pub given : a.supplied ≡ true → (n : ℕ) (u : Use) → (corner n u).given ≡ get3_at L.block L.coord a.normals u.place n no3
+  pub given : (s : Stream) → a.normals ≡ Some s → (n : ℕ) (u : Use) → (corner n u).given ≡ get3_at L.block L.coord s u.place n no3
   pub normal : widths.normal ≡ 3
   pub colour : ((widths.colour ≡ 4) × ((n : ℕ) (u : Use) → (corner n u).colour ≡ get4_at L.block L.coord a.colours a.alpha u.place n a.missing))
       ⊎ ((widths.colour ≡ 0) × ((n : ℕ) (u : Use) → (corner n u).colour ≡ no4))

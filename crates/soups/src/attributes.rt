@@ -13,8 +13,7 @@ pub fn attributes_of(h: Header, missing: Words4) -> Attributes
     let normals = normal_stream(h);
     let colours = color_stream(h);
     Attributes {
-        supplied: h.normals,
-        normals,
+        normals: h.normals.then_some(normals),
         colours,
         alpha: h.alpha,
         missing,

@@ -21,6 +21,6 @@ arcs_where-requires c =
 
 pub returns : goal.returns
 returns c = (
-  tabled c.requires.1.room (points_there _ c.requires.0 c.requires.1 c.put_points.ensures) c.list_faces.ensures.0 c.list_faces.ensures.1 (prepared_front c.prepare.ensures c.arcs_where.ensures.1) (c.arcs_where.auto.floats ∙ c.prepare.auto.floats),
+  tabled c.requires.1.room (points_there _ c.requires.0 c.requires.1 c.put_points.ensures) c.list_faces.ensures.0 c.list_faces.ensures.1 (prepared_front (rw c.is_some.ensures at c.prepare.ensures) c.arcs_where.ensures.1) (c.arcs_where.auto.floats ∙ c.prepare.auto.floats),
   c.arcs_where.ensures.0,
 )

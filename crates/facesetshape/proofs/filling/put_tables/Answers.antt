@@ -16,4 +16,4 @@ prepare-requires c = (listed_sound c.list_faces.ensures.listed, c.requires.4)
 pub returns : goal.returns
 returns c =
     tabled c.requires.1.room (points_copied _ c.args.h c.list_part-list.ensures _ c.requires.1.room c.requires.1.spots c.requires.2 c.requires.3 c.put_points.ensures) c.list_faces.ensures.beside
-    (rw (← c.requires.0) c.list_faces.ensures.listed) c.prepare.ensures c.prepare.auto.floats
+    (rw (← c.requires.0) c.list_faces.ensures.listed) (rw c.is_some.ensures at c.prepare.ensures) c.prepare.auto.floats

@@ -16,4 +16,4 @@ prepare-requires c = (listed_sound c.list_primitives.ensures.listed, c.requires.
 pub returns : goal.returns
 returns c =
     tabled c.requires.1.room (points_copied _ c.args.h c.list_part-list.ensures _ c.requires.1.room c.requires.1.spots c.requires.2 c.requires.3 c.put_points.ensures) c.list_primitives.ensures.beside
-    (rw (← c.requires.0) c.list_primitives.ensures.listed) c.prepare.ensures c.prepare.auto.floats
+    (rw (← c.requires.0) c.list_primitives.ensures.listed) (rw c.is_some.ensures at c.prepare.ensures) c.prepare.auto.floats
