@@ -8,7 +8,7 @@ ghost use Rattle.mesh.specs.Sizes as sizes;
 ghost use Rattle.lists.specs.Parts.{seg, spliced, Added};
 ghost use Rattle.lines.specs.Steps.{last_of, vertex_at, pairs, run_pairs, Stepped, RunPut, Put};
 
-use block::{CornerNumber, PointNumber, VertexNumber, next_start, point_at, run_at};
+use block::{CornerNumber, PointNumber, VertexNumber, point_at, runs_in};
 use tables::wide;
 
 // How far the lines are put: the next place for an index, the next corner, and the vertex of the entry before, where that names a point.
@@ -102,19 +102,14 @@ pub fn put_lines(
         × (2 * sum_over (sizes.lines_after points false) (runs (entries coord.now)) ≤ length indices.old) }
     ensures { Put (run_pairs points (seg work.now named count) 0 (runs (entries coord.now))) result indices.old indices.new }
 {
-    let n = coord.len() / 4;
     let to = named + count;
     let mut w = Progress {
         at: 0,
         corner: CornerNumber(0),
         last: None,
     };
-    let mut start = 0;
-    // A while: the next start is where the run ends, so no range counts it.
-    while start < n {
-        let run = run_at(coord, start);
+    for (_, run) in runs_in(coord) {
         w = put_run(run, points, &work[named..to], w, indices);
-        start = next_start(start, run);
     }
     w.at
 }
