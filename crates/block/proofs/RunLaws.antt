@@ -15,7 +15,7 @@ use lib.Seq.{drop-cons, drop-drop}
 use Rattle.std.specs.List.{list_any}
 use Rattle.bits.specs.Bits.{table, entries}
 use Rattle.bits.proofs.Entries.{entries_length, entries_part}
-use Rattle.block.specs.Runs.{ends_run, Run, run_of, before, runs_from, runs, split_from, runs_left, run_length, run_at, RunPart, next_start, all_below, kept, faces, corners, triangles, sum_over}
+use Rattle.block.specs.Runs.{ends_run, Run, run_of, before, runs_from, runs, split_from, runs_left, run_length, run_at, RunPart, next_start, all_below, kept, faces, corners, triangles}
 use Rattle.block.specs.Stream.{is_negative}
 
 -- ---- the length of a run
@@ -154,22 +154,10 @@ module _ (bs : List ℕ) (s : ℕ) (r : List ℕ) (e : entries r ≡ run_at (ent
         let m : n ≡ s + (run_length (drop s (entries bs)) + 1) = omega (arith, run_size) in
         rw (m, e, runs_first s (drop s (entries bs)) (omega (arith, length-drop s (entries bs), entries_length bs)), drop-drop)
 
-    -- so for whatever a loop gathers from the runs
-    pub runs_turn : {A : Type 0} (f : List Run → A) → f (runs_left (entries bs) s) ≡ f (run_of s (entries r) ∷ runs_left (entries bs) n)
-    runs_turn f = ap f runs_step
-
-    pub sum_turn : (f : List ℕ → ℕ) → sum_over f (runs_left (entries bs) s) ≡ f (entries r) + sum_over f (runs_left (entries bs) n)
-    unfolding sum_over
-    sum_turn f = runs_turn (sum_over f)
-
 -- and its end: beyond the list nothing is left
 pub runs_over : (bs : List ℕ) (s : ℕ) → length bs / 4 ≤ s → runs_left (entries bs) s ≡ []
 unfolding runs_from
 runs_over bs s h = rw (drop_of_length-le (entries bs) {i = s} (omega (arith, entries_length bs)))
-
-pub sum_ended : (f : List ℕ → ℕ) (bs : List ℕ) (s t all : ℕ) → length bs / 4 ≤ s → t + sum_over f (runs_left (entries bs) s) ≡ all → t ≡ all
-unfolding sum_over
-sum_ended f bs s t all h p = omega (arith, ap (sum_over f) (runs_over bs s h))
 
 -- ---- kept faces
 

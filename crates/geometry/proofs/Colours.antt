@@ -2,7 +2,7 @@
 use mathlib.Core.Path.{◌≡◌, refl, ap, ◌∙◌}
 use mathlib.Core.Bool.{false, cond}
 use mathlib.Core.List.{List, [], ◌∷◌, ◌++◌, map}
-use mathlib.Core.Option.{none, some}
+use Rattle.std.specs.Prelude.{None, Some}
 use lib.Dec.{ltb}
 use lib.ListN.{replicate}
 use Prim.Native.Nat.{ℕ, ◌+◌, ◌*◌, ◌-◌}
@@ -66,7 +66,7 @@ module _ (w w' : Words4) (R : Rest) (absent : R.head.colors ≡ false) where
   items_unread : (coord : List ℕ) (num : ℕ) (r : Run) → items_of w R coord num r ≡ items_of w' R coord num r
   unfolding items_of item_of
   items_unread coord num r =
-      λ i. map_n (λ (k e : ℕ). let key : Key = record { point = e; normal = no3; colour = colour_unread coord num k i; texture = no2 } in cond (ltb e (point_count R.head)) (some key) none) r.start r.items
+      λ i. map_n (λ (k e : ℕ). let key : Key = record { point = e; normal = no3; colour = colour_unread coord num k i; texture = no2 } in cond (ltb e (point_count R.head)) (Some key) None) r.start r.items
 
   vertices_unread : (coord : List ℕ) → line_vertices w R coord ≡ line_vertices w' R coord
   unfolding line_vertices line_keys
@@ -82,7 +82,7 @@ module _ (w w' : Words4) (R : Rest) (absent : R.head.colors ≡ false) where
         normals = [];
         colours = map (λ (k : Key). k.colour) vs;
         textures = [];
-        indices = map (λ (k : Key). place same_key k vs) (join_n (λ (num : ℕ) (r : Run). joined none (items_unread coord num r i)) 0 (runs (entries coord)));
+        indices = map (λ (k : Key). place same_key k vs) (join_n (λ (num : ℕ) (r : Run). joined None (items_unread coord num r i)) 0 (runs (entries coord)));
       }
 
 -- ---- a block

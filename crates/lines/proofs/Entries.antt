@@ -1,14 +1,13 @@
 -- The loops that list the corners, over the entries of a run and over the runs; and what the tables then hold.
 use mathlib.Core.Path.{◌≡◌, refl, sym, ap, ◌∙◌}
 use mathlib.Core.List.{List, [], ◌∷◌, ◌++◌}
-use Prim.Native.Nat.{ℕ, suc, ◌+◌, ◌/◌, ◌≤◌, ◌<◌}
+use Prim.Native.Nat.{ℕ, suc, ◌+◌, ◌≤◌, ◌<◌}
 use native.Mathlib.Nat.{add-zero, suc-add, add-suc}
 use native.Mathlib.Numerals.{add-one}
 use native.Mathlib.Omega.{arith}
 use lib.ListN.{length, get_or, set, drop, drop_of_length-le, length-set}
 use Rattle.bits.specs.Bits.{entries}
-use Rattle.block.specs.Runs.{run_of, runs, runs_left, RunPart, next_start, sum_over}
-use Rattle.block.proofs.RunLaws.{runs_turn, runs_over}
+use Rattle.block.specs.Runs.{Run, run_of, runs, sum_over}
 use Rattle.lists.specs.Lists.{map_n, join_n}
 use Rattle.mesh.specs.Lines.{these, somes}
 use Rattle.mesh.specs.Sizes.{named}
@@ -77,24 +76,25 @@ module _ {p num s : ℕ} {es : List ℕ} {t : CornerTables} {c₀ : ℕ} {w₀ :
 
 -- ---- the runs
 
--- the runs before entry s, `num` of them, are passed, since the words were w₀; their list is bs
-pub record Listing (p : ℕ) (bs : List ℕ) (t : CornerTables) (w₀ : List ℕ) (num s c : ℕ) (w : List ℕ) : Type 0 where
-  pub left : Left (listed t) (line_uses p (entries bs)) 0 w₀ (join_n (run_uses p) num (runs_left (entries bs) s)) c w
+-- the runs rs of the list bs are left, the first of them as line `num`, since the words were w₀
+pub record Listing (p : ℕ) (bs : List ℕ) (t : CornerTables) (w₀ : List ℕ) (num : ℕ) (rs : List Run) (c : ℕ) (w : List ℕ) : Type 0 where
+  pub left : Left (listed t) (line_uses p (entries bs)) 0 w₀ (join_n (run_uses p) num rs) c w
 
-pub listing_start : {p : ℕ} {bs : List ℕ} {t : CornerTables} {w : List ℕ} → Listing p bs t w 0 0 0 w
+pub listing_start : {p : ℕ} {bs : List ℕ} {t : CornerTables} {w : List ℕ} → Listing p bs t w 0 (runs (entries bs)) 0 w
 unfolding line_uses
 listing_start {t = t} = record { left = left_all (listed t) }
 
-module _ {p : ℕ} {bs : List ℕ} {t : CornerTables} {w₀ : List ℕ} {num s c : ℕ} {w : List ℕ} (L : Listing p bs t w₀ num s c w) where
-  module _ {r : List ℕ} (B : RunPart bs s r) {n : ℕ} (q : n ≡ next_start s r) (h : s < length bs / 4) where
-    next_run : Split (join_n (run_uses p) num (runs_left (entries bs) s)) (run_uses p num (run_of s (entries r))) (join_n (run_uses p) (num + 1) (runs_left (entries bs) n))
+module _ {p : ℕ} {bs : List ℕ} {t : CornerTables} {w₀ : List ℕ} {num : ℕ} {rs : List Run} {c : ℕ} {w : List ℕ} (L : Listing p bs t w₀ num rs c w) where
+  -- the first of them is r
+  module _ {r : Run} {more : List Run} (F : rs ≡ r ∷ more) where
+    next_run : Split (join_n (run_uses p) num rs) (run_uses p num r) (join_n (run_uses p) (num + 1) more)
     unfolding join_n
-    next_run = record { is = rw add-one (runs_turn bs s r B.items n q h (join_n (run_uses p) num)) }
+    next_run = record { is = rw add-one (ap (join_n (run_uses p) num) F) }
 
-    pub listing_here : t.count ≡ sum_over (named p) (runs (entries bs)) → c + length (run_uses p num (run_of s (entries r))) ≤ t.count
+    pub listing_here : t.count ≡ sum_over (named p) (runs (entries bs)) → c + length (run_uses p num r) ≤ t.count
     listing_here e = omega (arith, left_here L.left next_run, length_uses p (entries bs))
 
-    pub listing_next : {c' : ℕ} {w' : List ℕ} → Added (listed t) (run_uses p num (run_of s (entries r))) c w c' w' → Listing p bs t w₀ (num + 1) n c' w'
+    pub listing_next : {c' : ℕ} {w' : List ℕ} → Added (listed t) (run_uses p num r) c w c' w' → Listing p bs t w₀ (num + 1) more c' w'
     listing_next A = record { left = left_next L.left next_run (listing t) (length_listed t _ _ _) A }
 
 -- ---- the tables
@@ -163,14 +163,14 @@ module _ (us : List LineUse) (t : CornerTables) (v : List ℕ) (Q : Laid t (leng
   listed_all : length us ≡ t.count → Holding us t v (listed t v 0 us) t.count
   listed_all n = holding_all us 0 v refl (omega arith) (record { kept = kept_all; points = table_none; places = table_none; numbers = table_none })
 
-pub listing_end : {p : ℕ} {bs : List ℕ} {t : CornerTables} {w₀ : List ℕ} {num s c : ℕ} {w : List ℕ} → Listing p bs t w₀ num s c w
-    → length bs / 4 ≤ s → Laid t (length w₀) → p ≡ t.spots → t.count ≡ sum_over (named p) (runs (entries bs)) → Listed p (entries bs) t w₀ w
+pub listing_end : {p : ℕ} {bs : List ℕ} {t : CornerTables} {w₀ : List ℕ} {num : ℕ} {rs : List Run} {c : ℕ} {w : List ℕ} → Listing p bs t w₀ num rs c w
+    → rs ≡ [] → Laid t (length w₀) → p ≡ t.spots → t.count ≡ sum_over (named p) (runs (entries bs)) → Listed p (entries bs) t w₀ w
 unfolding point_at place_at number_at join_n
-listing_end {p} {bs} {t} {w₀} {num} {s} L h Q q n =
+listing_end {p} {bs} {t} {w₀} {num} L h Q q n =
     let U = line_uses p (entries bs) in
     let l : length U ≡ t.count = length_uses p (entries bs) ∙ sym n in
     let H = listed_all U t w₀ Q l in
-    rw (left_end L.left (listing t) (ap (join_n (run_uses p) num) (runs_over bs s h))).made (record {
+    rw (left_end L.left (listing t) (ap (join_n (run_uses p) num) h)).made (record {
       kept = H.kept;
       points = H.points.at;
       places = H.places.at;

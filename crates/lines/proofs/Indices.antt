@@ -1,7 +1,7 @@
 -- FORMAT 6.3: the lines by the vertex numbers of the corners, run by run, are the mesh's indices.
 use mathlib.Core.Path.{◌≡◌, refl, sym, ap, ◌∙◌}
 use mathlib.Core.Bool.{Bool, true, false, cond}
-use mathlib.Core.Option.{Option, none, some}
+use Rattle.std.specs.Prelude.{Option, None, Some}
 use mathlib.Core.List.{List, [], ◌∷◌, ◌++◌, map, map-append}
 use Prim.Native.Nat.{ℕ, suc, ◌+◌}
 use native.Mathlib.Nat.{add-zero, suc-add, add-suc}
@@ -20,13 +20,13 @@ use Rattle.mesh.specs.Sizes.{named}
 use Rattle.lines.specs.Steps.{vertex_at, corner_after, pairs, run_pairs}
 
 through : (Key → ℕ) → Option Key → Option ℕ
-through f none = none
-through f (some a) = some (f a)
+through f None = None
+through f (Some a) = Some (f a)
 
-line_through : (f : Key → ℕ) (p : Option Key) (k : Key) → line (through f p) (some (f k)) ≡ map f (line p (some k))
+line_through : (f : Key → ℕ) (p : Option Key) (k : Key) → line (through f p) (Some (f k)) ≡ map f (line p (Some k))
 unfolding through
-line_through f none k = refl
-line_through f (some a) k = refl
+line_through f None k = refl
+line_through f (Some a) k = refl
 
 module _ (missing : Words4) (R : Rest) (coord : List ℕ) (f : Key → ℕ) (ns : List ℕ) where
   -- ns from number c on are the vertices of a run's corners, and then others
@@ -46,20 +46,20 @@ module _ (missing : Words4) (R : Rest) (coord : List ℕ) (f : Key → ℕ) (ns 
       go : (b : Bool) (prev : Option Key)
           → ((c : ℕ) (o : Option Key) → drop c ns ≡ map f (somes rest) ++ others
           → (pairs (point_count R.head) ns c (through f o) es ≡ map f (joined o rest)) × (drop (c + named (point_count R.head) es) ns ≡ others))
-          → drop c ns ≡ map f (these (cond b (some key) none) ++ somes rest) ++ others
-          → (line (through f prev) (cond b (some (get_or ns c 0)) none) ++ pairs (point_count R.head) ns (cond b (suc c) c) (cond b (some (get_or ns c 0)) none) es
-          ≡ map f (line prev (cond b (some key) none) ++ joined (cond b (some key) none) rest))
+          → drop c ns ≡ map f (these (cond b (Some key) None) ++ somes rest) ++ others
+          → (line (through f prev) (cond b (Some (get_or ns c 0)) None) ++ pairs (point_count R.head) ns (cond b (suc c) c) (cond b (Some (get_or ns c 0)) None) es
+          ≡ map f (line prev (cond b (Some key) None) ++ joined (cond b (Some key) None) rest))
           × (drop (c + cond b (suc (named (point_count R.head) es)) (named (point_count R.head) es)) ns ≡ others)
       go true prev ih q =
           let u = head_left ns c (f key) (map f (somes rest) ++ others) 0 q in
-          let g = ih (suc c) (some key) u.1 in (
-            ap (λ (n : ℕ). line (through f prev) (some n) ++ pairs (point_count R.head) ns (suc c) (some n) es) u.0
+          let g = ih (suc c) (Some key) u.1 in (
+            ap (λ (n : ℕ). line (through f prev) (Some n) ++ pairs (point_count R.head) ns (suc c) (Some n) es) u.0
                 ∙ (λ i. line_through f prev key i ++ g.0 i)
-                ∙ sym (map-append f (line prev (some key)) (joined (some key) rest)),
+                ∙ sym (map-append f (line prev (Some key)) (joined (Some key) rest)),
             ap (λ (j : ℕ). drop j ns) (add-suc c (named (point_count R.head) es) ∙ sym (suc-add c (named (point_count R.head) es))) ∙ g.1,
           )
-      go false none ih q = ih c none q
-      go false (some a) ih q = ih c none q
+      go false None ih q = ih c None q
+      go false (Some a) ih q = ih c None q
 
   ends_from : (rs : List Run) (num c : ℕ) → drop c ns ≡ map f (join_n (line_keys missing R coord) num rs)
       → run_pairs (point_count R.head) ns c rs ≡ map f (join_n (line_ends missing R coord) num rs)
@@ -67,7 +67,7 @@ module _ (missing : Words4) (R : Rest) (coord : List ℕ) (f : Key → ℕ) (ns 
   ends_from [] num c h = refl
   ends_from (r ∷ rs) num c h =
       let more = join_n (line_keys missing R coord) (suc num) rs in
-      let g = run_ends num (map f more) r.items r.start c none (h ∙ map-append f (line_keys missing R coord num r) more) in
+      let g = run_ends num (map f more) r.items r.start c None (h ∙ map-append f (line_keys missing R coord num r) more) in
       (λ i. g.0 i ++ ends_from rs (suc num) (c + named (point_count R.head) r.items) g.1 i)
       ∙ sym (map-append f (line_ends missing R coord num r) (join_n (line_ends missing R coord) (suc num) rs))
 

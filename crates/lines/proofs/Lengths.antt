@@ -1,7 +1,7 @@
 -- FORMAT 4, 6.3: how many indices the lines have: two a line.
 use mathlib.Core.Path.{◌≡◌, refl, ◌∙◌}
 use mathlib.Core.Bool.{Bool, true, false, cond}
-use mathlib.Core.Option.{Option, none, some}
+use Rattle.std.specs.Prelude.{Option, None, Some}
 use mathlib.Core.List.{List, [], ◌∷◌, ◌++◌}
 use Prim.Native.Nat.{ℕ, suc, ◌+◌, ◌*◌}
 use native.Mathlib.Omega.{arith}
@@ -14,8 +14,8 @@ use Rattle.lines.specs.Steps.{vertex_at, corner_after, pairs, run_pairs}
 
 -- whether the entry before names a point
 abbrev pub is_some : {A : Type 0} → Option A → Bool
-is_some none = false
-is_some (some a) = true
+is_some None = false
+is_some (Some a) = true
 
 module _ (p : ℕ) (numbers : List ℕ) where
   length_pairs : (es : List ℕ) (c : ℕ) (prev : Option ℕ) → length (pairs p numbers c prev es) ≡ 2 * lines_after p (is_some prev) es
@@ -24,16 +24,16 @@ module _ (p : ℕ) (numbers : List ℕ) where
   length_pairs (e ∷ es) c prev = go (ltb e p) prev (get_or numbers c 0) (length_pairs es)
     where
       go : (b : Bool) (prev : Option ℕ) (n : ℕ) → ((c : ℕ) (o : Option ℕ) → length (pairs p numbers c o es) ≡ 2 * lines_after p (is_some o) es)
-          → length (line prev (cond b (some n) none) ++ pairs p numbers (cond b (suc c) c) (cond b (some n) none) es)
+          → length (line prev (cond b (Some n) None) ++ pairs p numbers (cond b (suc c) c) (cond b (Some n) None) es)
           ≡ 2 * cond (is_some prev) (cond b (suc (lines_after p b es)) (lines_after p b es)) (lines_after p b es)
-      go true none n ih = ih (suc c) (some n)
-      go true (some a) n ih = omega (arith, ih (suc c) (some n))
-      go false none n ih = ih c none
-      go false (some a) n ih = ih c none
+      go true None n ih = ih (suc c) (Some n)
+      go true (Some a) n ih = omega (arith, ih (suc c) (Some n))
+      go false None n ih = ih c None
+      go false (Some a) n ih = ih c None
 
   pub length_lines : (rs : List Run) (c : ℕ) → length (run_pairs p numbers c rs) ≡ 2 * sum_over (lines_after p false) rs
   unfolding run_pairs sum_over
   length_lines [] c = refl
   length_lines (r ∷ rs) c =
       let d = c + named p r.items in
-      length-append (pairs p numbers c none r.items) (run_pairs p numbers d rs) ∙ omega (arith, length_pairs r.items c none, length_lines rs d)
+      length-append (pairs p numbers c None r.items) (run_pairs p numbers d rs) ∙ omega (arith, length_pairs r.items c None, length_lines rs d)

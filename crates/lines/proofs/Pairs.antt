@@ -1,11 +1,10 @@
 -- The loops that put the lines: over the entries of a run, and over the runs.
 use mathlib.Core.Path.{◌≡◌, sym, ap, ◌∙◌}
-use Rattle.std.specs.Prelude.{Option as Maybe, None, Some, IfSome}
+use Rattle.std.specs.Prelude.{Option, None, Some, IfSome}
 use Rattle.block.specs.declared.number.VertexNumber.{VertexNumber}
 use mathlib.Core.Bool.{false}
-use mathlib.Core.Option.{Option, none, some}
 use mathlib.Core.List.{List, [], ◌∷◌}
-use Prim.Native.Nat.{ℕ, ◌+◌, ◌*◌, ◌/◌, ◌^◌, ◌≤◌, ◌<◌}
+use Prim.Native.Nat.{ℕ, ◌+◌, ◌*◌, ◌^◌, ◌≤◌, ◌<◌}
 use native.Mathlib.Nat.{add-zero, zero-add}
 use native.Mathlib.Numerals.{add-one}
 use native.Mathlib.Omega.{arith}
@@ -13,8 +12,8 @@ use borrow.Author.Tests.{lt-ltb, le-ltb}
 use lib.Dec.{ltb}
 use lib.ListN.{length, get_or, drop, drop_of_length-le}
 use Rattle.bits.specs.Bits.{entries}
-use Rattle.block.specs.Runs.{runs, runs_left, RunPart, next_start, sum_over}
-use Rattle.block.proofs.RunLaws.{runs_turn, runs_over, sum_turn}
+use Rattle.block.specs.Runs.{Run, runs, sum_over}
+use Rattle.block.proofs.Walks.{sum_first}
 use Rattle.mesh.specs.Lines.{line}
 use Rattle.mesh.specs.Sizes.{named, lines_after}
 use Rattle.lists.proofs.Splices.{splice_start, splice_front}
@@ -28,31 +27,31 @@ use Rattle.lists.proofs.Putting.{Split, splices, Left, left_here, left_spliced, 
 
 -- ---- one line
 
-module _ (v : VertexNumber) (next : ℕ) {last : Maybe VertexNumber} where
-  pub line_two : last ≡ Some v → length (line (last_of last) (some next)) ≡ 2
+module _ (v : VertexNumber) (next : ℕ) {last : Option VertexNumber} where
+  pub line_two : last ≡ Some v → length (line (last_of last) (Some next)) ≡ 2
   unfolding last_of
   line_two e = rw e
 
-  pub line_put : last ≡ Some v → (l : List ℕ) (at : ℕ) {l' : List ℕ} → l' ≡ spliced l at (v.0 ∷ next ∷ []) → l' ≡ spliced l at (line (last_of last) (some next))
+  pub line_put : last ≡ Some v → (l : List ℕ) (at : ℕ) {l' : List ℕ} → l' ≡ spliced l at (v.0 ∷ next ∷ []) → l' ≡ spliced l at (line (last_of last) (Some next))
   unfolding last_of
   line_put e l at q = rw e q
 
-pub line_left : (next : ℕ) {last : Maybe VertexNumber} → last ≡ None → (l : List ℕ) (at : ℕ) → Added spliced (line (last_of last) (some next)) at l at l
+pub line_left : (next : ℕ) {last : Option VertexNumber} → last ≡ None → (l : List ℕ) (at : ℕ) → Added spliced (line (last_of last) (Some next)) at l at l
 unfolding last_of
 line_left next e l at = rw e (record { next = sym (add-zero at); made = splice_start l at })
 
-pub line_none : (prev : Option ℕ) (l : List ℕ) (at : ℕ) → Added spliced (line prev none) at l at l
-line_none none l at = record { next = sym (add-zero at); made = splice_start l at }
-line_none (some a) l at = record { next = sym (add-zero at); made = splice_start l at }
+pub line_none : (prev : Option ℕ) (l : List ℕ) (at : ℕ) → Added spliced (line prev None) at l at l
+line_none None l at = record { next = sym (add-zero at); made = splice_start l at }
+line_none (Some a) l at = record { next = sym (add-zero at); made = splice_start l at }
 
 -- ---- one entry
 
 module _ (p : ℕ) (numbers : List ℕ) (c : ℕ) {e : ℕ} where
-  pub vertex_here : e < p → vertex_at p numbers c e ≡ some (get_or numbers c 0)
+  pub vertex_here : e < p → vertex_at p numbers c e ≡ Some (get_or numbers c 0)
   unfolding vertex_at
   vertex_here h = rw (lt-ltb e p h)
 
-  pub vertex_past : p ≤ e → vertex_at p numbers c e ≡ none
+  pub vertex_past : p ≤ e → vertex_at p numbers c e ≡ None
   unfolding vertex_at
   vertex_past h = rw (le-ltb e p h)
 
@@ -71,7 +70,7 @@ module _ (p c : ℕ) {e : ℕ} where
 pub record Pairing (p : ℕ) (es numbers : List ℕ) (f : Progress) (o₀ : List ℕ) (k : ℕ) (w : Progress) (o : List ℕ) : Type 0 where
   pub fits : IfSome w.last (λ v. v.0 < 2 ^ 32)
   pub corners : w.corner.0 + named p (drop k es) ≡ f.corner.0 + named p es
-  pub left : Left spliced (pairs p numbers f.corner.0 none es) f.at o₀ (pairs p numbers w.corner.0 (last_of w.last) (drop k es)) w.at o
+  pub left : Left spliced (pairs p numbers f.corner.0 None es) f.at o₀ (pairs p numbers w.corner.0 (last_of w.last) (drop k es)) w.at o
 
 module _ {p : ℕ} {es numbers : List ℕ} {f : Progress} {o₀ : List ℕ} {k : ℕ} {w : Progress} {o : List ℕ} (P : Pairing p es numbers f o₀ k w o) where
   module _ (h : k < length es) where
@@ -90,11 +89,11 @@ module _ {p : ℕ} {es numbers : List ℕ} {f : Progress} {o₀ : List ℕ} {k :
     pub pairing_here : f.corner.0 + named p es ≤ length numbers → get_or es k 0 < p → w.corner.0 < length numbers
     pairing_here q l = omega (arith, corner_here p w.corner.0 l, corners_next)
 
-    pub pairing_room : f.at + length (pairs p numbers f.corner.0 none es) ≤ length o₀
+    pub pairing_room : f.at + length (pairs p numbers f.corner.0 None es) ≤ length o₀
         → w.at + length (line (last_of w.last) (vertex_at p numbers w.corner.0 (get_or es k 0))) ≤ length o
     pairing_room q = omega (arith, left_here P.left next_line, P.left.len)
 
-    pub pairing_next : f.at + length (pairs p numbers f.corner.0 none es) ≤ length o₀ → {r : Progress} {o' : List ℕ} → Stepped p (get_or es k 0) numbers w o r o' → Pairing p es numbers f o₀ (k + 1) r o'
+    pub pairing_next : f.at + length (pairs p numbers f.corner.0 None es) ≤ length o₀ → {r : Progress} {o' : List ℕ} → Stepped p (get_or es k 0) numbers w o r o' → Pairing p es numbers f o₀ (k + 1) r o'
     pairing_next q S =
         record {
           fits = S.fits;
@@ -113,37 +112,34 @@ module _ {p : ℕ} {es numbers : List ℕ} {f : Progress} {o₀ : List ℕ} {k :
 
 -- ---- the runs
 
--- the runs before entry s are passed, since the indices were o₀; their list is bs
-pub record Lining (p : ℕ) (bs numbers o₀ : List ℕ) (s : ℕ) (w : Progress) (o : List ℕ) : Type 0 where
-  pub corners : w.corner.0 + sum_over (named p) (runs_left (entries bs) s) ≡ sum_over (named p) (runs (entries bs))
-  pub left : Left spliced (run_pairs p numbers 0 (runs (entries bs))) 0 o₀ (run_pairs p numbers w.corner.0 (runs_left (entries bs) s)) w.at o
+-- the runs rs of the list bs are left, since the indices were o₀
+pub record Lining (p : ℕ) (bs numbers o₀ : List ℕ) (rs : List Run) (w : Progress) (o : List ℕ) : Type 0 where
+  pub corners : w.corner.0 + sum_over (named p) rs ≡ sum_over (named p) (runs (entries bs))
+  pub left : Left spliced (run_pairs p numbers 0 (runs (entries bs))) 0 o₀ (run_pairs p numbers w.corner.0 rs) w.at o
 
-module _ {p : ℕ} {bs numbers o₀ : List ℕ} {s : ℕ} {w : Progress} {o : List ℕ} (N : Lining p bs numbers o₀ s w o) where
-  module _ {r : List ℕ} (B : RunPart bs s r) {n : ℕ} (q : n ≡ next_start s r) (h : s < length bs / 4) where
-    run_line : Split (run_pairs p numbers w.corner.0 (runs_left (entries bs) s)) (pairs p numbers w.corner.0 none (entries r))
-        (run_pairs p numbers (w.corner.0 + named p (entries r)) (runs_left (entries bs) n))
+module _ {p : ℕ} {bs numbers o₀ : List ℕ} {rs : List Run} {w : Progress} {o : List ℕ} (N : Lining p bs numbers o₀ rs w o) where
+  -- the first of them is r
+  module _ {r : Run} {more : List Run} (F : rs ≡ r ∷ more) where
+    run_line : Split (run_pairs p numbers w.corner.0 rs) (pairs p numbers w.corner.0 None r.items) (run_pairs p numbers (w.corner.0 + named p r.items) more)
     unfolding run_pairs
-    run_line = record { is = runs_turn bs s r B.items n q h (run_pairs p numbers w.corner.0) }
-
-    named_turn : sum_over (named p) (runs_left (entries bs) s) ≡ named p (entries r) + sum_over (named p) (runs_left (entries bs) n)
-    named_turn = sum_turn bs s r B.items n q h (named p)
+    run_line = record { is = ap (run_pairs p numbers w.corner.0) F }
 
     -- there are numbers for its corners, and room for its lines
-    pub lining_here : length numbers ≡ sum_over (named p) (runs (entries bs)) → w.corner.0 + named p (entries r) ≤ length numbers
-    lining_here e = omega (arith, named_turn, N.corners)
+    pub lining_here : length numbers ≡ sum_over (named p) (runs (entries bs)) → w.corner.0 + named p r.items ≤ length numbers
+    lining_here e = omega (arith, sum_first (named p) F, N.corners)
 
-    pub lining_room : 2 * sum_over (lines_after p false) (runs (entries bs)) ≤ length o₀ → w.at + length (pairs p numbers w.corner.0 none (entries r)) ≤ length o
+    pub lining_room : 2 * sum_over (lines_after p false) (runs (entries bs)) ≤ length o₀ → w.at + length (pairs p numbers w.corner.0 None r.items) ≤ length o
     lining_room e = omega (arith, left_here N.left run_line, N.left.len, length_lines p numbers (runs (entries bs)) 0)
 
-    pub lining_next : 2 * sum_over (lines_after p false) (runs (entries bs)) ≤ length o₀ → {w' : Progress} {o' : List ℕ} → RunPut p (entries r) numbers w o w' o' → Lining p bs numbers o₀ n w' o'
+    pub lining_next : 2 * sum_over (lines_after p false) (runs (entries bs)) ≤ length o₀ → {w' : Progress} {o' : List ℕ} → RunPut p r.items numbers w o w' o' → Lining p bs numbers o₀ more w' o'
     lining_next e R =
         record {
-          corners = omega (arith, R.corner, named_turn, N.corners);
+          corners = omega (arith, R.corner, sum_first (named p) F, N.corners);
           left = rw R.corner (left_spliced N.left (omega (arith, length_lines p numbers (runs (entries bs)) 0, e)) run_line R.added);
         }
 
-  pub lining_end : length bs / 4 ≤ s → Put (run_pairs p numbers 0 (runs (entries bs))) w.at o₀ o
+  pub lining_end : rs ≡ [] → Put (run_pairs p numbers 0 (runs (entries bs))) w.at o₀ o
   unfolding run_pairs
-  lining_end h =
-      let A = left_end N.left splices (ap (run_pairs p numbers w.corner.0) (runs_over bs s h)) in
+  lining_end e =
+      let A = left_end N.left splices (ap (run_pairs p numbers w.corner.0) e) in
       record { count = A.next ∙ zero-add _; made = A.made ∙ splice_front o₀ (run_pairs p numbers 0 (runs (entries bs))) }

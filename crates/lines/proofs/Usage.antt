@@ -1,7 +1,7 @@
 -- FORMAT 6.3: how many corners a line set has, and that they are at points.
 use mathlib.Core.Path.{◌≡◌, refl, ap, ◌∙◌}
 use mathlib.Core.Bool.{Bool, true, false, cond}
-use mathlib.Core.Option.{none, some}
+use Rattle.std.specs.Prelude.{None, Some}
 use mathlib.Core.List.{List, [], ◌∷◌, ◌++◌}
 use Prim.Native.Nat.{ℕ, suc, ◌+◌, ◌≤◌, ◌<◌}
 use borrow.Author.Tests.{ltb-true, lt-ltb, le-ltb}
@@ -33,7 +33,7 @@ unfolding somes map_n use_of named
 length_run p num k [] = refl
 length_run p num k (e ∷ es) = go (ltb e p) _ _ _ (length_run p num (suc k) es)
   where
-    go : (b : Bool) (u : LineUse) (l : List LineUse) (n : ℕ) → length l ≡ n → length (these (cond b (some u) none) ++ l) ≡ cond b (suc n) n
+    go : (b : Bool) (u : LineUse) (l : List LineUse) (n : ℕ) → length l ≡ n → length (these (cond b (Some u) None) ++ l) ≡ cond b (suc n) n
     go true u l n h = ap suc h
     go false u l n h = h
 
@@ -55,7 +55,7 @@ below_run p num k [] = tt
 below_run p num k (e ∷ es) = go (ltb e p) refl _ (below_run p num (suc k) es)
   where
     go : (b : Bool) → ltb e p ≡ b → (l : List LineUse) → All (λ (u : LineUse). u.point < p) l
-        → All (λ (u : LineUse). u.point < p) (these (cond b (some (record { point = e; place = k; number = num })) none) ++ l)
+        → All (λ (u : LineUse). u.point < p) (these (cond b (Some (record { point = e; place = k; number = num })) None) ++ l)
     go true h l r = (ltb-true e p h, r)
     go false h l r = r
 

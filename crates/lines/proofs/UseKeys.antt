@@ -1,7 +1,7 @@
 -- FORMAT 6.3, 11: the keys of a line set's corners, from the corners as they are listed.
 use mathlib.Core.Path.{◌≡◌, refl, sym, ap, ◌∙◌}
 use mathlib.Core.Bool.{Bool, true, false, cond}
-use mathlib.Core.Option.{none, some}
+use Rattle.std.specs.Prelude.{None, Some}
 use mathlib.Core.List.{List, [], ◌∷◌, ◌++◌, map, map-append}
 use Prim.Native.Nat.{ℕ, suc}
 use lib.Dec.{ltb}
@@ -29,7 +29,7 @@ module _ (missing : Words4) (R : Rest) (coord : List ℕ) where
   keys_run num k (e ∷ es) = go (ltb e (point_count R.head)) (record { point = e; place = k; number = num }) _ _ (keys_run num (suc k) es)
     where
       go : (b : Bool) (u : LineUse) (l : List Key) (r : List LineUse) → l ≡ map key_for r
-          → these (cond b (some (key_for u)) none) ++ l ≡ map key_for (these (cond b (some u) none) ++ r)
+          → these (cond b (Some (key_for u)) None) ++ l ≡ map key_for (these (cond b (Some u) None) ++ r)
       go true u l r h = ap (λ (q : List Key). key_for u ∷ q) h
       go false u l r h = h
 

@@ -1,6 +1,5 @@
 -- FORMAT 6.3: the lines, one entry after another and one run after another.
-use Rattle.std.specs.Prelude.{◌≡◌, Option as Maybe, None, Some, IfSome, cond, List, [], ◌∷◌, ◌++◌, ℕ, suc, ◌+◌, ◌^◌, ◌<◌, ltb, length, get_or, drop}
-use Rattle.std.proofs.Math.Option.{Option, none, some}
+use Rattle.std.specs.Prelude.{◌≡◌, Option, None, Some, IfSome, cond, List, [], ◌∷◌, ◌++◌, ℕ, suc, ◌+◌, ◌^◌, ◌<◌, ltb, length, get_or, drop}
 use Rattle.block.specs.declared.number.VertexNumber.{VertexNumber}
 use Rattle.block.specs.Runs.{Run}
 use Rattle.mesh.specs.Lines.{line}
@@ -9,13 +8,13 @@ use Rattle.lists.specs.Parts.{spliced, Added}
 use Rattle.lines.specs.declared.pairing.Progress.{Progress}
 
 -- FORMAT 6.3, indexed_line_set (prev): the vertex of the entry before, where that names a point
-unfoldable pub last_of : Maybe VertexNumber → Option ℕ
-last_of None = none
-last_of (Some v) = some v.0
+unfoldable pub last_of : Option VertexNumber → Option ℕ
+last_of None = None
+last_of (Some v) = Some v.0
 
 -- FORMAT 6.3, indexed_line_set (idx): the vertex of entry e, where it names one of p points: `numbers` has the vertices of those that do, of which this is number c
 unfoldable pub vertex_at : ℕ → List ℕ → ℕ → ℕ → Option ℕ
-vertex_at p numbers c e = cond (ltb e p) (some (get_or numbers c 0)) none
+vertex_at p numbers c e = cond (ltb e p) (Some (get_or numbers c 0)) None
 
 -- the number of the next corner, once entry e is passed
 unfoldable pub corner_after : ℕ → ℕ → ℕ → ℕ
@@ -29,7 +28,7 @@ pairs p numbers c prev (e ∷ es) = let v = vertex_at p numbers c e in line prev
 -- FORMAT 6.3, indexed_line_set (split_runs): the lines of the runs, each from its own entries
 unfoldable pub run_pairs : ℕ → List ℕ → ℕ → List Run → List ℕ
 run_pairs p numbers c [] = []
-run_pairs p numbers c (r ∷ rs) = pairs p numbers c none r.items ++ run_pairs p numbers (c + named p r.items) rs
+run_pairs p numbers c (r ∷ rs) = pairs p numbers c None r.items ++ run_pairs p numbers (c + named p r.items) rs
 
 -- one entry: from the progress w and the indices o to r and o'
 pub record Stepped (p e : ℕ) (numbers : List ℕ) (w : Progress) (o : List ℕ) (r : Progress) (o' : List ℕ) : Type 0 where
@@ -40,7 +39,7 @@ pub record Stepped (p e : ℕ) (numbers : List ℕ) (w : Progress) (o : List ℕ
 
 -- one run, of the entries es
 pub record RunPut (p : ℕ) (es numbers : List ℕ) (w : Progress) (o : List ℕ) (r : Progress) (o' : List ℕ) : Type 0 where
-  pub added : Added spliced (pairs p numbers w.corner.0 none es) w.at o r.at o'
+  pub added : Added spliced (pairs p numbers w.corner.0 None es) w.at o r.at o'
   pub corner : r.corner.0 ≡ w.corner.0 + named p es
 
 -- the indices xs in front, r of them, and what was there beyond

@@ -1,6 +1,5 @@
 -- FORMAT 6.3, 7.1: the entries that name a point as the corners of a line set, and what it means that the tables hold them.
-use Rattle.std.specs.Prelude.{◌≡◌, cond, List, [], ◌∷◌, ℕ, suc, ◌+◌, ◌<◌, ltb, get_or, set}
-use Rattle.std.proofs.Math.Option.{Option, none, some}
+use Rattle.std.specs.Prelude.{◌≡◌, cond, List, [], ◌∷◌, ℕ, suc, ◌+◌, ◌<◌, ltb, get_or, set, Option, None, Some}
 use Rattle.block.specs.Runs.{Run, runs}
 use Rattle.lists.specs.Lists.{map_n, join_n}
 use Rattle.mesh.specs.Lines.{somes}
@@ -20,7 +19,7 @@ no_use = record { point = 0; place = 0; number = 0 }
 
 -- FORMAT 6.3, indexed_line_set (key): entry e at place k of line `num`: none where it names none of p points
 unfoldable pub use_of : ℕ → ℕ → ℕ → ℕ → Option LineUse
-use_of p num k e = let u : LineUse = record { point = e; place = k; number = num } in cond (ltb e p) (some u) none
+use_of p num k e = let u : LineUse = record { point = e; place = k; number = num } in cond (ltb e p) (Some u) None
 
 -- FORMAT 6.3, indexed_line_set (run): the corners of run r, which is line `num`
 unfoldable pub run_uses : ℕ → ℕ → Run → List LineUse

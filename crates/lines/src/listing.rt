@@ -8,7 +8,7 @@ ghost use Rattle.corners.specs.Laid.{Laid};
 ghost use Rattle.lists.specs.Parts.{Added};
 ghost use Rattle.lines.specs.Uses.{use_of, run_uses, listed_at, listed, Listed};
 
-use block::{CornerNumber, PointNumber, next_start, point_at, run_at};
+use block::{CornerNumber, PointNumber, point_at, runs_in};
 use corners::CornerTables;
 use tables::wide;
 
@@ -77,15 +77,8 @@ pub fn list_entries(coord: &[u8], points: u32, work: &mut [u32], t: CornerTables
         × (points ≡ t.spots) × (length coord.now / 4 ≤ 2 ^ 32) }
     ensures { Listed points (entries coord.now) t work.old work.new }
 {
-    let n = coord.len() / 4;
     let mut c = CornerNumber(0);
-    let mut line = 0;
-    let mut start = 0;
-    // A while: the next start is where the run ends, so no range counts it.
-    while start < n {
-        let run = run_at(coord, start);
+    for (line, (start, run)) in runs_in(coord).enumerate() {
         c = list_run(run, points, work, t, c, start, line);
-        line += 1;
-        start = next_start(start, run);
     }
 }

@@ -1,6 +1,5 @@
 // FORMAT 6.3: the lines in pairs of vertex numbers, run by run.
-ghost use Rattle.std.specs.Prelude.{◌≡◌, false, IfSome, ◌+◌, ◌*◌, ◌^◌, ◌<◌, ◌≤◌, length};
-ghost use Rattle.std.proofs.Math.Option.{none, some};
+ghost use Rattle.std.specs.Prelude.{◌≡◌, None, Some, false, IfSome, ◌+◌, ◌*◌, ◌^◌, ◌<◌, ◌≤◌, length};
 ghost use Rattle.bits.specs.Bits.{entries};
 ghost use Rattle.block.specs.Runs.{runs, sum_over};
 ghost use Rattle.mesh.specs.Lines.{line};
@@ -8,7 +7,7 @@ ghost use Rattle.mesh.specs.Sizes as sizes;
 ghost use Rattle.lists.specs.Parts.{seg, spliced, Added};
 ghost use Rattle.lines.specs.Steps.{last_of, vertex_at, pairs, run_pairs, Stepped, RunPut, Put};
 
-use block::{CornerNumber, PointNumber, VertexNumber, next_start, point_at, run_at};
+use block::{CornerNumber, PointNumber, VertexNumber, point_at, runs_in};
 use lists::put_all;
 use tables::wide;
 
@@ -22,8 +21,8 @@ pub struct Progress {
 
 // The line from the entry before to vertex `next`, if that entry names a point. The next place.
 fn put_line(indices: &mut [u32], at: usize, last: Option<VertexNumber>, next: VertexNumber) -> usize
-    requires { (at + length (line (last_of last) (some next.0)) ≤ length indices.old) × IfSome last (λ v. v.0 < 2 ^ 32) × (next.0 < 2 ^ 32) }
-    ensures { Added spliced (line (last_of last) (some next.0)) at indices.old result indices.new }
+    requires { (at + length (line (last_of last) (Some next.0)) ≤ length indices.old) × IfSome last (λ v. v.0 < 2 ^ 32) × (next.0 < 2 ^ 32) }
+    ensures { Added spliced (line (last_of last) (Some next.0)) at indices.old result indices.new }
 {
     match last {
         Some(v) => {
@@ -73,7 +72,7 @@ fn put_run(
     indices: &mut [u32],
 ) -> Progress
     requires { (from.corner.0 + sizes.named points (entries run.now) ≤ length numbers.now)
-        × (from.at + length (pairs points numbers.now from.corner.0 none (entries run.now)) ≤ length indices.old) }
+        × (from.at + length (pairs points numbers.now from.corner.0 None (entries run.now)) ≤ length indices.old) }
     ensures { RunPut points (entries run.now) numbers.now from indices.old result indices.new }
 {
     let n = run.len() / 4;
@@ -102,19 +101,14 @@ pub fn put_lines(
         × (2 * sum_over (sizes.lines_after points false) (runs (entries coord.now)) ≤ length indices.old) }
     ensures { Put (run_pairs points (seg work.now named count) 0 (runs (entries coord.now))) result indices.old indices.new }
 {
-    let n = coord.len() / 4;
     let to = named + count;
     let mut w = Progress {
         at: 0,
         corner: CornerNumber(0),
         last: None,
     };
-    let mut start = 0;
-    // A while: the next start is where the run ends, so no range counts it.
-    while start < n {
-        let run = run_at(coord, start);
+    for (_, run) in runs_in(coord) {
         w = put_run(run, points, &work[named..to], w, indices);
-        start = next_start(start, run);
     }
     w.at
 }

@@ -5,7 +5,7 @@ ghost use Rattle.block.specs.Runs.{runs, sum_over};
 ghost use Rattle.mesh.specs.Sizes as sizes;
 ghost use Rattle.lines.specs.Totals.{Counted};
 
-use block::{next_start, run_at};
+use block::runs_in;
 
 #[derive(Clone, Copy)]
 pub struct LineTotals {
@@ -49,17 +49,12 @@ pub fn line_totals(list: &[u8], points: u32) -> LineTotals
     ensures { (result.corners ≡ sum_over (sizes.named points) (runs (entries list.now)))
         × (result.lines ≡ sum_over (sizes.lines_after points false) (runs (entries list.now))) }
 {
-    let n = list.len() / 4;
-    let mut start: usize = 0;
     let mut corners: usize = 0;
     let mut lines: usize = 0;
-    // A while: the next start is where the run ends, so no range counts it.
-    while start < n {
-        let run = run_at(list, start);
+    for (_, run) in runs_in(list) {
         let t = run_totals(run, points);
         corners += t.corners;
         lines += t.lines;
-        start = next_start(start, run);
     }
     LineTotals { corners, lines }
 }

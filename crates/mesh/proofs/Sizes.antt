@@ -1,7 +1,7 @@
 -- FORMAT 4: P, C and N of a line set, a grid and an extrusion are the points, the corners and the indices of what its block makes.
 use mathlib.Core.Path.{◌≡◌, refl, ap, ap₂, ◌∙◌}
 use mathlib.Core.Bool.{Bool, true, false, cond}
-use mathlib.Core.Option.{Option, none, some}
+use Rattle.std.specs.Prelude.{Option, None, Some}
 use mathlib.Core.List.{List, [], ◌∷◌, ◌++◌, map, reverse}
 use Prim.Native.Nat.{ℕ, suc, ◌+◌, ◌-◌, ◌*◌}
 use native.Mathlib.Nat.{mul_comm}
@@ -40,20 +40,20 @@ sum_total f (r ∷ rs) = ap (λ (k : ℕ). f r.items + k) (sum_total f rs)
 -- ---- line set
 
 is_some : Option Key → Bool
-is_some none = false
-is_some (some k) = true
+is_some None = false
+is_some (Some k) = true
 
-one_key : (b : Bool) (q : Key) (l : List Key) (n : ℕ) → length l ≡ n → length (these (cond b (some q) none) ++ l) ≡ cond b (suc n) n
+one_key : (b : Bool) (q : Key) (l : List Key) (n : ℕ) → length l ≡ n → length (these (cond b (Some q) None) ++ l) ≡ cond b (suc n) n
 one_key true q l n h = ap suc h
 one_key false q l n h = h
 
 one_line : (b : Bool) (q : Key) (prev : Option Key) (os : List (Option Key)) (n : Bool → ℕ) → ((o : Option Key) → length (joined o os) ≡ 2 * n (is_some o))
-    → length (line prev (cond b (some q) none) ++ joined (cond b (some q) none) os) ≡ 2 * cond (is_some prev) (cond b (suc (n b)) (n b)) (n b)
+    → length (line prev (cond b (Some q) None) ++ joined (cond b (Some q) None) os) ≡ 2 * cond (is_some prev) (cond b (suc (n b)) (n b)) (n b)
 unfolding is_some
-one_line true q none os n h = h (some q)
-one_line true q (some k) os n h = omega (arith, h (some q))
-one_line false q none os n h = h none
-one_line false q (some k) os n h = h none
+one_line true q None os n h = h (Some q)
+one_line true q (Some k) os n h = omega (arith, h (Some q))
+one_line false q None os n h = h None
+one_line false q (Some k) os n h = h None
 
 module _ (missing : Words4) (R : Rest) (coord : List ℕ) where
   keys_length : (num k : ℕ) (es : List ℕ) → length (somes (map_n (item_of missing R coord num) k es)) ≡ named (point_count R.head) es
@@ -79,7 +79,7 @@ module _ (missing : Words4) (R : Rest) (coord : List ℕ) where
   unfolding line_indices line_ends items_of is_some
   lines_indices vs =
       length-map (join_n (line_ends missing R coord) 0 (runs (entries coord))) (λ (k : Key). place same_key k vs)
-      ∙ length_join_n (line_ends missing R coord) (λ (r : Run). 2 * lines_after (point_count R.head) false r.items) (λ num r. ends_length num r.start none r.items) 0 (runs (entries coord))
+      ∙ length_join_n (line_ends missing R coord) (λ (r : Run). 2 * lines_after (point_count R.head) false r.items) (λ num r. ends_length num r.start None r.items) 0 (runs (entries coord))
       ∙ times_total 2 (λ (r : Run). lines_after (point_count R.head) false r.items) (runs (entries coord))
       ∙ ap (λ (k : ℕ). 2 * k) (sum_total (lines_after (point_count R.head) false) (runs (entries coord)))
 

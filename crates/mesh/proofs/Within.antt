@@ -2,7 +2,7 @@
 use Prim.Native.Nat.{ℕ, suc, ◌+◌, ◌-◌, ◌*◌, ◌≤◌, ◌<◌}
 use mathlib.Core.Path.{◌≡◌, refl, sym, subst}
 use mathlib.Core.Bool.{Bool, true, false, ◌&&◌, cond, true≢false}
-use mathlib.Core.Option.{none, some}
+use Rattle.std.specs.Prelude.{None, Some}
 use mathlib.Core.List.{List, [], ◌∷◌, ◌++◌, map, reverse}
 use native.Mathlib.Nat.{mul_comm}
 use native.Mathlib.Omega.{arith}
@@ -81,7 +81,7 @@ keys_within missing R coord num k (e ∷ es) = go (ltb e (point_count R.head)) r
     q = record { point = e; normal = no3; colour = colour_of missing R coord num k; texture = no2 }
 
     go : (b : Bool) → ltb e (point_count R.head) ≡ b → Within (point_count R.head) (map corner_for (somes (map_n (item_of missing R coord num) (suc k) es)))
-        → Within (point_count R.head) (map corner_for (these (cond b (some q) none) ++ somes (map_n (item_of missing R coord num) (suc k) es)))
+        → Within (point_count R.head) (map corner_for (these (cond b (Some q) None) ++ somes (map_n (item_of missing R coord num) (suc k) es)))
     go true t rest = let l : e < point_count R.head = ltb-true _ _ t in ((l, l), rest)
     go false t rest = rest
 

@@ -1,6 +1,5 @@
 -- FORMAT 8.2, indexed_line_set: the mesh of a line set's block. ISO/IEC 14772-1, 6.24.
-use Rattle.std.specs.Prelude.{ℕ, true, cond, List, [], ◌∷◌, ◌++◌, map, ltb}
-use Rattle.std.proofs.Math.Option.{Option, none, some}
+use Rattle.std.specs.Prelude.{ℕ, true, cond, List, [], ◌∷◌, ◌++◌, map, ltb, Option, None, Some}
 use Rattle.bits.specs.Bits.{entries}
 use Rattle.bits.specs.declared.Words4.{Words4}
 use Rattle.block.specs.Runs.{Run, runs}
@@ -14,8 +13,8 @@ use Rattle.mesh.specs.FaceSet.{Rest, rest_of, coord_in, point_count, colour_of}
 module _ {A : Type 0} where
   -- FORMAT 6.3: those that are there
   abbrev pub these : Option A → List A
-  these none = []
-  these (some a) = a ∷ []
+  these None = []
+  these (Some a) = a ∷ []
 
   unfoldable pub somes : List (Option A) → List A
   somes [] = []
@@ -23,9 +22,9 @@ module _ {A : Type 0} where
 
   -- FORMAT 6.3: the line from one entry to the next: two ends, or none
   abbrev pub line : Option A → Option A → List A
-  line none o = []
-  line (some a) none = []
-  line (some a) (some b) = a ∷ b ∷ []
+  line None o = []
+  line (Some a) None = []
+  line (Some a) (Some b) = a ∷ b ∷ []
 
   -- FORMAT 6.3, indexed_line_set (prev): the lines along the entries, of which `prev` stands before the first
   unfoldable pub joined : Option A → List (Option A) → List A
@@ -36,7 +35,7 @@ module _ {A : Type 0} where
 unfoldable pub item_of : Words4 → Rest → List ℕ → ℕ → ℕ → ℕ → Option Key
 item_of missing R coord num k e =
     let key : Key = record { point = e; normal = no3; colour = colour_of missing R coord num k; texture = no2 } in
-    cond (ltb e (point_count R.head)) (some key) none
+    cond (ltb e (point_count R.head)) (Some key) None
 
 -- FORMAT 6.3: the entries of a run
 unfoldable pub items_of : Words4 → Rest → List ℕ → ℕ → Run → List (Option Key)
@@ -47,7 +46,7 @@ unfoldable pub line_keys : Words4 → Rest → List ℕ → ℕ → Run → List
 line_keys missing R coord num r = somes (items_of missing R coord num r)
 
 unfoldable pub line_ends : Words4 → Rest → List ℕ → ℕ → Run → List Key
-line_ends missing R coord num r = joined none (items_of missing R coord num r)
+line_ends missing R coord num r = joined None (items_of missing R coord num r)
 
 -- FORMAT 11, indexed_line_set (dedup): in the order of first meeting; line numbers count every run
 unfoldable pub line_vertices : Words4 → Rest → List ℕ → List Key

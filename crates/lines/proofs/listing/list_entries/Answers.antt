@@ -1,19 +1,39 @@
-use mathlib.Core.Path.{refl}
+use mathlib.Core.Path.{refl, ap}
 use native.Mathlib.Omega.{arith}
+use lib.ListN.{length}
+use Rattle.block.proofs.Walks.{walks_on}
 use Rattle.lines.proofs.Entries.{listing_start, listing_here, listing_next, listing_end}
 use Rattle.lines.proofs.listing.list_entries.Goals as goal
 
-pub loop-start-init : goal.loop-start-init
-loop-start-init c = (refl, omega arith, omega arith, listing_start)
+pub loop-line-init : goal.loop-line-init
+loop-line-init c =
+    rw (c.into_iter-line-iterator.ensures.into_iter_gives, c.enumerate-line-items.ensures.source, c.enumerate-line-items.ensures.count, c.runs_in.ensures) (record {
+      walk = record { list = refl; start = omega arith };
+      few = omega arith;
+      listing = listing_start;
+    })
 
 pub list_run-c-requires : goal.list_run-c-requires
 list_run-c-requires c =
-    let L = c.loop-start.invariant.3 in (rw L.left.len c.requires.0, listing_here L c.run_at-run.ensures refl c.loop-start-test.true c.requires.2, omega (arith, c.run_at-run.ensures.within, c.requires.4), omega (arith, c.requires.4))
+    let I = c.loop-line.invariant in
+    let S = c.in-Some.ensures.steps in
+    let G = S.0 in
+    let l = ap length I.walk.list in
+    let f = I.few in
+    rw (I.listing.left.len, S.1) (c.requires.0, listing_here I.listing G.first c.requires.2, omega (arith, G.here, G.part.within, G.passes.there, c.requires.4), omega (arith, G.passes.there, c.requires.4))
 
-pub loop-start-preserved : goal.loop-start-preserved
-loop-start-preserved c =
-    let L = c.loop-start.invariant.3 in (c.loop-start.invariant.0, omega arith, omega arith, listing_next L c.run_at-run.ensures c.next_start-start.ensures c.loop-start-test.true c.list_run-c.ensures)
+pub loop-line-preserved : goal.loop-line-preserved
+loop-line-preserved c =
+    let I = c.loop-line.invariant in
+    let S = c.in-Some.ensures.steps in
+    let G = S.0 in
+    let f = I.few in
+    rw S.2 (record {
+      walk = walks_on I.walk G.passes G.part.within;
+      few = omega (arith, G.passes.next);
+      listing = listing_next I.listing G.first (rw S.1 at c.list_run-c.ensures);
+    })
 
 pub returns : goal.returns
 returns c =
-    listing_end c.loop-start.invariant.3 c.loop-start-test.false c.requires.0 c.requires.3 c.requires.2
+    listing_end c.loop-line.invariant.listing c.in-None.ensures.steps.0 c.requires.0 c.requires.3 c.requires.2

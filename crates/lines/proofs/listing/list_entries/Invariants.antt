@@ -1,11 +1,15 @@
-use mathlib.Core.Path.{◌≡◌}
-use Prim.Native.Nat.{◌+◌, ◌-◌, ◌/◌, ◌≤◌}
-use lib.ListN.{length}
+use Prim.Native.Nat.{◌≤◌}
+use Rattle.std.specs.Iterator.Adapters.{enumerate_source, enumerate_count}
+use Rattle.block.specs.Walk.{rest}
+use Rattle.block.proofs.Walks.{Walks}
 use Rattle.lines.proofs.Entries.{Listing}
 use Rattle.lines.proofs.listing.list_entries.Given as goal
 
-abbrev pub invariant-loop-start : goal.invariant-loop-start
-invariant-loop-start l = (l.n ≡ length l.coord / 4) × (l.start ≤ l.n + 1) × (l.line ≤ l.start) × Listing l.points l.coord l.t l.initial.work l.line l.start l.c.0 l.work
-
-abbrev pub decreases-loop-start : goal.decreases-loop-start
-decreases-loop-start l = l.n - l.start
+abbrev pub invariant-loop-line : goal.invariant-loop-line
+invariant-loop-line l =
+    let w = enumerate_source l.line-iterator in
+    let n = enumerate_count l.line-iterator in record {
+      walk : Walks l.coord w.list.now w.start;
+      few : n ≤ w.start;
+      listing : Listing l.points l.coord l.t l.initial.work n (rest w) l.c.0 l.work;
+    }

@@ -1,5 +1,5 @@
 use mathlib.Core.Path.{sym, ap, ◌∙◌}
-use mathlib.Core.Option.{some}
+use Rattle.std.specs.Prelude.{Some}
 use native.Mathlib.Omega.{arith}
 use Rattle.lines.specs.Steps.{last_of}
 use Rattle.lines.proofs.Pairs.{line_none, vertex_here, vertex_past, corner_here, corner_past}
@@ -12,7 +12,7 @@ put_line-at-requires c =
 pub returns-then-e-points : goal.returns-then-e-points
 unfolding last_of
 returns-then-e-points c =
-    let v = vertex_here c.args.points c.args.numbers.now c.args.w.corner.0 c.if-e-points.true in record { added = rw (v, ← c.wide.ensures) c.put_line-at.ensures; corner = sym (corner_here _ _ c.if-e-points.true); last = ap some c.wide.ensures ∙ sym v; fits = omega (arith, c.wide.ensures, c.type_inv.numbers c.args.w.corner.0) }
+    let v = vertex_here c.args.points c.args.numbers.now c.args.w.corner.0 c.if-e-points.true in record { added = rw (v, ← c.wide.ensures) c.put_line-at.ensures; corner = sym (corner_here _ _ c.if-e-points.true); last = ap Some c.wide.ensures ∙ sym v; fits = omega (arith, c.wide.ensures, c.type_inv.numbers c.args.w.corner.0) }
 
 pub returns : goal.returns
 unfolding last_of

@@ -1,25 +1,33 @@
+use mathlib.Core.Path.{ap}
 use mathlib.Core.Bool.{false}
 use native.Mathlib.Omega.{arith}
+use lib.ListN.{length}
 use Rattle.bits.proofs.Entries.{entries_length}
-use Rattle.block.proofs.RunLaws.{sum_turn, sum_ended}
+use Rattle.block.proofs.Walks.{walks_on, sum_first, sum_end}
 use Rattle.mesh.specs.Sizes.{named, lines_after}
 use Rattle.lines.proofs.totals.line_totals.Goals as goal
 
 pub overflow_add-corners : goal.overflow_add-corners
-overflow_add-corners c = omega (arith, entries_length c.run_at-run.result.now)
+overflow_add-corners c =
+    let G = c.in-Some.ensures.steps in omega (arith, entries_length c.in-Some.run'.now, ap length c.loop-run.invariant.walk.list, G.part.within)
 
 pub overflow_add-lines : goal.overflow_add-lines
-overflow_add-lines c = omega (arith, entries_length c.run_at-run.result.now)
+overflow_add-lines c =
+    let G = c.in-Some.ensures.steps in omega (arith, entries_length c.in-Some.run'.now, ap length c.loop-run.invariant.walk.list, G.part.within)
 
-pub loop-start-preserved : goal.loop-start-preserved
-loop-start-preserved c =
-    let run = c.run_at-run.result.now in
-    let l = entries_length run in
-    let turn = sum_turn c.args.list.now c.loop-start.start run c.run_at-run.ensures.items _ c.next_start-start.ensures (omega arith) in
-    let cs = turn (named c.args.points) in
-    let ls = turn (lines_after c.args.points false) in
-    omega arith
+pub loop-run-preserved : goal.loop-run-preserved
+loop-run-preserved c =
+    let G = c.in-Some.ensures.steps in
+    let l = entries_length c.in-Some.run'.now in
+    record {
+      walk = walks_on c.loop-run.invariant.walk G.passes G.part.within;
+      corners_few = omega arith;
+      lines_few = omega arith;
+      corners_left = omega (arith, sum_first (named c.args.points) G.first);
+      lines_left = omega (arith, sum_first (lines_after c.args.points false) G.first);
+    }
 
 pub returns : goal.returns
 returns c =
-    (sum_ended _ _ c.loop-start.start _ _ c.loop-start-test.false c.loop-start.invariant.3, sum_ended _ _ c.loop-start.start _ _ c.loop-start-test.false c.loop-start.invariant.4)
+    let I = c.loop-run.invariant in
+    let e = c.in-None.ensures.steps in (sum_end _ e I.corners_left, sum_end _ e I.lines_left)
