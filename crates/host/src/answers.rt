@@ -1,19 +1,9 @@
 // How a call ends for a host (FORMAT 15): a number, and words in the result slice.
 ghost use Rattle.std.specs.Prelude.{◌≡◌, set};
 ghost use Rattle.std.proofs.lemmas.List.Edits.{sets};
-ghost use Rattle.mesh.specs.Sizes.{one};
 ghost use Rattle.host.specs.Hosted.{words_of, returned, result_after};
 
 use lent::{Answer, Report};
-
-fn one_if(b: bool) -> usize
-    ensures { result ≡ one b }
-{
-    if b {
-        return 1;
-    }
-    0
-}
 
 // A word of the result slice, if the slice has its place.
 fn put(res: &mut [usize], k: usize, v: usize)
@@ -29,9 +19,9 @@ fn put_report(res: &mut [usize], p: Report)
 {
     put(res, 0, p.vertices);
     put(res, 1, p.indices);
-    put(res, 2, one_if(p.solid));
-    put(res, 3, one_if(p.unlit));
-    put(res, 4, one_if(p.has_colors));
+    put(res, 2, usize::from(p.solid));
+    put(res, 3, usize::from(p.unlit));
+    put(res, 4, usize::from(p.has_colors));
 }
 
 // 0 and the words of what is made; or the number of the refusal, and the result slice as it was.

@@ -79,6 +79,7 @@ fn root_bits(b: u32) -> u32
     if b < 8388608 {
         let mut m = b;
         let mut g: u32 = 24;
+        // A while: how often it is doubled is what is counted.
         while m < 8388608 {
             m = m * 2;
             g = g - 1;

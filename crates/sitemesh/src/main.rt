@@ -14,6 +14,7 @@ fn read_full<R: Read>(from: &mut R, buffer: &mut [u8]) -> io::Result<usize>
     ensures ended { IfOk result (λ n. n < length buffer.new → IsAtEnd (R.remaining from.new)) }
 {
     let mut done = 0;
+    // A while: a read says itself how many bytes it brings.
     while done < buffer.len() {
         let n = from.read(&mut buffer[done..])?;
         if n == 0 {

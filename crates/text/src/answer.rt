@@ -8,15 +8,6 @@ use crate::fields::put_field;
 use lent::Report;
 use crate::lines::{Parts, put_indices, put_vertices};
 
-fn one_if(b: bool) -> u32
-    ensures { result ≡ one_if b }
-{
-    if b {
-        return 1;
-    }
-    0
-}
-
 fn put_counts(out: &mut [u8], at: usize, head: Report) -> usize
     requires { (at + 26 ≤ 2 ^ 50) × (head.vertices < 2 ^ 32) × (head.indices < 2 ^ 32) }
     ensures { Wrote out.old at (counts_text head) 26 out.new result }
@@ -33,9 +24,9 @@ fn put_flags(out: &mut [u8], at: usize, head: Report) -> usize
     requires { at + 34 ≤ 2 ^ 50 }
     ensures { Wrote out.old at (flags_text head) 34 out.new result }
 {
-    let mut p = put_field(out, at, false, one_if(head.solid));
-    p = put_field(out, p, false, one_if(head.unlit));
-    p = put_field(out, p, false, one_if(head.has_colors));
+    let mut p = put_field(out, at, false, u32::from(head.solid));
+    p = put_field(out, p, false, u32::from(head.unlit));
+    p = put_field(out, p, false, u32::from(head.has_colors));
     put_byte(out, p, b'\n')
 }
 
