@@ -115,7 +115,13 @@ pub fn number_at<'a>(
 }
 
 // The same for an attribute of a block.
-fn found_at<'a>(block: &'a [u8], coord: &'a [u8], s: Stream, place: usize, face: usize) -> Option<u32>
+fn found_at<'a>(
+    block: &'a [u8],
+    coord: &'a [u8],
+    s: Stream,
+    place: usize,
+    face: usize,
+) -> Option<u32>
     ensures { result ≡ found_at block.now coord.now s place face }
 {
     number_at(

@@ -7,8 +7,8 @@ ghost use Rattle.math.specs.SquareRoot.{root_of};
 ghost use Rattle.math.specs.Vector.{vdot, unit_of};
 ghost use Rattle.cone.specs.Roots.{Roots};
 
-use math::square_root::roots;
 use math::V3;
+use math::square_root::roots;
 
 // The bits of the first of the four, and their roots.
 #[derive(Clone, Copy)]

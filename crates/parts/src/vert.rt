@@ -47,7 +47,11 @@ fn put_vector(words: &mut [u32], a: usize, v: V3)
     requires { a + 3 ≤ length words.old }
     ensures { words.new ≡ spliced words.old a (words3 (bits v)) }
 {
-    put_all(words, a, &[math::bits_of(v.x), math::bits_of(v.y), math::bits_of(v.z)]);
+    put_all(
+        words,
+        a,
+        &[math::bits_of(v.x), math::bits_of(v.y), math::bits_of(v.z)],
+    );
 }
 
 fn uv_of(c: GeomCtx, v: Vert) -> Words2

@@ -99,7 +99,7 @@ module _ (positions indices paths held : List ℕ) where
   tested_call mid left rays taken loaded p q =
       record { number = sym (ap (λ (b : Bool). cond b 12 0) taken); answers = tested positions indices paths held mid left rays taken loaded p q }
 
-  pub refused_call : is_refused positions indices paths (length held) ≡ true → PathsCall positions indices paths held held (Err (record { }))
+  pub refused_call : is_refused positions indices paths (length held) ≡ true → PathsCall positions indices paths held held (Err (record {}))
   unfolding paths_number answers_after
   refused_call e = record {
     number = sym (ap (λ (b : Bool). cond b 12 0) e);

@@ -22,7 +22,5 @@ pub(crate) fn judge_next<R: Read>(from: &mut R, room: &mut Room) -> Result<Optio
     if n != case.text {
         return Ok(Some(false));
     }
-    Ok(Some(
-        bits::part(&room.out, 0, n) == bits::part(&room.expected, 0, n),
-    ))
+    Ok(Some(bits::part(&room.out, 0, n) == bits::part(&room.expected, 0, n)))
 }

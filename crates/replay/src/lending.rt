@@ -66,12 +66,7 @@ fn put_answer(answer: Answer, block: &[u8], s: &Slices, out: &mut [u8]) -> usize
 }
 
 // The text of a block's answer to a call with slices for so many corners.
-pub(crate) fn put_converted(
-    corners: u32,
-    block: &[u8],
-    out: &mut [u8],
-    s: &mut Slices,
-) -> usize {
+pub(crate) fn put_converted(corners: u32, block: &[u8], out: &mut [u8], s: &mut Slices) -> usize {
     let answer = convert_for(corners, block, s);
     put_answer(answer, block, s, out)
 }

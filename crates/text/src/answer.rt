@@ -5,8 +5,8 @@ ghost use Rattle.text.specs.Answer.{one_if, counts_text, flags_text, head_line, 
 
 use crate::digits::put_byte;
 use crate::fields::put_field;
-use lent::Report;
 use crate::lines::{Parts, put_indices, put_vertices};
+use lent::Report;
 
 fn put_counts(out: &mut [u8], at: usize, head: Report) -> usize
     requires { (at + 26 ≤ 2 ^ 50) × (head.vertices < 2 ^ 32) × (head.indices < 2 ^ 32) }
