@@ -36,17 +36,21 @@ def types_in(code):
 
 
 def of_locals(types):
-    """The same for the types of locals and of fields, where a word stands for a type, and any other form is one too."""
+    """The same for the types of locals and of fields, where a word stands for a type, and any other form is one too. Of a generic struct its
+    arguments are told where it is named."""
     for type_ in types:
         form = next(iter(type_)) if isinstance(type_, dict) else type_
         yield f'{form} {type_[form]}' if form in ('Int', 'Float') else form
+        if form == 'Named':
+            yield from of_locals(type_[form][1])
 
 
 def shapes(declared):
-    """The types of the fields of the structs and enums."""
+    """The types of the fields of the structs and enums, but for those that are the parameters of a generic one."""
     for type_ in declared:
         (form, fields), = type_['shape'].items()
-        yield from of_locals(fields if form == 'Fields' else [field for variant in fields for field in variant])
+        fields = fields if form == 'Fields' else [field for variant in fields for field in variant]
+        yield from of_locals(field for field in fields if not (isinstance(field, dict) and 'Param' in field))
 
 
 def called(code):

@@ -39,7 +39,7 @@ module _ (n k : ℕ) where
   unfolding found
   found_some h e l = ap Some e ∙ sym (ap (λ (b : Bool). pick b (Some k) None) (lt-ltb k n (omega arith)))
 
-  pub found_none : n ≡ k → None ≡ found n k
+  pub found_none : n ≤ k → None ≡ found n k
   unfolding found
   found_none e = sym (ap (λ (b : Bool). pick b (Some k) None) (le-ltb k n (omega arith)))
 

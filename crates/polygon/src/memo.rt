@@ -111,7 +111,7 @@ fn is_hit(p: &[f32], left: &[u32], k: usize, t: Triangle) -> bool
 
 // The first of the corners from `from` up to `to` that is left and lies in the triangle t.
 fn scan(p: &[f32], left: &[u32], from: usize, to: usize, t: Triangle) -> Option<usize>
-    requires { (from ≤ to) × (to ≤ 2 ^ 31) }
+    requires { to ≤ 2 ^ 31 }
     ensures { result ≡ found to (first (hits left.now (λ j. in_way (dot_of (xy p.now) j) t.a t.b t.c)) (to - from) from) }
 {
     for k in from..to {
@@ -174,7 +174,7 @@ fn scan_block(p: &[f32], left: &[u32], from: usize, to: usize, t: Triangle) -> O
 
 // As `scan`, of all corners from `from` on, block by block.
 fn scan_blocks(p: &[f32], left: &[u32], from: usize, t: Triangle) -> Option<usize>
-    requires { (from ≤ length left.now) × (length left.now ≤ 2 ^ 31) × (length left.now * 2 ≤ length p.now) }
+    requires { (length left.now ≤ 2 ^ 31) × (length left.now * 2 ≤ length p.now) }
     ensures { result ≡ found (length left.now) (first (hits left.now (λ j. in_way (dot_of (xy p.now) j) t.a t.b t.c)) (length left.now - from) from) }
 {
     let n = left.len();
@@ -189,7 +189,7 @@ fn scan_blocks(p: &[f32], left: &[u32], from: usize, t: Triangle) -> Option<usiz
 
 // The first corner from `from` on that is left and lies in the triangle q, which is read once.
 fn next_hit(p: &[f32], left: &[u32], from: usize, q: Corner) -> Option<usize>
-    requires { (from ≤ length left.now) × (length left.now ≤ 2 ^ 31) }
+    requires { length left.now ≤ 2 ^ 31 }
     ensures { result ≡ found (length left.now) (first (hits left.now (blocks (xy p.now) q.a q.b q.c)) (length left.now - from) from) }
 {
     let t = Triangle {
@@ -214,7 +214,7 @@ fn take_word(s: &mut [u32], k: usize) -> u32
 
 // As `next_hit`, with the flags of its corners put out meanwhile: they are always near, and would keep their blocks from being passed.
 fn other_hit(p: &[f32], left: &mut [u32], from: usize, q: Corner) -> Option<usize>
-    requires { (from ≤ length left.old) × (length left.old ≤ 2 ^ 31) }
+    requires { length left.old ≤ 2 ^ 31 }
     ensures { (result ≡ found (length left.old) (first (hits left.old (blocks (xy p.now) q.a q.b q.c)) (length left.old - from) from)) × (left.new ≡ left.old) }
 {
     let x = take_word(left, q.a as usize);

@@ -11,4 +11,4 @@ pub loop-k-preserved : goal.loop-k-preserved
 loop-k-preserved c = sym (first_go _ _ _ c.loop-k-test.true (sym c.is_hit.ensures ∙ c.if-is_hit.false)) ∙ c.loop-k.invariant
 
 pub returns : goal.returns
-returns c = let e : c.args.to ≡ c.loop-k.k = omega arith in found_none _ _ (e ∙ sym (first_end _ _ _ c.loop-k-test.false) ∙ c.loop-k.invariant)
+returns c = let z = sym (first_end _ _ _ c.loop-k-test.false) ∙ c.loop-k.invariant in found_none _ _ (omega (arith, z, c.loop-k-test.false))

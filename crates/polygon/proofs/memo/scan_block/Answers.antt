@@ -6,5 +6,6 @@ use Rattle.polygon.proofs.memo.scan_block.Goals as goal
 
 pub returns-then-count_near-eq0 : goal.returns-then-count_near-eq0
 returns-then-count_near-eq0 c =
-    found_none _ _ (none_to (hits c.args.left.now (λ i. in_way (dot_of (xy c.args.p.now) i) c.args.t.a c.args.t.b c.args.t.c)) c.args.from c.args.to (omega arith)
-    (λ j l b. c.count_near.ensures c.if-count_near-eq0.true j (omega arith) b))
+    let z = none_to (hits c.args.left.now (λ i. in_way (dot_of (xy c.args.p.now) i) c.args.t.a c.args.t.b c.args.t.c)) c.args.from c.args.to (omega arith)
+    (λ j l b. c.count_near.ensures c.if-count_near-eq0.true j (omega arith) b) in
+    found_none _ _ (omega (arith, z))

@@ -12,13 +12,13 @@ use Rattle.polygon.proofs.memo.scan_blocks.Goals as goal
 pub returns-in-Some : goal.returns-in-Some
 returns-in-Some c =
     let s = some_found _ _ c.in-Some.h c.in-Some.ensures in
-    found_some _ _ _ (block_hit _ _ _ _ _ (omega arith) (omega arith) s.0 s.1 ∙ c.loop-k.invariant.1) (omega (arith, s.1))
+    found_some _ _ _ (block_hit _ _ _ _ _ (omega arith) (omega arith) s.0 s.1 ∙ c.loop-k.invariant) (omega (arith, s.1))
 
 pub loop-k-preserved : goal.loop-k-preserved
 loop-k-preserved c =
     let f = hits c.args.left.now (λ j. in_way (dot_of (xy c.args.p.now) j) c.args.t.a c.args.t.b c.args.t.c) in
     let e : c.min-e.result ≡ c.loop-k.k + 16 = omega arith in
-    (omega arith, sym (block_past f _ _ _ _ (omega arith) (omega arith) refl (none_found _ _ (sym c.in_default.is ∙ c.scan_block.ensures)) ∙ ap (λ (k : ℕ). first f (length c.args.left.now - k) k) e) ∙ c.loop-k.invariant.1)
+    (sym (block_past f _ _ _ _ (omega arith) (omega arith) refl (none_found _ _ (sym c.in_default.is ∙ c.scan_block.ensures)) ∙ ap (λ (k : ℕ). first f (length c.args.left.now - k) k) e) ∙ c.loop-k.invariant)
 
 pub returns : goal.returns
-returns c = let e : length c.args.left.now ≡ c.loop-k.k = omega arith in found_none _ _ (e ∙ sym (first_end _ _ _ c.loop-k-test.false) ∙ c.loop-k.invariant.1)
+returns c = let z = sym (first_end _ _ _ c.loop-k-test.false) ∙ c.loop-k.invariant in found_none _ _ (omega (arith, z, c.loop-k-test.false))

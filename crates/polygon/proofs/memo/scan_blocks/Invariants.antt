@@ -7,5 +7,5 @@ use Rattle.polygon.proofs.memo.scan_blocks.Given as goal
 
 -- What is left to be searched gives what was to be found.
 abbrev pub invariant-loop-k : goal.invariant-loop-k
-invariant-loop-k l = (l.k ≤ length l.left) × (
-    first (hits l.left (λ j. in_way (dot_of (xy l.p) j) l.t.a l.t.b l.t.c)) (length l.left - l.k) l.k ≡ first (hits l.left (λ j. in_way (dot_of (xy l.p) j) l.t.a l.t.b l.t.c)) (length l.left - l.from) l.from)
+invariant-loop-k l =
+    first (hits l.left (λ j. in_way (dot_of (xy l.p) j) l.t.a l.t.b l.t.c)) (length l.left - l.k) l.k ≡ first (hits l.left (λ j. in_way (dot_of (xy l.p) j) l.t.a l.t.b l.t.c)) (length l.left - l.from) l.from
