@@ -29,4 +29,4 @@ loop-i-preserved c =
     let S = c.loop-i.invariant.1 in (sym (first_go _ _ _ c.loop-i-test.true (searched_ear _ _ _ _ S _ c.requires.0 _ _ c.is_ear.ensures.0 ∙ c.if-is_ear.false)) ∙ c.loop-i.invariant.0, searched_then _ _ _ _ S _ c.is_ear.ensures.1)
 
 pub returns : goal.returns
-returns c = let e : c.args.m ≡ c.loop-i.i = omega arith in (found_none _ _ (e ∙ sym (first_end _ _ _ c.loop-i-test.false) ∙ c.loop-i.invariant.0), c.loop-i.invariant.1)
+returns c = let z = sym (first_end _ _ _ c.loop-i-test.false) ∙ c.loop-i.invariant.0 in (found_none _ _ (omega (arith, z, c.loop-i-test.false)), c.loop-i.invariant.1)

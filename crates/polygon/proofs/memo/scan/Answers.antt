@@ -1,4 +1,4 @@
-use mathlib.Core.Path.{◌≡◌, sym, ◌∙◌}
+use mathlib.Core.Path.{sym, ◌∙◌}
 use native.Mathlib.Omega.{arith}
 use Rattle.lists.proofs.Loops.{first_go, first_stop, first_end}
 use Rattle.polygon.proofs.Blocks.{found_some, found_none}
