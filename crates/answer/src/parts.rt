@@ -5,7 +5,7 @@ ghost use Rattle.mesh.specs.Result.{makes_textures};
 ghost use Rattle.answer.specs.Text.{parts_of};
 
 use block::{Header, Kind, read_header};
-use sizes::{either, flags_of};
+use sizes::flags_of;
 use text::Parts;
 
 // Where wanted or, in all but extrusions, where texture points are present; never for a line set.
@@ -14,11 +14,11 @@ fn makes_texture(h: Header) -> bool
 {
     let kind = h.kind;
     match kind {
-        Kind::FaceSet => either(h.need_uvs, h.texture_points),
+        Kind::FaceSet => h.need_uvs || h.texture_points,
         Kind::LineSet => false,
-        Kind::Grid => either(h.need_uvs, h.texture_points),
+        Kind::Grid => h.need_uvs || h.texture_points,
         Kind::Extrusion => h.need_uvs,
-        Kind::Primitives(_) => either(h.need_uvs, h.texture_points),
+        Kind::Primitives(_) => h.need_uvs || h.texture_points,
     }
 }
 

@@ -8,10 +8,7 @@ use parts::{GeomCtx, float_at};
 pub fn is_on(flag: u32) -> bool
     ensures { result ≡ is_on flag }
 {
-    if flag == 0 {
-        return false;
-    }
-    true
+    flag != 0
 }
 
 // Whether texture is wanted, and the transform: eight floats or more, of which the first eight count.

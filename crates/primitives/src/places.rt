@@ -20,24 +20,14 @@ pub fn width_of(g: Topology) -> usize
     }
 }
 
-// A triangle more for each entry from the third on.
-fn from_third(n: usize) -> usize
-    ensures { result ≡ n - 2 }
-{
-    if n < 2 {
-        return 0;
-    }
-    n - 2
-}
-
-// How many primitives a stretch of n entries has.
+// How many primitives a stretch of n entries has: of fans and strips, one more for each entry from the third on.
 pub fn count_in(g: Topology, n: usize) -> usize
     ensures { result ≡ primitive_count g n }
 {
     match g {
         Topology::Triangles => n / 3,
-        Topology::Fans => from_third(n),
-        Topology::Strips => from_third(n),
+        Topology::Fans => n.saturating_sub(2),
+        Topology::Strips => n.saturating_sub(2),
         Topology::Quads => n / 4,
     }
 }

@@ -11,7 +11,7 @@ use Rattle.block.specs.Header.{header_of}
 use Rattle.block.specs.Settings.{settings_of}
 use Rattle.block.specs.Edition.{limit_of}
 use Rattle.block.specs.Refusal.{number_of, Taken, block_rows, first_of}
-use Rattle.block.proofs.Table.{number_some, none_of, taken_of, first_before, first_after}
+use Rattle.block.proofs.Table.{none_of, taken_of, first_before, first_after}
 use Rattle.mesh.specs.Sizes.{sizes_of, is_no_shape, is_over_corners, shape_rows}
 use Rattle.lent.specs.Lent.{Accepted}
 use Rattle.sizes.specs.declared.kinds.Sizes.{Sizes}

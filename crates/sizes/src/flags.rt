@@ -1,5 +1,5 @@
 // FORMAT 5: the bits of the result, by the header alone.
-ghost use Rattle.std.specs.Prelude.{◌≡◌, false, ◌||◌};
+ghost use Rattle.std.specs.Prelude.{◌≡◌, false};
 ghost use Rattle.block.specs.Kind.{by_kind};
 ghost use Rattle.sizes.specs.Flagged.{Flagged};
 
@@ -10,15 +10,6 @@ pub struct Flags {
     pub solid: bool,
     pub unlit: bool,
     pub has_colors: bool,
-}
-
-pub fn either(a: bool, b: bool) -> bool
-    ensures { result ≡ (a || b) }
-{
-    if a {
-        return true;
-    }
-    b
 }
 
 // Colours are made where they are present, but never for an extrusion.
@@ -41,7 +32,7 @@ pub fn flags_of(h: Header) -> Flags
     let kind = h.kind;
     let lines = is_lines(kind);
     Flags {
-        solid: either(lines, h.solid),
+        solid: lines || h.solid,
         unlit: lines,
         has_colors: makes_colours(kind, h.colors),
     }

@@ -100,10 +100,7 @@ fn cap_indices(k: usize) -> usize
     requires { k ≤ most }
     ensures { (result ≡ 3 * (k - 2)) × (result ≤ 3 * most) }
 {
-    if k < 2 {
-        return 0;
-    }
-    3 * (k - 2)
+    3 * k.saturating_sub(2)
 }
 
 fn extrusion_sizes(block: &[u8], h: Header) -> Sizes

@@ -5,6 +5,6 @@ mod flags;
 mod kinds;
 mod refusals;
 
-pub use flags::{Flags, either, flags_of};
+pub use flags::{Flags, flags_of};
 pub use kinds::{Sizes, sizes_of};
 pub use refusals::{is_no_shape, verdict_to_7};

@@ -13,23 +13,14 @@ fn is_no_grid(h: Header) -> bool
     ensures { result ≡ is_no_grid h }
 {
     let n = h.counts;
-    if n[0] < 2 {
-        return true;
-    }
-    if n[1] < 2 {
-        return true;
-    }
-    wide(n[3]) < product(n[0], n[1])
+    n[0] < 2 || n[1] < 2 || wide(n[3]) < product(n[0], n[1])
 }
 
 fn is_no_extrusion(h: Header) -> bool
     ensures { result ≡ is_no_extrusion h }
 {
     let n = h.counts;
-    if n[0] < 2 {
-        return true;
-    }
-    n[1] < 2
+    n[0] < 2 || n[1] < 2
 }
 
 // Row 6.
@@ -56,10 +47,7 @@ fn shape_verdict(block: &[u8], h: Header) -> Result<Sizes, Refusal>
     }
     let s = sizes_of(block, h);
     let limit = wide(limit_of(h.edition));
-    if limit < s.points {
-        return Err(Refusal::Corners);
-    }
-    if limit < s.corners {
+    if limit < s.points || limit < s.corners {
         return Err(Refusal::Corners);
     }
     Ok(s)

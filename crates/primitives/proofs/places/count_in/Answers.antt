@@ -7,11 +7,11 @@ returns-in-Triangles c = rw c.in-Triangles.is
 
 pub returns-in-Fans : goal.returns-in-Fans
 unfolding primitive_count
-returns-in-Fans c = rw c.in-Fans.is c.from_third.ensures
+returns-in-Fans c = rw c.in-Fans.is c.saturating_sub.ensures
 
 pub returns-in-Strips : goal.returns-in-Strips
 unfolding primitive_count
-returns-in-Strips c = rw c.in-Strips.is c.from_third-in-Strips.ensures
+returns-in-Strips c = rw c.in-Strips.is c.saturating_sub-in-Strips.ensures
 
 pub returns-in-Quads : goal.returns-in-Quads
 unfolding primitive_count
