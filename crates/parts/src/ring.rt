@@ -4,6 +4,8 @@ ghost use Rattle.std.specs.Float.{nan};
 ghost use Rattle.mesh.specs.Grid.{whole};
 ghost use Rattle.parts.specs.Ring.{sine_at, cosine_at, ring_at, share_of};
 
+use lists::get_or;
+
 #[derive(Clone, Copy)]
 pub struct Ring {
     pub x: f32,
@@ -14,10 +16,7 @@ pub struct Ring {
 pub fn float_at(floats: &[f32], k: usize) -> f32
     ensures { result ≡ get_or floats.now k nan }
 {
-    if k < floats.len() {
-        return floats[k];
-    }
-    f32::NAN
+    get_or(floats, k, f32::NAN)
 }
 
 // The sine of pair k.
