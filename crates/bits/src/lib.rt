@@ -4,6 +4,8 @@
 ghost use Rattle.std.specs.Prelude.{◌≡◌, ℕ, ◌+◌, ◌*◌, ◌/◌, ◌<◌, ◌≤◌, length, get_or, take, drop};
 ghost use Rattle.bits.specs.Bits.{field, word_at, entries};
 
+use lists::get_or;
+
 // The bits of two, three and four f32: a texture point, a point or a normal, a colour.
 #[derive(Clone, Copy)]
 pub struct Words2 {
@@ -32,15 +34,6 @@ fn wide(x: u8) -> u32
     x as u32
 }
 
-fn byte_at(block: &[u8], i: usize) -> u8
-    ensures { result ≡ get_or block.now i 0 }
-{
-    if i < block.len() {
-        return block[i];
-    }
-    0
-}
-
 // The number that `width` bits from bit `at` on write, most significant first. Bits beyond the block are 0.
 pub fn field_at(block: &[u8], at: u32, width: u32) -> u32
     requires { width ≤ 32 }
@@ -52,7 +45,7 @@ pub fn field_at(block: &[u8], at: u32, width: u32) -> u32
     for k in 0..n {
         let i = start + k;
         let s = 7 - i % 8;
-        v = v * 2 + wide((byte_at(block, i / 8) >> s) % 2);
+        v = v * 2 + wide((get_or(block, i / 8, 0) >> s) % 2);
     }
     v
 }

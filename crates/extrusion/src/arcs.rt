@@ -1,7 +1,5 @@
 // FORMAT 8.4, arc_params: how far along the cross-section, and along the spine, each of its points is.
-ghost use Rattle.std.specs.Prelude.{◌≡◌, ℕ, Float, ◌++◌, ◌+◌, ◌-◌, ◌^◌, ◌≤◌, ◌<◌, length, pos};
-ghost use Rattle.std.specs.Float.{binary32};
-ghost use Rattle.std.specs.Float.Ieee.{of_int};
+ghost use Rattle.std.specs.Prelude.{◌≡◌, ℕ, Float, ◌++◌, ◌+◌, ◌-◌, ◌^◌, ◌≤◌, ◌<◌, length};
 ghost use Rattle.mesh.specs.Arcs as spec;
 ghost use Rattle.mesh.specs.Arcs.{step2, step3, length_to, arcs, arcs2, arcs3};
 ghost use Rattle.mesh.specs.Extrusion.{spine_count, section_count, extrusion_of};
@@ -53,13 +51,6 @@ fn arc_total<F: Fn(usize) -> f32>(n: usize, step: F) -> f32
     x
 }
 
-fn whole(n: usize) -> f32
-    requires { n < 65536 }
-    ensures { result ≡ of_int binary32 (pos n) }
-{
-    n as u16 as f32
-}
-
 // The length x up to point i, of the whole length t; or, where that is not above 0, i of the last number m.
 fn share(t: f32, m: usize, i: usize, x: f32) -> f32
     requires { (m < 65536) × (i < 65536) }
@@ -68,7 +59,7 @@ fn share(t: f32, m: usize, i: usize, x: f32) -> f32
     if t > 0.0 {
         return x / t;
     }
-    whole(i) / whole(m)
+    math::whole_float(i) / math::whole_float(m)
 }
 
 // The parameters of n points, by the step from each to the next, into floats from place k.

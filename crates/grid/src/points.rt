@@ -3,7 +3,7 @@ ghost use Rattle.std.specs.Prelude.{◌≡◌, ◌+◌, ◌*◌, ◌≤◌, ◌<
 ghost use Rattle.bits.specs.Bits.{entries};
 ghost use Rattle.block.specs.Extents.{list_bytes};
 ghost use Rattle.mesh.specs.Words.{words3};
-ghost use Rattle.mesh.specs.Grid.{x_dimension, z_dimension, whole, step_word, grid_point, grid_points};
+ghost use Rattle.mesh.specs.Grid.{x_dimension, z_dimension, step_word, grid_point, grid_points};
 ghost use Rattle.lists.specs.Parts.{spliced};
 ghost use Rattle.grid.specs.Sides.{Sides};
 
@@ -12,18 +12,12 @@ use block::{Header, Settings, list_part};
 use lists::put_all;
 use tables::wide;
 
-pub fn whole_float(n: u16) -> f32
-    ensures { result ≡ whole n }
-{
-    n as f32
-}
-
 // The bits of n steps of a spacing.
 fn step_word(spacing: f32, n: usize) -> u32
     requires { n < 65536 }
     ensures { result ≡ step_word spacing n }
 {
-    math::bits_of(spacing * whole_float(n as u16))
+    math::bits_of(spacing * math::whole_float(n))
 }
 
 // Point k, with its height copied.

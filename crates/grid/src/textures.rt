@@ -6,7 +6,6 @@ ghost use Rattle.texture.specs.Textured.{texture_words};
 ghost use Rattle.grid.specs.Sides.{Sides};
 ghost use Rattle.grid.specs.Textures.{grid_texture, Placed};
 
-use crate::points::whole_float;
 use bits::Words2;
 use block::{Header, PointNumber, Settings};
 use tables::wide;
@@ -17,7 +16,7 @@ fn part_word(i: usize, n: usize) -> u32
     requires { (i < 65536) × (2 ≤ n) × (n ≤ 65536) }
     ensures { result ≡ part_word i n }
 {
-    math::bits_of(whole_float(i as u16) / whole_float((n - 1) as u16))
+    math::bits_of(math::whole_float(i) / math::whole_float(n - 1))
 }
 
 // The default texture of point p, by its column and its row.

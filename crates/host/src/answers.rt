@@ -1,18 +1,10 @@
 // How a call ends for a host (FORMAT 15): a number, and words in the result slice.
-ghost use Rattle.std.specs.Prelude.{◌≡◌, set};
+ghost use Rattle.std.specs.Prelude.{◌≡◌};
 ghost use Rattle.std.proofs.lemmas.List.Edits.{sets};
 ghost use Rattle.host.specs.Hosted.{words_of, returned, result_after};
 
 use lent::{Answer, Report};
-
-// A word of the result slice, if the slice has its place.
-fn put(res: &mut [usize], k: usize, v: usize)
-    ensures { res.new ≡ set res.old k v }
-{
-    if k < res.len() {
-        res[k] = v;
-    }
-}
+use lists::put;
 
 fn put_report(res: &mut [usize], p: Report)
     ensures { res.new ≡ sets res.old 0 (words_of p) }

@@ -4,18 +4,24 @@
 ghost use Rattle.std.specs.Prelude.{◌≡◌, [], ◌∷◌, ◌+◌, ◌≤◌, length, get_or, set};
 ghost use Rattle.lists.specs.Parts.{spliced};
 
+// Element k, or `other` past the end.
+#[inline(always)]
+pub fn get_or<T: Copy>(table: &[T], k: usize, other: T) -> T
+    ensures { result ≡ get_or table.now k other }
+{
+    *table.get(k).unwrap_or(&other)
+}
+
 // A read past the end is 0.
 pub fn get(table: &[u32], k: usize) -> u32
     ensures { result ≡ get_or table.now k 0 }
 {
-    if k < table.len() {
-        return table[k];
-    }
-    0
+    get_or(table, k, 0)
 }
 
 // A write past the end does nothing.
-pub fn put(table: &mut [u32], k: usize, v: u32)
+#[inline(always)]
+pub fn put<T: Copy>(table: &mut [T], k: usize, v: T)
     ensures { table.new ≡ set table.old k v }
 {
     if k < table.len() {

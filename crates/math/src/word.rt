@@ -1,7 +1,7 @@
 // FORMAT 9.1: f32 and its bits. All NaNs are one: any NaN pattern is read, and 7fc00000 is written.
-ghost use Rattle.std.specs.Prelude.{◌≡◌};
+ghost use Rattle.std.specs.Prelude.{◌≡◌, ◌<◌, pos};
 ghost use Rattle.std.specs.Float.{binary32};
-ghost use Rattle.std.specs.Float.Ieee.{of_bits, to_bits};
+ghost use Rattle.std.specs.Float.Ieee.{of_bits, of_int, to_bits};
 ghost use Rattle.std.specs.Float.Ieee.Scale.{finite};
 
 // f32::from_bits
@@ -22,6 +22,14 @@ pub fn bits_of(x: f32) -> u32
         return 0x7fc0_0000;
     }
     f32::to_bits(x)
+}
+
+// A number of steps or points as a float.
+pub fn whole_float(n: usize) -> f32
+    requires { n < 65536 }
+    ensures { result ≡ of_int binary32 (pos n) }
+{
+    n as u16 as f32
 }
 
 // f32::is_finite

@@ -1,8 +1,9 @@
 // FORMAT 17.3, ring: points of a unit circle, from the pairs that are lent.
 ghost use Rattle.std.specs.Prelude.{◌≡◌, ◌+◌, ◌*◌, ◌<◌, ◌^◌, get_or};
 ghost use Rattle.std.specs.Float.{nan};
-ghost use Rattle.mesh.specs.Grid.{whole};
 ghost use Rattle.parts.specs.Ring.{sine_at, cosine_at, ring_at, share_of};
+
+use lists::get_or;
 
 #[derive(Clone, Copy)]
 pub struct Ring {
@@ -14,10 +15,7 @@ pub struct Ring {
 pub fn float_at(floats: &[f32], k: usize) -> f32
     ensures { result ≡ get_or floats.now k nan }
 {
-    if k < floats.len() {
-        return floats[k];
-    }
-    f32::NAN
+    get_or(floats, k, f32::NAN)
 }
 
 // The sine of pair k.
@@ -46,17 +44,10 @@ pub fn ring_at(pairs: &[f32], k: usize) -> Ring
     }
 }
 
-fn whole_float(n: usize) -> f32
-    requires { n < 65536 }
-    ensures { result ≡ whole n }
-{
-    n as u16 as f32
-}
-
 // i of n steps.
 pub fn share(i: usize, n: usize) -> f32
     requires { (i < 65536) × (n < 65536) }
     ensures { result ≡ share_of i n }
 {
-    whole_float(i) / whole_float(n)
+    math::whole_float(i) / math::whole_float(n)
 }

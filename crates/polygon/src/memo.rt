@@ -1,13 +1,12 @@
 // FORMAT 12.3, ear_clip: whether a corner is an ear. What an earlier search found is kept, so that a corner is looked at anew only where its neighbours changed.
 ghost use Rattle.std.specs.Prelude.{◌≡◌, false, ◌&&◌, [], ◌∷◌, ℕ, ◌+◌, ◌-◌, ◌*◌, ◌%◌, ◌^◌, ◌≤◌, ◌<◌, eqb, length, get_or, take, set};
 ghost use Rattle.std.proofs.lemmas.List.Edits.{sets};
-ghost use Rattle.std.specs.Float.{nan};
 ghost use Rattle.std.specs.Float.Ieee.{le};
 ghost use Rattle.lists.specs.Loops.{pick, first};
 ghost use Rattle.polygon.specs.Ears.{+0, triple, corner, cross2, point_in_tri, blocks, is_ear, first_ear};
 ghost use Rattle.polygon.specs.Memo.{xy, dot_of, spot_of, in_way, hits, Clear, Tells, ear_of, Known, Sound, entry, found, flags, kept, Searched};
 
-use lists::{get, put};
+use lists::{get, get_or, put};
 
 // A corner: its number, and where it lies in the plane.
 #[derive(Clone, Copy)]
@@ -33,23 +32,14 @@ pub struct Corner {
     pub c: u32,
 }
 
-fn coord(p: &[f32], k: usize) -> f32
-    ensures { result ≡ get_or p.now k nan }
-{
-    if k < p.len() {
-        return p[k];
-    }
-    f32::NAN
-}
-
 pub fn dot_at(p: &[f32], j: u32) -> Dot
     ensures { result ≡ dot_of (xy p.now) j }
 {
     let k = j as usize * 2;
     Dot {
         j,
-        x: coord(p, k),
-        y: coord(p, k + 1),
+        x: get_or(p, k, f32::NAN),
+        y: get_or(p, k + 1, f32::NAN),
     }
 }
 

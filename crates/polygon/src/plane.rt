@@ -1,10 +1,11 @@
 // FORMAT 12.2: the points of a face seen along the largest axis of its normal.
-ghost use Rattle.std.specs.Prelude.{◌≡◌, [], ◌∷◌, map, ◌^◌, ◌≤◌, ◌<◌, length, set};
+ghost use Rattle.std.specs.Prelude.{◌≡◌, [], ◌∷◌, map, ◌^◌, ◌≤◌, ◌<◌, length};
 ghost use Rattle.std.proofs.lemmas.List.Edits.{sets};
 ghost use Rattle.polygon.specs.Points.{spots};
 ghost use Rattle.polygon.specs.Plane.{entry, handed, most, axis_of, projected, projection, flat2};
 
 use crate::points::{point_number, spot};
+use lists::put;
 use math::V3;
 
 fn entry_of(v: V3, k: u32) -> f32
@@ -55,15 +56,6 @@ fn axis_of(n: V3) -> u32
     2
 }
 
-// A write past the end does nothing.
-fn put_float(out: &mut [f32], k: usize, x: f32)
-    ensures { out.new ≡ set out.old k x }
-{
-    if k < out.len() {
-        out[k] = x;
-    }
-}
-
 fn put_projected(out: &mut [f32], k: usize, p: V3, axis: u32, flip: bool)
     requires { (k < 2 ^ 40) × (axis < 3) }
     ensures { out.new ≡ sets out.old k (flat2 (projected axis flip p ∷ [])) }
@@ -71,11 +63,11 @@ fn put_projected(out: &mut [f32], k: usize, p: V3, axis: u32, flip: bool)
     let u = entry_of(p, (axis + 1) % 3);
     let v = entry_of(p, (axis + 2) % 3);
     if flip {
-        put_float(out, k, v);
-        put_float(out, k + 1, u);
+        put(out, k, v);
+        put(out, k + 1, u);
     } else {
-        put_float(out, k, u);
-        put_float(out, k + 1, v);
+        put(out, k, u);
+        put(out, k + 1, v);
     }
 }
 

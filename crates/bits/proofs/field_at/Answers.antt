@@ -21,8 +21,8 @@ overflow_mul-v c = omega (arith, field_room _ _ _ _ c.loop-k.invariant.1 (omega 
 pub overflow_cast-s : goal.overflow_cast-s
 overflow_cast-s c = omega arith
 
-pub overflow_shr-byte_at : goal.overflow_shr-byte_at
-overflow_shr-byte_at c = omega arith
+pub overflow_shr-get_or : goal.overflow_shr-get_or
+overflow_shr-get_or c = omega arith
 
 pub overflow_add-v : goal.overflow_add-v
 overflow_add-v c = omega (arith, field_room _ _ _ _ c.loop-k.invariant.1 (omega arith))
@@ -34,7 +34,7 @@ pub loop-k-smaller : goal.loop-k-smaller
 loop-k-smaller c = omega arith
 
 pub loop-k-preserved : goal.loop-k-preserved
-loop-k-preserved c = (omega arith, field_more _ _ _ _ _ c.loop-k.invariant.1 (rw c.byte_at.ensures at c.wide.ensures.0))
+loop-k-preserved c = (omega arith, field_more _ _ _ _ _ c.loop-k.invariant.1 (rw c.get_or.ensures at c.wide.ensures.0))
 
 pub returns : goal.returns
 returns c = let h : c.loop-k.k ≡ c.args.width = omega arith in rw (← h) c.loop-k.invariant.1

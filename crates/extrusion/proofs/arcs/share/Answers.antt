@@ -5,4 +5,4 @@ pub returns-then-t : goal.returns-then-t
 returns-then-t c = share_part _ _ c.args.m c.args.i c.if-t.true
 
 pub returns : goal.returns
-returns c = share_even _ c.args.x _ _ _ _ c.if-t.false c.whole.ensures c.whole-2.ensures
+returns c = share_even _ c.args.x _ _ _ _ c.if-t.false c.whole_float.ensures c.whole_float-2.ensures

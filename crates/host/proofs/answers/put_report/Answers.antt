@@ -1,5 +1,4 @@
 use Rattle.host.specs.Hosted.{words_of}
-use borrow.Author.Rules.{rules}
 use Rattle.host.proofs.answers.put_report.Goals as goal
 
 pub returns : goal.returns
