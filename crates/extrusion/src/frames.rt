@@ -60,11 +60,7 @@ pub fn first_y(s: &Entries<V3>) -> Option<V3>
     requires { 2 ≤ length s.now }
     ensures { result ≡ first_y s.now }
 {
-    let mut y = None;
-    for i in 0..s.len() {
-        y = y.or(y_own(s, i));
-    }
-    y
+    (0..s.len()).find_map(|i| y_own(s, i))
 }
 
 // The normal of the plane of point i and its neighbours a and b.
@@ -106,9 +102,5 @@ pub fn first_z(s: &Entries<V3>) -> Option<V3>
     requires { 2 ≤ length s.now }
     ensures { result ≡ first_z s.now }
 {
-    let mut z = None;
-    for i in 0..s.len() {
-        z = z.or(z_own(s, i));
-    }
-    z
+    (0..s.len()).find_map(|i| z_own(s, i))
 }
