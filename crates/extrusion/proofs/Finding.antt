@@ -54,4 +54,4 @@ module _ {F : Type 0} (g : Mut F (ℕ × Unit {0}) (Option V3)) (f : F) (own : �
       by (Some y) m U =
           let h = m.3 K in
           sym (first_some own n m.0 y (omega (arith, U.0, m.1)) (sym (A m.0 (Some y) (item_some n m.0 (λ x. Called g f (x, tt) (Some y) f) (p.at m.0) (U.2 m.0) h.0)))
-            (λ k b. sym (A k None (item_some n k (λ x. Called g f (x, tt) None f) (p.at k) (U.2 k) (h.1 k b)))))
+          (λ k b. sym (A k None (item_some n k (λ x. Called g f (x, tt) None f) (p.at k) (U.2 k) (h.1 k b)))))
