@@ -2,8 +2,7 @@
 use mathlib.Core.Path.{◌≡◌, refl, sym, ap, ◌∙◌}
 use mathlib.Core.Bool.{false}
 use mathlib.Core.List.{List}
-use Prim.Native.Nat.{ℕ, ◌*◌, ◌^◌, ◌≤◌, ◌<◌}
-use native.Mathlib.Omega.{arith}
+use Prim.Native.Nat.{ℕ, ◌*◌, ◌^◌, ◌<◌}
 use borrow.Author.Tests.{ltb-false}
 use lib.Dec.{ltb}
 use lib.ListN.{length, get_or}
@@ -19,6 +18,7 @@ use Rattle.lists.specs.Loops.{tab}
 use Rattle.lists.proofs.Tabs.{tab_same}
 use Rattle.lists.specs.Lists.{flat}
 use Rattle.math.specs.declared.vector.V3.{V3}
+use Rattle.math.specs.declared.quaternion.Quat.{Quat}
 use Rattle.block.specs.declared.texture.Pair.{Pair}
 use Rattle.mesh.specs.Extrusion.{Extrusion as Whole, spine_count, section_count, threes, twos, turn_in, section_of, extrusion_of, row_at, extrusion_points}
 use Rattle.mesh.specs.Sizes.{extrusion_sizes, is_no_extrusion, is_no_shape}
@@ -27,26 +27,13 @@ use Rattle.lists.specs.Parts.{spliced}
 use Rattle.lists.proofs.Tests.{or_none}
 use Rattle.extrusion.specs.Given.{scale_count, turn_count, Given}
 use Rattle.extrusion.specs.Rows.{row_by, rows_by}
-use Rattle.extrusion.proofs.Values.{count2, count3}
+use Rattle.extrusion.proofs.Values.{count_is}
 
 module _ {bs : List ℕ} {h : Header} (G : Given bs h) where
-  list_size_lem : (k : ℕ) → length (list_bytes bs h k) ≡ 4 * (get_or extrusion_widths k 0 * get_or h.counts k 0)
+  pub list_size_lem : (k : ℕ) → length (list_bytes bs h k) ≡ 4 * (get_or extrusion_widths k 0 * get_or h.counts k 0)
   list_size_lem k =
       list_length bs h k G.whole
       ∙ ap (λ (s : ℕ). 4 * s) (size_by h extrusion_widths k (widths_of h G.kind))
-
-  -- room for n values of a list, in its bytes b
-  pub spine_room : (b : List ℕ) (n : ℕ) → b ≡ list_bytes bs h 0 → n ≡ spine_count h → 12 * n ≤ length b
-  spine_room b n e q = omega (arith, ap length e, list_size_lem 0)
-
-  pub section_room : (b : List ℕ) (n : ℕ) → b ≡ list_bytes bs h 1 → n ≡ section_count h → 8 * n ≤ length b
-  section_room b n e q = omega (arith, ap length e, list_size_lem 1)
-
-  pub scale_room : (b : List ℕ) (n : ℕ) → b ≡ list_bytes bs h 2 → n ≡ scale_count h → 8 * n ≤ length b
-  scale_room b n e q = omega (arith, ap length e, list_size_lem 2)
-
-  pub turn_room : (b : List ℕ) (n : ℕ) → b ≡ list_bytes bs h 3 → n ≡ turn_count h → 20 * n ≤ length b
-  turn_room b n e q = omega (arith, ap length e, list_size_lem 3)
 
 -- the points, by the lists
 points_by : (E : Whole) → rows_by E.spine E.section E.scales E.turns (length E.spine) ≡ extrusion_points E
@@ -61,15 +48,14 @@ pub scales_of : (bs : List ℕ) (h : Header) → h ≡ header_of bs → twos (li
 unfolding extrusion_of
 scales_of bs h e = ap (λ (h : Header). twos (list_bytes bs h 2) (scale_count h)) e
 
-turns_of : (bs : List ℕ) (h : Header) → h ≡ header_of bs → tab (turn_in (list_bytes bs h 3)) (turn_count h) 0 ≡ (extrusion_of bs).turns
+pub turns_of : (bs : List ℕ) (h : Header) → h ≡ header_of bs → tab (turn_in (list_bytes bs h 3)) (turn_count h) 0 ≡ (extrusion_of bs).turns
 unfolding extrusion_of
 turns_of bs h e = ap (λ (h : Header). tab (turn_in (list_bytes bs h 3)) (turn_count h) 0) e
 
-pub points_put : (bs : List ℕ) (h : Header) → h ≡ header_of bs → (l made d : List ℕ) (sp : List V3) (cs scs : List Pair) (j k : ℕ)
-    → sp ≡ (extrusion_of bs).spine → cs ≡ (extrusion_of bs).section → scs ≡ (extrusion_of bs).scales → d ≡ list_bytes bs h 3 → j ≡ turn_count h
-    → made ≡ spliced l k (rows_by sp cs scs (tab (turn_in d) j 0) (length sp)) → made ≡ spliced l k (extrusion_points (extrusion_of bs))
-points_put bs h e l made d sp cs scs j k es ec ef ed ej em =
-    let et : tab (turn_in d) j 0 ≡ (extrusion_of bs).turns = (λ t. tab (turn_in (ed t)) (ej t) 0) ∙ turns_of bs h e in
+pub points_put : (bs l made : List ℕ) (sp : List V3) (cs scs : List Pair) (qs : List Quat) (k : ℕ)
+    → sp ≡ (extrusion_of bs).spine → cs ≡ (extrusion_of bs).section → scs ≡ (extrusion_of bs).scales → qs ≡ (extrusion_of bs).turns
+    → made ≡ spliced l k (rows_by sp cs scs qs (length sp)) → made ≡ spliced l k (extrusion_points (extrusion_of bs))
+points_put bs l made sp cs scs qs k es ec ef et em =
     em ∙ (λ t. spliced l k (rows_by (es t) (ec t) (ef t) (et t) (length (es t)))) ∙ ap (spliced l k) (points_by (extrusion_of bs))
 
 -- a count is small enough to be a float
@@ -96,10 +82,10 @@ spine_of bs h e = ap (λ (h : Header). threes (list_bytes bs h 0) (spine_count h
 
 module _ {bs : List ℕ} {h : Header} (G : Given bs h) where
   pub section_long : section_count h ≡ length (extrusion_of bs).section
-  section_long = count2 (list_bytes bs h 1) (section_count h) ∙ ap length (section_of_lem bs h G.head)
+  section_long = count_is _ _ _ (section_of_lem bs h G.head)
 
   pub spine_long : spine_count h ≡ length (extrusion_of bs).spine
-  spine_long = count3 (list_bytes bs h 0) (spine_count h) ∙ ap length (spine_of bs h G.head)
+  spine_long = count_is _ _ _ (spine_of bs h G.head)
 
   pub head_is : (extrusion_of bs).head ≡ h
   unfolding extrusion_of

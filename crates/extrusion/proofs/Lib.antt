@@ -2,6 +2,7 @@
 mod Values
 mod Planes
 mod Walking
+mod Finding
 pub mod Blocks
 mod Lengths
 mod Fitting

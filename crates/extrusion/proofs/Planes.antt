@@ -18,16 +18,12 @@ use Rattle.math.specs.Quaternion.{rotated, between}
 use Rattle.std.specs.Prelude.{unwrap_or}
 use Rattle.std.specs.Option.{option_or}
 use Rattle.mesh.proofs.Options.{unwrap_or_is, option_or_is}
-use Rattle.mesh.specs.Frames.{z_axis, axes, at, or, first_of, last_of, same3, closed, is_end, step, along_end, y_own, bend, z_end, z_own, turned, pick_z, upright, bent, straight, axes_by}
+use Rattle.mesh.specs.Frames.{z_axis, axes, at, or, last_of, same3, closed, is_end, step, along_end, y_own, bend, z_end, z_own, turned, pick_z, upright, bent, straight, axes_by}
 use Rattle.mesh.specs.Extrusion.{placed}
 use Rattle.extrusion.specs.declared.axes.PlaneAxes.{PlaneAxes}
 use Rattle.extrusion.specs.Rows.{axes_of}
 
 -- ---- what may be missing
-
-pub first_step : (f : ℕ → (Option V3)) (i : ℕ) (y z r : (Option V3)) → y ≡ first_of f i → z ≡ f i → r ≡ option_or y z → r ≡ first_of f (i + 1)
-unfolding first_of
-first_step f i y z r ey ez er = rw (er, ey, ez, add-one) (option_or_is (first_of f i) (f i))
 
 pub last_step : (s : (Option V3)) (f : ℕ → (Option V3)) (i : ℕ) (y z r : (Option V3)) → y ≡ last_of s f i → z ≡ f i → r ≡ option_or z y → r ≡ last_of s f (i + 1)
 unfolding last_of

@@ -7,17 +7,18 @@ ghost use Rattle.lists.specs.Parts.{spliced};
 ghost use Rattle.extrusion.specs.Given.{Given};
 
 use crate::frames::step;
-use crate::reading::{Pairs, Points, section_of, spine_of};
-use block::Header;
+use crate::reading::{Entries, section_of, spine_of};
+use block::{Header, Pair};
+use math::V3;
 
-fn spine_step(spine: &Points, i: usize) -> f32
+fn spine_step(spine: &Entries<V3>, i: usize) -> f32
     requires { (i + 1 < length spine.now) × (length spine.now < 2 ^ 64) }
     ensures { result ≡ step3 spine.now i }
 {
     math::len(step(spine, i, i + 1))
 }
 
-fn section_step(section: &Pairs, i: usize) -> f32
+fn section_step(section: &Entries<Pair>, i: usize) -> f32
     requires { (i + 1 < length section.now) × (length section.now < 2 ^ 64) }
     ensures { result ≡ step2 section.now i }
 {

@@ -6,12 +6,12 @@ ghost use Rattle.mesh.specs.Extrusion.{section_of, extrusion_of, ring_of, cap_le
 ghost use Rattle.mesh.specs.Texture.{span_of};
 ghost use Rattle.extrusion.specs.Given.{Given};
 
-use crate::reading::{Pairs, section_of};
-use block::Header;
+use crate::reading::{Entries, section_of};
+use block::{Header, Pair};
 use mesh::{Fit, Span};
 use texture::{divisor_of, widen};
 
-fn closes(section: &Pairs) -> bool
+fn closes(section: &Entries<Pair>) -> bool
     requires { 2 ≤ length section.now }
     ensures { result ≡ spec.closes section.now }
 {
@@ -57,7 +57,7 @@ fn nowhere() -> Span
     }
 }
 
-fn section_fit(section: &Pairs) -> Fit
+fn section_fit(section: &Entries<Pair>) -> Fit
     ensures { result ≡ cap_fit section.now }
 {
     let mut a = nowhere();

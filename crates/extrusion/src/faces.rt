@@ -1,5 +1,5 @@
 // FORMAT 8.4, extrusion (pm.faces): the points of the corners, face by face: sides, then caps.
-ghost use Rattle.std.specs.Prelude.{◌≡◌, ℕ, ◌+◌, ◌-◌, ◌*◌, ◌≤◌, ◌<◌, length};
+ghost use Rattle.std.specs.Prelude.{◌≡◌, ℕ, ◌+◌, ◌-◌, ◌*◌, ◌≤◌, ◌<◌, cond, [], length};
 ghost use Rattle.lists.specs.Loops.{tab};
 ghost use Rattle.lists.specs.Lists.{flat};
 ghost use Rattle.mesh.specs.Quads.{quad};
@@ -7,7 +7,7 @@ ghost use Rattle.mesh.specs.Extrusion.{point_number, has_cap};
 ghost use Rattle.mesh.specs.Sizes.{one, cap_count};
 ghost use Rattle.tables.specs.Layout.{most};
 ghost use Rattle.lists.specs.Parts.{spliced};
-ghost use Rattle.extrusion.specs.Listings.{side_points, begin_points, end_points, face_points};
+ghost use Rattle.extrusion.specs.Listings.{side_points, face_points};
 
 use block::{Header, PointNumber};
 use lists::put_all;
@@ -58,7 +58,7 @@ fn put_sides(work: &mut [u32], k: usize, n: usize, m: usize)
     }
 }
 
-// A cap is there by its bit, where it has 3 corners or more.
+// A cap is there by its bit, where it has 3 corners or more. The bit is one that the header holds, so it stays a bool here and below: no caller chooses by it.
 fn has_cap(wanted: bool, cap: usize) -> bool
     ensures { result ≡ has_cap wanted cap }
 {
@@ -72,27 +72,26 @@ pub fn cap_count(h: Header, cap: usize) -> usize
     usize::from(has_cap(h.begin_cap, cap)) + usize::from(has_cap(h.end_cap, cap))
 }
 
-// The begin cap, where there is one; the place behind it.
-fn put_begin(work: &mut [u32], k: usize, wanted: bool, cap: usize) -> usize
-    requires { (cap ≤ most) × (k + length (flat (begin_points wanted cap)) ≤ length work.old) }
-    ensures { (work.new ≡ spliced work.old k (flat (begin_points wanted cap))) × (result ≡ k + length (flat (begin_points wanted cap))) }
+// The cap of the points point(0), point(1), .., where there is one; the place behind it.
+fn put_cap<F: Fn(usize) -> usize>(
+    work: &mut [u32],
+    k: usize,
+    wanted: bool,
+    cap: usize,
+    point: F,
+) -> usize
+    requires room { k + cond (has_cap wanted cap) cap 0 ≤ length work.old }
+    requires called { (j : ℕ) → j < cap → F.pre point j }
+    requires few { (j : ℕ) (r : ℕ) → j < cap → F.post point j r → r ≤ most }
+    ensures put { (value : ℕ → ℕ) → ((j : ℕ) (r : ℕ) → j < cap → F.post point j r → r ≡ value j)
+        → work.new ≡ spliced work.old k (cond (has_cap wanted cap) (tab value cap 0) []) }
+    ensures behind { result ≡ k + cond (has_cap wanted cap) cap 0 }
 {
     if has_cap(wanted, cap) {
-        put_each(work, k, cap, |j| cap - 1 - j);
+        put_each(work, k, cap, point);
         return k + cap;
     }
     k
-}
-
-// The end cap, whose first point is p, where there is one.
-fn put_end(work: &mut [u32], k: usize, wanted: bool, p: PointNumber, cap: usize)
-    requires { (p.0 + cap ≤ most) × (k + length (flat (end_points wanted p.0 cap)) ≤ length work.old) }
-    ensures { work.new ≡ spliced work.old k (flat (end_points wanted p.0 cap)) }
-{
-    if has_cap(wanted, cap) {
-        put_each(work, k, cap, |j| p.0 + j);
-        return;
-    }
 }
 
 // The points of all corners, face by face; as a corner's place is its point (FORMAT 7.1), the places too.
@@ -101,6 +100,13 @@ pub fn put_uses(work: &mut [u32], k: usize, n: usize, m: usize, cap: usize, begi
     ensures { work.new ≡ spliced work.old k (flat (face_points n m cap begin end)) }
 {
     put_sides(work, k, n, m);
-    let next = put_begin(work, k + (n - 1) * ((m - 1) * 4), begin, cap);
-    put_end(work, next, end, point_at(m, n - 1, 0), cap);
+    let last = point_at(m, n - 1, 0);
+    let next = put_cap(
+        work,
+        k + (n - 1) * ((m - 1) * 4),
+        begin,
+        cap,
+        |j| cap - 1 - j,
+    );
+    put_cap(work, next, end, cap, |j| last.0 + j);
 }

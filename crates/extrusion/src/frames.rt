@@ -3,10 +3,10 @@ ghost use Rattle.std.specs.Prelude.{◌≡◌, ◌≤◌, ◌<◌, length};
 ghost use Rattle.mesh.specs.Frames as spec;
 ghost use Rattle.mesh.specs.Frames.{same3, closed, is_end, along_end, y_own, first_y, bend, z_end, z_own, first_z};
 
-use crate::reading::Points;
+use crate::reading::Entries;
 use math::V3;
 
-fn is_closed(s: &Points) -> bool
+fn is_closed(s: &Entries<V3>) -> bool
     requires { 2 ≤ length s.now }
     ensures { result ≡ closed s.now }
 {
@@ -25,14 +25,14 @@ fn is_end(n: usize, i: usize) -> bool
 }
 
 // From point a to point b.
-pub fn step(s: &Points, a: usize, b: usize) -> V3
+pub fn step(s: &Entries<V3>, a: usize, b: usize) -> V3
     requires { (a < length s.now) × (b < length s.now) }
     ensures { result ≡ spec.step s.now a b }
 {
     math::sub(s.at(b), s.at(a))
 }
 
-fn along_end(s: &Points, i: usize) -> V3
+fn along_end(s: &Entries<V3>, i: usize) -> V3
     requires { 2 ≤ length s.now }
     ensures { result ≡ along_end s.now (length s.now) i }
 {
@@ -46,7 +46,7 @@ fn along_end(s: &Points, i: usize) -> V3
     step(s, n - 2, n - 1)
 }
 
-pub fn y_own(s: &Points, i: usize) -> Option<V3>
+pub fn y_own(s: &Entries<V3>, i: usize) -> Option<V3>
     requires { (2 ≤ length s.now) × (i < length s.now) }
     ensures { result ≡ y_own s.now i }
 {
@@ -56,26 +56,22 @@ pub fn y_own(s: &Points, i: usize) -> Option<V3>
     math::normalize(step(s, i - 1, i + 1))
 }
 
-pub fn first_y(s: &Points) -> Option<V3>
+pub fn first_y(s: &Entries<V3>) -> Option<V3>
     requires { 2 ≤ length s.now }
     ensures { result ≡ first_y s.now }
 {
-    let mut y = None;
-    for i in 0..s.len() {
-        y = y.or(y_own(s, i));
-    }
-    y
+    (0..s.len()).find_map(|i| y_own(s, i))
 }
 
 // The normal of the plane of point i and its neighbours a and b.
-fn plane(s: &Points, a: usize, i: usize, b: usize) -> Option<V3>
+fn plane(s: &Entries<V3>, a: usize, i: usize, b: usize) -> Option<V3>
     requires { (a < length s.now) × (i < length s.now) × (b < length s.now) }
     ensures { result ≡ bend s.now a i b }
 {
     math::normalize(math::cross(step(s, i, b), step(s, i, a)))
 }
 
-fn z_end(s: &Points, i: usize) -> Option<V3>
+fn z_end(s: &Entries<V3>, i: usize) -> Option<V3>
     requires { 2 ≤ length s.now }
     ensures { result ≡ z_end s.now (length s.now) i }
 {
@@ -92,7 +88,7 @@ fn z_end(s: &Points, i: usize) -> Option<V3>
     None
 }
 
-pub fn z_own(s: &Points, i: usize) -> Option<V3>
+pub fn z_own(s: &Entries<V3>, i: usize) -> Option<V3>
     requires { (2 ≤ length s.now) × (i < length s.now) }
     ensures { result ≡ z_own s.now i }
 {
@@ -102,13 +98,9 @@ pub fn z_own(s: &Points, i: usize) -> Option<V3>
     plane(s, i - 1, i, i + 1)
 }
 
-pub fn first_z(s: &Points) -> Option<V3>
+pub fn first_z(s: &Entries<V3>) -> Option<V3>
     requires { 2 ≤ length s.now }
     ensures { result ≡ first_z s.now }
 {
-    let mut z = None;
-    for i in 0..s.len() {
-        z = z.or(z_own(s, i));
-    }
-    z
+    (0..s.len()).find_map(|i| z_own(s, i))
 }

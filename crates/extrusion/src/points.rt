@@ -2,50 +2,36 @@
 ghost use Rattle.std.specs.Prelude.{◌≡◌, ◌+◌, ◌*◌, ◌≤◌, length};
 ghost use Rattle.mesh.specs.Words.{words3, bits};
 ghost use Rattle.mesh.specs.Extrusion as spec;
-ghost use Rattle.mesh.specs.Extrusion.{spine_count, section_count, turn_in, scale_at, turn_at, row_words, extrusion_of, extrusion_points};
-ghost use Rattle.lists.specs.Loops.{tab};
+ghost use Rattle.mesh.specs.Extrusion.{spine_count, section_count, scale_at, turn_at, row_words, extrusion_of, extrusion_points};
 ghost use Rattle.lists.specs.Parts.{spliced};
 ghost use Rattle.extrusion.specs.Given.{Given};
 ghost use Rattle.extrusion.specs.Rows.{axes_of, rows_by};
 
 use crate::axes::{PlaneAxes, axes_by, pick_z};
 use crate::frames::{first_y, first_z, y_own, z_own};
-use crate::reading::{Pairs, Points, scales_of, section_of, spine_of, turn_count, turn_in};
+use crate::reading::{Entries, scales_of, section_of, spine_of, turns_of};
 use block::{Header, Pair};
 use lists::put_all;
 use math::{Quat, V3};
 
-// The scale at point i: the first where there are too few.
-fn scale_at(scales: &Pairs, i: usize) -> Pair
+fn scale_at(scales: &Entries<Pair>, i: usize) -> Pair
     ensures { result ≡ scale_at scales.now i }
 {
-    let k = scales.len();
-    if i < k {
-        return scales.at(i);
-    }
-    if 0 < k {
-        return scales.at(0);
-    }
-    Pair { s: 1.0, t: 1.0 }
+    scales.at_or(i, Pair { s: 1.0, t: 1.0 })
 }
 
-// The turn at point i, of k: the first where there are too few.
-fn turn_at(turns: &[u8], k: usize, i: usize) -> Quat
-    requires { 20 * k ≤ length turns.now }
-    ensures { result ≡ turn_at (tab (turn_in turns.now) k 0) i }
+fn turn_at(turns: &Entries<Quat>, i: usize) -> Quat
+    ensures { result ≡ turn_at turns.now i }
 {
-    if i < k {
-        return turn_in(turns, i);
-    }
-    if 0 < k {
-        return turn_in(turns, 0);
-    }
-    Quat {
-        x: 0.0,
-        y: 0.0,
-        z: 0.0,
-        w: 1.0,
-    }
+    turns.at_or(
+        i,
+        Quat {
+            x: 0.0,
+            y: 0.0,
+            z: 0.0,
+            w: 1.0,
+        },
+    )
 }
 
 // A cross-section point, scaled and turned.
@@ -90,7 +76,15 @@ fn put_point(work: &mut [u32], k: usize, v: V3)
 }
 
 // The points of one spine point o.
-fn put_row(section: &Pairs, o: V3, f: PlaneAxes, q: Quat, sc: Pair, work: &mut [u32], k: usize)
+fn put_row(
+    section: &Entries<Pair>,
+    o: V3,
+    f: PlaneAxes,
+    q: Quat,
+    sc: Pair,
+    work: &mut [u32],
+    k: usize,
+)
     requires { k + 3 * length section.now ≤ length work.old }
     ensures { work.new ≡ spliced work.old k (row_words o (axes_of f) q sc section.now) }
 {
@@ -102,16 +96,15 @@ fn put_row(section: &Pairs, o: V3, f: PlaneAxes, q: Quat, sc: Pair, work: &mut [
 
 // The points of all spine points, into work from place k. The Y axis is the last one seen, and begins with the first of all.
 fn put_rows(
-    spine: &Points,
-    section: &Pairs,
-    scales: &Pairs,
-    turns: &[u8],
-    turn_count: usize,
+    spine: &Entries<V3>,
+    section: &Entries<Pair>,
+    scales: &Entries<Pair>,
+    turns: &Entries<Quat>,
     work: &mut [u32],
     k: usize,
 )
-    requires { (20 * turn_count ≤ length turns.now) × (2 ≤ length spine.now) × (k + length spine.now * (3 * length section.now) ≤ length work.old) }
-    ensures { work.new ≡ spliced work.old k (rows_by spine.now section.now scales.now (tab (turn_in turns.now) turn_count 0) (length spine.now)) }
+    requires { (2 ≤ length spine.now) × (k + length spine.now * (3 * length section.now) ≤ length work.old) }
+    ensures { work.new ≡ spliced work.old k (rows_by spine.now section.now scales.now turns.now (length spine.now)) }
 {
     let w = 3 * section.len();
     let first = first_z(spine);
@@ -127,7 +120,7 @@ fn put_rows(
             section,
             spine.at(i),
             f,
-            turn_at(turns, turn_count, i),
+            turn_at(turns, i),
             scale_at(scales, i),
             work,
             k + i * w,
@@ -144,8 +137,7 @@ pub fn put_points(block: &[u8], h: Header, work: &mut [u32], at: usize)
         &spine_of(block, h),
         &section_of(block, h),
         &scales_of(block, h),
-        block::list_part(block, h, 3),
-        turn_count(h),
+        &turns_of(block, h),
         work,
         at,
     );

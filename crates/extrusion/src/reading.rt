@@ -1,127 +1,146 @@
 // FORMAT 2.4: the lists of an extrusion, read by number from their bytes.
-ghost use Rattle.std.specs.Prelude.{◌≡◌, List, ◌+◌, ◌*◌, ◌≤◌, ◌<◌, length};
+ghost use Rattle.std.specs.Prelude.{◌≡◌, ℕ, List, ◌+◌, ◌*◌, ◌≤◌, ◌<◌, length, get_or};
 ghost use Rattle.std.specs.Float.{binary32};
 ghost use Rattle.std.specs.Float.Ieee.{of_bits};
 ghost use Rattle.bits.specs.Bits.{word_at};
-ghost use Rattle.mesh.specs.Frames.{at};
-ghost use Rattle.mesh.specs.Arcs.{at2};
-ghost use Rattle.math.specs.declared.vector.V3.{V3};
-ghost use Rattle.block.specs.declared.texture.Pair.{Pair};
-ghost use Rattle.mesh.specs.Extrusion.{spine_count, section_count, threes, twos, turn_in, extrusion_of};
-ghost use Rattle.extrusion.specs.Given.{Given, scale_count, turn_count};
+ghost use Rattle.lists.specs.Loops.{tab};
+ghost use Rattle.math.specs.Vector.{v3};
+ghost use Rattle.block.specs.Extents.{list_bytes};
+ghost use Rattle.block.specs.Value.{words2, words3};
+ghost use Rattle.block.specs.Texture.{pair_of};
+ghost use Rattle.mesh.specs.Words.{floats};
+ghost use Rattle.mesh.specs.Extrusion.{spine_count, section_count, turn_in, entry_or, extrusion_of};
+ghost use Rattle.extrusion.specs.Given.{Given};
 
 use block::{Header, Pair};
 use math::{Quat, V3};
-use std::marker::Model;
+use std::marker::{Model, PhantomData};
 use tables::wide;
 
-// Points, in the bytes of their list.
-#[derive(Drop)]
-pub struct Points<'a> {
-    bytes: &'a [u8],
-    count: usize,
+// What a list holds: how many bytes an entry has, and how it is read.
+pub trait Entry: Copy {
+    ghost width: { ℕ };
+
+    ghost made: { List ℕ → ℕ → Self };
+
+    // Entry `k` of the list.
+    fn read(bytes: &[u8], k: usize) -> Self
+        requires { width * k + width ≤ length bytes.now }
+        ensures { result ≡ made bytes.now k };
 }
 
-impl<'a> Model for Points<'a> {
-    ghost Value = { List V3 };
+impl Entry for V3 {
+    ghost width = { 12 };
 
-    ghost view = { λ p. threes p.bytes.now p.count };
+    ghost made = { λ b k. floats (words3 b k) };
 
-    ghost invariant = { λ p. 12 * p.count ≤ length p.bytes.now };
-}
-
-impl<'a> Points<'a> {
-    pub fn of(bytes: &'a [u8], count: usize) -> Points<'a>
-        requires { 12 * count ≤ length bytes.now }
-        ensures { result ≡ threes bytes.now count }
-    {
-        Points { bytes, count }
-    }
-
-    pub fn len(&self) -> usize
-        ensures { result ≡ length self.now }
-    {
-        self.count
-    }
-
-    pub fn at(&self, i: usize) -> V3
-        requires { i < length self.now }
-        ensures { result ≡ at self.now i }
-    {
-        V3 {
-            x: float_in(self.bytes, 12 * i),
-            y: float_in(self.bytes, 12 * i + 4),
-            z: float_in(self.bytes, 12 * i + 8),
-        }
+    fn read(bytes: &[u8], k: usize) -> V3 {
+        vector_in(bytes, 12 * k)
     }
 }
 
-// Pairs of floats, in the bytes of their list.
-#[derive(Drop)]
-pub struct Pairs<'a> {
-    bytes: &'a [u8],
-    count: usize,
-}
+impl Entry for Pair {
+    ghost width = { 8 };
 
-impl<'a> Model for Pairs<'a> {
-    ghost Value = { List Pair };
+    ghost made = { λ b k. pair_of (words2 b k) };
 
-    ghost view = { λ p. twos p.bytes.now p.count };
-
-    ghost invariant = { λ p. 8 * p.count ≤ length p.bytes.now };
-}
-
-impl<'a> Pairs<'a> {
-    pub fn of(bytes: &'a [u8], count: usize) -> Pairs<'a>
-        requires { 8 * count ≤ length bytes.now }
-        ensures { result ≡ twos bytes.now count }
-    {
-        Pairs { bytes, count }
-    }
-
-    pub fn len(&self) -> usize
-        ensures { result ≡ length self.now }
-    {
-        self.count
-    }
-
-    pub fn at(&self, j: usize) -> Pair
-        requires { j < length self.now }
-        ensures { result ≡ at2 self.now j }
-    {
+    fn read(bytes: &[u8], k: usize) -> Pair {
         Pair {
-            s: float_in(self.bytes, 8 * j),
-            t: float_in(self.bytes, 8 * j + 4),
+            s: float_in(bytes, 8 * k),
+            t: float_in(bytes, 8 * k + 4),
         }
     }
+}
+
+// An orientation, as a quaternion.
+impl Entry for Quat {
+    ghost width = { 20 };
+
+    ghost made = { turn_in };
+
+    fn read(bytes: &[u8], k: usize) -> Quat {
+        math::axis_turn(
+            vector_in(bytes, 20 * k),
+            float_in(bytes, 20 * k + 12),
+            float_in(bytes, 20 * k + 16),
+        )
+    }
+}
+
+// Entries, in the bytes of their list.
+#[derive(Drop)]
+pub struct Entries<'a, V: Entry> {
+    bytes: &'a [u8],
+    count: usize,
+    of: PhantomData<V>,
+}
+
+impl<'a, V: Entry> Model for Entries<'a, V> {
+    ghost Value = { List V };
+
+    ghost view = { λ p. tab (V.made p.bytes.now) p.count 0 };
+
+    ghost invariant = { λ p. V.width * p.count ≤ length p.bytes.now };
+}
+
+impl<'a, V: Entry> Entries<'a, V> {
+    pub fn of(bytes: &'a [u8], count: usize) -> Entries<'a, V>
+        requires { V.width * count ≤ length bytes.now }
+        ensures { result ≡ tab (V.made bytes.now) count 0 }
+    {
+        Entries {
+            bytes,
+            count,
+            of: PhantomData,
+        }
+    }
+
+    pub fn len(&self) -> usize
+        ensures { result ≡ length self.now }
+    {
+        self.count
+    }
+
+    pub fn at(&self, i: usize) -> V
+        requires { i < length self.now }
+        ensures { (d : V) → result ≡ get_or self.now i d }
+    {
+        V::read(self.bytes, i)
+    }
+
+    // Entry `i`: the first where there are too few, `missing` where there is none.
+    pub fn at_or(&self, i: usize, missing: V) -> V
+        ensures { result ≡ entry_or self.now i missing }
+    {
+        if i < self.len() {
+            return self.at(i);
+        }
+        if 0 < self.len() {
+            return self.at(0);
+        }
+        missing
+    }
+}
+
+// How many entries list `k` has.
+fn count_of(h: Header, k: usize) -> usize
+    requires { k < 8 }
+    ensures { result ≡ get_or h.counts k 0 }
+{
+    let n = h.counts;
+    wide(n[k])
 }
 
 pub fn spine_count(h: Header) -> usize
     ensures { result ≡ spine_count h }
 {
-    let n = h.counts;
-    wide(n[0])
+    count_of(h, 0)
 }
 
 pub fn section_count(h: Header) -> usize
     ensures { result ≡ section_count h }
 {
-    let n = h.counts;
-    wide(n[1])
-}
-
-pub fn scale_count(h: Header) -> usize
-    ensures { result ≡ scale_count h }
-{
-    let n = h.counts;
-    wide(n[2])
-}
-
-pub fn turn_count(h: Header) -> usize
-    ensures { result ≡ turn_count h }
-{
-    let n = h.counts;
-    wide(n[3])
+    count_of(h, 1)
 }
 
 // The float whose first byte is byte k.
@@ -132,40 +151,50 @@ fn float_in(values: &[u8], k: usize) -> f32
     math::of_bits(bits::word(values, k))
 }
 
-// Orientation k, as a quaternion.
-pub fn turn_in(values: &[u8], k: usize) -> Quat
-    requires { 20 * k + 20 ≤ length values.now }
-    ensures { result ≡ turn_in values.now k }
+// Three floats, from byte k on.
+fn vector_in(values: &[u8], k: usize) -> V3
+    requires { k + 12 ≤ length values.now }
+    ensures { result ≡ v3 (of_bits binary32 (word_at values.now k)) (of_bits binary32 (word_at values.now (k + 4))) (of_bits binary32 (word_at values.now (k + 8))) }
 {
-    let axis = V3 {
-        x: float_in(values, 20 * k),
-        y: float_in(values, 20 * k + 4),
-        z: float_in(values, 20 * k + 8),
-    };
-    math::axis_turn(
-        axis,
-        float_in(values, 20 * k + 12),
-        float_in(values, 20 * k + 16),
-    )
+    V3 {
+        x: float_in(values, k),
+        y: float_in(values, k + 4),
+        z: float_in(values, k + 8),
+    }
 }
 
-pub fn spine_of(block: &[u8], h: Header) -> Points
+// List `k` of the block.
+fn list_of<V: Entry>(block: &[u8], h: Header, k: usize) -> Entries<V>
+    requires { (k < 8) × (V.width * get_or h.counts k 0 ≤ length (list_bytes block.now h k)) }
+    ensures { result ≡ tab (V.made (list_bytes block.now h k)) (get_or h.counts k 0) 0 }
+{
+    Entries::of(block::list_part(block, h, k), count_of(h, k))
+}
+
+pub fn spine_of(block: &[u8], h: Header) -> Entries<V3>
     requires { Given block.now h }
     ensures { result ≡ (extrusion_of block.now).spine }
 {
-    Points::of(block::list_part(block, h, 0), spine_count(h))
+    list_of(block, h, 0)
 }
 
-pub fn section_of(block: &[u8], h: Header) -> Pairs
+pub fn section_of(block: &[u8], h: Header) -> Entries<Pair>
     requires { Given block.now h }
     ensures { result ≡ (extrusion_of block.now).section }
 {
-    Pairs::of(block::list_part(block, h, 1), section_count(h))
+    list_of(block, h, 1)
 }
 
-pub fn scales_of(block: &[u8], h: Header) -> Pairs
+pub fn scales_of(block: &[u8], h: Header) -> Entries<Pair>
     requires { Given block.now h }
     ensures { result ≡ (extrusion_of block.now).scales }
 {
-    Pairs::of(block::list_part(block, h, 2), scale_count(h))
+    list_of(block, h, 2)
+}
+
+pub fn turns_of(block: &[u8], h: Header) -> Entries<Quat>
+    requires { Given block.now h }
+    ensures { result ≡ (extrusion_of block.now).turns }
+{
+    list_of(block, h, 3)
 }

@@ -1,4 +1,5 @@
 use Rattle.block.specs.declared.texture.Pair.{Pair}
+use Rattle.extrusion.proofs.Values.{at2_is}
 use Rattle.extrusion.proofs.Fitting.{fit_is, span_more, span_none}
 use lib.ListN.{length}
 use mathlib.Core.Path.{◌≡◌, ap}
@@ -10,8 +11,8 @@ loop-j-init c = (span_none _ _ _ c.nowhere-a.ensures, span_none _ _ _ c.nowhere-
 
 pub loop-j-preserved : goal.loop-j-preserved
 loop-j-preserved c = (
-  span_more _ _ _ _ _ c.loop-j.invariant.0 (ap (λ (p : Pair). p.s) c.at-p.ensures) c.widen-a.ensures,
-  span_more _ _ _ _ _ c.loop-j.invariant.1 (ap (λ (p : Pair). p.t) c.at-p.ensures) c.widen-b.ensures,
+  span_more _ _ _ _ _ c.loop-j.invariant.0 (ap (λ (p : Pair). p.s) (at2_is _ _ _ c.at-p.ensures)) c.widen-a.ensures,
+  span_more _ _ _ _ _ c.loop-j.invariant.1 (ap (λ (p : Pair). p.t) (at2_is _ _ _ c.at-p.ensures)) c.widen-b.ensures,
 )
 
 pub returns : goal.returns

@@ -1,18 +1,10 @@
-use Rattle.extrusion.proofs.Planes.{first_step}
-use Rattle.mesh.specs.Frames.{first_of, first_z}
+use Rattle.extrusion.proofs.Finding.{found_is}
+use Rattle.mesh.specs.Frames.{first_z, z_own}
 use lib.ListN.{length}
-use mathlib.Core.Path.{◌≡◌, refl}
-use native.Mathlib.Omega.{arith}
+use Rattle.std.proofs.Common.{rules}
 use Rattle.extrusion.proofs.frames.first_z.Goals as goal
-
-pub loop-i-init : goal.loop-i-init
-unfolding first_of
-loop-i-init c = refl
-
-pub loop-i-preserved : goal.loop-i-preserved
-loop-i-preserved c = first_step _ _ _ _ _ c.loop-i.invariant c.z_own.ensures c.or-z.ensures
 
 pub returns : goal.returns
 unfolding first_z
 returns c =
-    let e : c.loop-i.i ≡ length c.args.s.now = omega arith in rw e at c.loop-i.invariant
+    found_is _ _ (z_own c.args.s.now) (length c.args.s.now) _ c.find_map.ensures.runs.0 _ c.find_map.ensures.runs.1 c.len.ensures c.find_map.ensures.runs.2 (search rules) (search rules)

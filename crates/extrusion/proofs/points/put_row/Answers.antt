@@ -1,4 +1,5 @@
 use Rattle.lists.proofs.Pieces.{pieces_all, pieces_more, pieces_none}
+use Rattle.extrusion.proofs.Values.{at2_is}
 use Rattle.extrusion.proofs.Walking.{row_is, spot_is, spot_length}
 use Rattle.lists.specs.Parts.{spliced}
 use mathlib.Core.Path.{◌∙◌, refl, ap}
@@ -15,7 +16,7 @@ put_point-requires c =
 pub loop-j-preserved : goal.loop-j-preserved
 loop-j-preserved c =
     pieces_more 3 (spot_length _ _ _ _ _) (omega (arith, c.requires)) c.loop-j.invariant (omega arith) refl
-    (spot_is _ _ _ _ _ _ _ _ _ c.at.ensures c.local.ensures c.placed-p.ensures) c.put_point.ensures
+    (spot_is _ _ _ _ _ _ _ _ _ (at2_is _ _ _ c.at.ensures) c.local.ensures c.placed-p.ensures) c.put_point.ensures
 
 pub shape_of-work : goal.shape_of-work
 shape_of-work c = c.loop-j.invariant.size

@@ -1,10 +1,10 @@
-use Rattle.extrusion.proofs.Blocks.{scale_room, scales_of}
-use Rattle.mesh.specs.Extrusion.{twos}
+use Rattle.extrusion.proofs.Blocks.{list_size_lem, scales_of}
 use mathlib.Core.Path.{◌∙◌}
+use native.Mathlib.Omega.{arith}
 use Rattle.extrusion.proofs.reading.scales_of.Goals as goal
 
-pub of-requires : goal.of-requires
-of-requires c = scale_room c.requires _ _ c.list_part.ensures c.scale_count.ensures
+pub list_of-requires : goal.list_of-requires
+list_of-requires c = (omega arith, omega (arith, list_size_lem c.requires 2))
 
 pub returns : goal.returns
-returns c = c.of.ensures ∙ (λ t. twos (c.list_part.ensures t) (c.scale_count.ensures t)) ∙ scales_of _ _ c.requires.head
+returns c = c.list_of.ensures ∙ scales_of _ _ c.requires.head

@@ -1,10 +1,10 @@
-use Rattle.extrusion.proofs.Blocks.{section_room, section_of_lem}
-use Rattle.mesh.specs.Extrusion.{twos}
+use Rattle.extrusion.proofs.Blocks.{list_size_lem, section_of_lem}
 use mathlib.Core.Path.{◌∙◌}
+use native.Mathlib.Omega.{arith}
 use Rattle.extrusion.proofs.reading.section_of.Goals as goal
 
-pub of-requires : goal.of-requires
-of-requires c = section_room c.requires _ _ c.list_part.ensures c.section_count.ensures
+pub list_of-requires : goal.list_of-requires
+list_of-requires c = (omega arith, omega (arith, list_size_lem c.requires 1))
 
 pub returns : goal.returns
-returns c = c.of.ensures ∙ (λ t. twos (c.list_part.ensures t) (c.section_count.ensures t)) ∙ section_of_lem _ _ c.requires.head
+returns c = c.list_of.ensures ∙ section_of_lem _ _ c.requires.head

@@ -1,10 +1,10 @@
-use Rattle.extrusion.proofs.Blocks.{spine_room, spine_of}
-use Rattle.mesh.specs.Extrusion.{threes}
+use Rattle.extrusion.proofs.Blocks.{list_size_lem, spine_of}
 use mathlib.Core.Path.{◌∙◌}
+use native.Mathlib.Omega.{arith}
 use Rattle.extrusion.proofs.reading.spine_of.Goals as goal
 
-pub of-requires : goal.of-requires
-of-requires c = spine_room c.requires _ _ c.list_part.ensures c.spine_count.ensures
+pub list_of-requires : goal.list_of-requires
+list_of-requires c = (omega arith, omega (arith, list_size_lem c.requires 0))
 
 pub returns : goal.returns
-returns c = c.of.ensures ∙ (λ t. threes (c.list_part.ensures t) (c.spine_count.ensures t)) ∙ spine_of _ _ c.requires.head
+returns c = c.list_of.ensures ∙ spine_of _ _ c.requires.head

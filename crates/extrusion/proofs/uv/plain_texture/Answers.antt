@@ -1,3 +1,4 @@
+use Rattle.extrusion.proofs.Values.{at2_is}
 use Rattle.extrusion.proofs.Blocks.{section_long}
 use lib.ListN.{length}
 use mathlib.Core.Path.{ap}
@@ -48,4 +49,4 @@ at-requires c =
 
 pub returns : goal.returns
 returns c =
-    on_cap c.requires.0 c.args.number c.args.point.0 _ _ c.spine_count-n.ensures c.section_count-m.ensures c.requires.1 _ _ _ c.if-number-n.false c.section_of.ensures c.at.ensures c.cap_texture.ensures
+    on_cap c.requires.0 c.args.number c.args.point.0 _ _ c.spine_count-n.ensures c.section_count-m.ensures c.requires.1 _ _ _ c.if-number-n.false c.section_of.ensures (at2_is _ _ _ c.at.ensures) c.cap_texture.ensures

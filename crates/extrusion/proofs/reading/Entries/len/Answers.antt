@@ -1,0 +1,5 @@
+use Rattle.extrusion.proofs.Values.{count_is}
+use Rattle.extrusion.proofs.reading.Entries.len.Goals as goal
+
+pub returns : goal.returns
+returns g c = count_is _ _ _ c.self.view_is
