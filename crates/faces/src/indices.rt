@@ -9,80 +9,71 @@ ghost use Rattle.faces.specs.Indices.{triangles_in, one_face, all_faces, plane_i
 
 use crate::naming::rename;
 use block::CornerNumber;
-use tables::{Plan, stretch_of};
+use tables::{Plan, Tables};
 
-// The face of the n corners from a on: its points in the plane, to the front of `floats`.
-fn put_plane(work: &[u32], t: Plan, a: CornerNumber, n: usize, ccw: bool, floats: &mut [f32])
-    requires { Sound work.now t × (a.0 + n ≤ t.count) }
-    ensures { floats.new ≡ sets floats.old 0 (plane_in work.now t ccw a.0 n) }
-{
-    let lo = t.points;
-    let hi = lo + 3 * t.spots;
-    let from = t.corners + a.0;
-    let to = from + n;
-    let sum = polygon::newell(&work[lo..hi], &work[from..to]);
-    let normal = polygon::handed_of(ccw, sum);
-    polygon::project(&work[lo..hi], &work[from..to], normal, ccw, floats);
-}
-
-// The same where ears are clipped; of a fan there is no plane.
-fn put_plane_where(
-    work: &[u32],
-    t: Plan,
+// A face: its n corners from a on, whether they are counterclockwise, and whether it is known to be convex.
+#[derive(Clone, Copy)]
+struct Outline {
     a: CornerNumber,
     n: usize,
     ccw: bool,
     convex: bool,
-    floats: &mut [f32],
-)
-    requires { Sound work.now t × (a.0 + n ≤ t.count) }
-    ensures { floats.new ≡ corners_floats work.now t ccw convex a.0 n floats.old }
+}
+
+// Its points in the plane, to the front of `floats`.
+fn put_plane(x: &Tables<'_>, f: Outline, floats: &mut [f32])
+    requires { Sound x.now.work.now x.now.plan.now × (f.a.0 + f.n ≤ x.now.plan.now.count) }
+    ensures { floats.new ≡ sets floats.old 0 (plane_in x.now.work.now x.now.plan.now f.ccw f.a.0 f.n) }
 {
-    if polygon::is_fan(n, convex) {
+    let t = x.plan;
+    let lo = t.points;
+    let hi = lo + 3 * t.spots;
+    let from = t.corners + f.a.0;
+    let to = from + f.n;
+    let sum = polygon::newell(&x.work[lo..hi], &x.work[from..to]);
+    let normal = polygon::handed_of(f.ccw, sum);
+    polygon::project(&x.work[lo..hi], &x.work[from..to], normal, f.ccw, floats);
+}
+
+// The same where ears are clipped; of a fan there is no plane.
+fn put_plane_where(x: &Tables<'_>, f: Outline, floats: &mut [f32])
+    requires { Sound x.now.work.now x.now.plan.now × (f.a.0 + f.n ≤ x.now.plan.now.count) }
+    ensures { floats.new ≡ corners_floats x.now.work.now x.now.plan.now f.ccw f.convex f.a.0 f.n floats.old }
+{
+    if polygon::is_fan(f.n, f.convex) {
         return;
     }
-    put_plane(work, t, a, n, ccw, floats);
+    put_plane(x, f, floats);
 }
 
 // Its triangles by its own corners, from place `at` of `indices` on. The tables from the places on are read no more: room to work in.
 fn put_corners(
     work: &mut [u32],
     t: Plan,
-    a: CornerNumber,
-    n: usize,
-    ccw: bool,
-    convex: bool,
+    f: Outline,
     floats: &mut [f32],
     indices: &mut [u32],
     at: usize,
 )
-    requires { Ready work.old t (length floats.old) × (a.0 + n ≤ t.count) × (at + (n - 2) * 3 ≤ length indices.old) }
+    requires { Ready work.old t (length floats.old) × (f.a.0 + f.n ≤ t.count) × (at + (f.n - 2) * 3 ≤ length indices.old) }
     ensures { Kept t.places work.old work.new
-        × (indices.new ≡ spliced indices.old at (flat (triangles_in work.old t ccw convex a.0 n)))
-        × (floats.new ≡ corners_floats work.old t ccw convex a.0 n floats.old) }
+        × (indices.new ≡ spliced indices.old at (flat (triangles_in work.old t f.ccw f.convex f.a.0 f.n)))
+        × (floats.new ≡ corners_floats work.old t f.ccw f.convex f.a.0 f.n floats.old) }
 {
-    put_plane_where(work, t, a, n, ccw, convex, floats);
+    put_plane_where(&Tables { work, plan: &t }, f, floats);
     let lo = t.places;
-    let hi = lo + n * 5;
-    polygon::triangulate(floats, n, convex, &mut work[lo..hi], indices, at);
+    let hi = lo + f.n * 5;
+    polygon::triangulate(floats, f.n, f.convex, &mut work[lo..hi], indices, at);
 }
 
 // They become triangles of vertices.
-fn name_corners(
-    work: &[u32],
-    t: Plan,
-    a: CornerNumber,
-    n: usize,
-    ccw: bool,
-    indices: &mut [u32],
-    at: usize,
-)
-    requires { (2 ≤ n) × (t.named + a.0 + n ≤ length work.now) × (at + (n - 2) * 3 ≤ length indices.old) }
-    ensures { indices.new ≡ spliced indices.old at (numbered ccw (seg work.now (t.named + a.0) n) (threes (n - 2) (drop at indices.old))) }
+fn name_corners(x: &Tables<'_>, f: Outline, indices: &mut [u32], at: usize)
+    requires { (2 ≤ f.n) × (f.a.0 + f.n ≤ x.now.plan.now.count) × (at + (f.n - 2) * 3 ≤ length indices.old) }
+    ensures { indices.new ≡ spliced indices.old at (numbered f.ccw (seg x.now.work.now (x.now.plan.now.named + f.a.0) f.n) (threes (f.n - 2) (drop at indices.old))) }
 {
-    let lo = t.named + a.0;
-    let hi = lo + n;
-    rename(indices, at, n - 2, &work[lo..hi], ccw);
+    let lo = x.plan.named + f.a.0;
+    let hi = lo + f.n;
+    rename(indices, at, f.n - 2, &x.work[lo..hi], f.ccw);
 }
 
 // The indices of one kept face, from place `at` on; the next place.
@@ -100,15 +91,18 @@ fn one_face(
     ensures { Put t (one_face work.old t ccw convex face) (one_floats work.old t ccw convex face floats.old) at result
         indices.old indices.new work.old work.new floats.new }
 {
-    let r = stretch_of(work, t, face);
+    let x = Tables { work, plan: &t };
+    let r = x.stretch_of(face);
     let a = r.from;
     let n = r.to.0 - a.0;
     if n < 3 {
         return at;
     }
     let next = at + (n - 2) * 3;
-    put_corners(work, t, a, n, ccw, convex, floats, indices, at);
-    name_corners(work, t, a, n, ccw, indices, at);
+    let f = Outline { a, n, ccw, convex };
+    put_corners(work, t, f, floats, indices, at);
+    let y = Tables { work, plan: &t };
+    name_corners(&y, f, indices, at);
     next
 }
 

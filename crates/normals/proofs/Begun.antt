@@ -57,10 +57,11 @@ module _ {w : List ℕ} {t : Plan} {rule : CreaseRule} (d : List Float) (l : 3 *
   pub begun_none : Summed w t rule d → Begun d d w t rule 0
   begun_none S = record { within = omega arith; is = spread_none _ d 0; size = refl; summed = S }
 
-  pub begun_next : (e : List Float) {e' : List Float} (n : ℕ) (v : V3) → n < t.count → Begun d e w t rule n → v ≡ corner_normal_in w t rule (0 + n) → e' ≡ spliced e (3 * n) (three v) → Begun d e' w t rule (n + 1)
+  pub begun_next : (e : List Float) {e' : List Float} (n : ℕ) (v : V3) → n < t.count → Begun d e w t rule n → v ≡ corner_normal_in w t rule n → e' ≡ spliced e (3 * n) (three v) → Begun d e' w t rule (n + 1)
   begun_next e {e'} n v h B ev q =
       let f = corner_normal_in w t rule in
-      let i = q ∙ spread_step f d e n 0 v B.is ev in
+      let z : n ≡ 0 + n = omega arith in
+      let i = q ∙ spread_step f d e n 0 v B.is (ev ∙ ap f z) in
       record {
         within = omega arith;
         is = i;
@@ -72,12 +73,11 @@ module _ {w : List ℕ} {t : Plan} {rule : CreaseRule} (d : List Float) (l : 3 *
       → e₃ ≡ spliced e₂ (3 * (n + 2)) (three (corner_normal_in w t rule (n + 2))) → e₄ ≡ spliced e₃ (3 * (n + 3)) (three (corner_normal_in w t rule (n + 3))) → Begun d e₄ w t rule (n + 4)
   begun_four e e₁ e₂ e₃ {e₄} n h B p₁ p₂ p₃ p₄ =
       let f = corner_normal_in w t rule in
-      let z : (k : ℕ) → f k ≡ f (0 + k) = λ k. let q : k ≡ 0 + k = omega arith in ap f q in
-      let b₁ = begun_next e n (f n) (omega arith) B (z n) p₁ in
-      let b₂ = begun_next e₁ (n + 1) (f (n + 1)) (omega arith) b₁ (z (n + 1)) p₂ in
+      let b₁ = begun_next e n (f n) (omega arith) B refl p₁ in
+      let b₂ = begun_next e₁ (n + 1) (f (n + 1)) (omega arith) b₁ refl p₂ in
       let q₂ : n + 1 + 1 ≡ n + 2 = omega arith in
-      let b₃ = begun_next e₂ (n + 2) (f (n + 2)) (omega arith) (subst (λ (k : ℕ). Begun d e₂ w t rule k) q₂ b₂) (z (n + 2)) p₃ in
+      let b₃ = begun_next e₂ (n + 2) (f (n + 2)) (omega arith) (subst (λ (k : ℕ). Begun d e₂ w t rule k) q₂ b₂) refl p₃ in
       let q₃ : n + 2 + 1 ≡ n + 3 = omega arith in
-      let b₄ = begun_next e₃ (n + 3) (f (n + 3)) (omega arith) (subst (λ (k : ℕ). Begun d e₃ w t rule k) q₃ b₃) (z (n + 3)) p₄ in
+      let b₄ = begun_next e₃ (n + 3) (f (n + 3)) (omega arith) (subst (λ (k : ℕ). Begun d e₃ w t rule k) q₃ b₃) refl p₄ in
       let q₄ : n + 3 + 1 ≡ n + 4 = omega arith in
       subst (λ (k : ℕ). Begun d e₄ w t rule k) q₄ b₄

@@ -121,6 +121,6 @@ generated_all {v} {w} {t} {ccw} S M rule =
     corners_all M.sound M.owned F E ∙ ap (normals_of F) (soup_kept M.kept t (omega arith) S)
 
 -- corner c, by its face and its number, as the code reads them
-pub corner_is : (w : List ℕ) (t : Plan) (rule : CreaseRule) (c own p : ℕ) {v : V3} → v ≡ normal_at w t rule own p → own ≡ owner_in w t c → p ≡ gather_in w t c → v ≡ corner_normal_in w t rule (0 + c)
+pub corner_is : (w : List ℕ) (t : Plan) (rule : CreaseRule) (c own p : ℕ) {v : V3} → v ≡ normal_at w t rule own p → own ≡ owner_in w t c → p ≡ gather_in w t c → v ≡ corner_normal_in w t rule c
 unfolding corner_normal_in
-corner_is w t rule c own p e eo ep = let z : 0 + c ≡ c = omega arith in e ∙ (λ i. normal_at w t rule (eo i) (ep i)) ∙ ap (λ (k : ℕ). normal_at w t rule (owner_in w t k) (gather_in w t k)) (sym z)
+corner_is w t rule c own p e eo ep = e ∙ (λ i. normal_at w t rule (eo i) (ep i))

@@ -7,30 +7,32 @@ ghost use Rattle.normals.specs.Rows.{at3, unit_at, facing_in, OwnedTo, Rowed, On
 
 use crate::vectors::{store_unit, store3};
 use math::V3;
-use tables::{Plan, fill, narrow, stretch_of};
+use tables::{Plan, Tables, fill, narrow};
 
-// Each corner's face.
+// Each corner's face. Not one with `spread_numbers` of soups: that reads each number from the words that it fills, so a closure for what differs would take
+// them from the loop, and its clauses would say what they are at each turn.
 pub fn owners(work: &mut [u32], t: Plan)
     requires { Sound work.old t }
     ensures { Kept t.owners work.old work.new × OwnedTo work.old work.new t t.faces }
 {
     for g in 0..t.faces {
-        let e = stretch_of(work, t, g);
+        let e = Tables { work, plan: &t }.stretch_of(g);
         fill(work, t.owners + e.from.0, e.to.0 - e.from.0, narrow(g));
     }
 }
 
 // The facing normal of face g: Newell's sum over its points, turned where ccw is off.
-fn face_normal(work: &[u32], t: Plan, ccw: bool, g: usize) -> V3
-    requires { Sound work.now t × (g < t.faces) }
-    ensures { result ≡ facing_in work.now t ccw g }
+fn face_normal(x: &Tables<'_>, ccw: bool, g: usize) -> V3
+    requires { Sound x.now.work.now x.now.plan.now × (g < x.now.plan.now.faces) }
+    ensures { result ≡ facing_in x.now.work.now x.now.plan.now ccw g }
 {
-    let e = stretch_of(work, t, g);
+    let t = x.plan;
+    let e = x.stretch_of(g);
     let lo = t.points;
     let hi = t.points + 3 * t.spots;
     let from = t.corners + e.from.0;
     let to = t.corners + e.to.0;
-    let n = polygon::newell(&work[lo..hi], &work[from..to]);
+    let n = polygon::newell(&x.work[lo..hi], &x.work[from..to]);
     polygon::handed_of(ccw, n)
 }
 
@@ -55,10 +57,11 @@ fn rows_by_fours(work: &mut [u32], t: Plan, ccw: bool) -> usize
         let q = t.rows + 7 * (g + 1);
         let r = t.rows + 7 * (g + 2);
         let s = t.rows + 7 * (g + 3);
-        let a = face_normal(work, t, ccw, g);
-        let b = face_normal(work, t, ccw, g + 1);
-        let c = face_normal(work, t, ccw, g + 2);
-        let d = face_normal(work, t, ccw, g + 3);
+        let x = Tables { work, plan: &t };
+        let a = face_normal(&x, ccw, g);
+        let b = face_normal(&x, ccw, g + 1);
+        let c = face_normal(&x, ccw, g + 2);
+        let d = face_normal(&x, ccw, g + 3);
         let k = math::normalize_four(a, b, c, d);
         put_row(work, p, a, k.a);
         put_row(work, q, b, k.b);
@@ -74,7 +77,7 @@ fn rows_from(work: &mut [u32], t: Plan, ccw: bool, g: usize)
     ensures { Onward work.old work.new t ccw g t.faces }
 {
     for k in g..t.faces {
-        let n = face_normal(work, t, ccw, k);
+        let n = face_normal(&Tables { work, plan: &t }, ccw, k);
         let u = math::normalize(n);
         put_row(work, t.rows + 7 * k, n, u);
     }

@@ -6,6 +6,7 @@ mod groups;
 mod mirror;
 mod outputs;
 mod points;
+mod source;
 mod sums;
 mod vectors;
 mod whole;

@@ -1,16 +1,17 @@
 // FORMAT 10.2, generate_normals: the unit vector of the sum of facing normals at a corner by the crease rule, and the corner's normal.
 ghost use Rattle.std.specs.Prelude.{◌≡◌, ◌+◌, ◌≤◌, ◌<◌, length};
 ghost use Rattle.std.specs.Prelude.{Some};
-ghost use Rattle.math.specs.Vector.{y_axis, unit_of};
-ghost use Rattle.mesh.specs.Normals.{near_by, sum_near, crease_sum, or_else};
-ghost use Rattle.normals.specs.Rows.{vector, normal_in, hits_at, Ready, Mirrored, Summed};
-ghost use Rattle.normals.specs.Written.{normal_at};
+ghost use Rattle.math.specs.Vector.{unit_of};
+ghost use Rattle.block.specs.declared.crease.CreaseRule.TheVariants.{Bound};
+ghost use Rattle.mesh.specs.Normals.{near_by, sum_near, crease_sum};
+ghost use Rattle.normals.specs.Rows.{vector, normal_in, hits_at, Mirrored, Summed};
+ghost use Rattle.normals.specs.Written.{corner_sum_in, corner_normal_in};
 
-use crate::groups::faces_at;
+use crate::source::Source;
 use crate::vectors::{get3, load_unit};
-use block::{CreaseRule, PointNumber};
+use block::{CornerNumber, CreaseRule, PointNumber};
 use math::V3;
-use tables::{Plan, wide};
+use tables::wide;
 
 // s, and the normal of face g where g is another face than own and its unit vector is near to u. A face without one has a row that is near to nothing.
 fn near_step(floats: &[f32], row: usize, g: usize, own: usize, u: V3, bound: f32, s: V3) -> V3
@@ -27,85 +28,109 @@ fn near_step(floats: &[f32], row: usize, g: usize, own: usize, u: V3, bound: f32
     s
 }
 
-// Not one with `sum_all`: they share the walk alone, which is one line.
-// The normal of face own, and then those of the faces at p, once for each use, that are near to its unit vector u.
-pub fn sum_near(
-    work: &[u32],
-    t: Plan,
-    floats: &[f32],
-    p: PointNumber,
-    own: usize,
-    u: V3,
-    bound: f32,
-) -> V3
-    requires { Ready work.now t × (p.0 < t.spots) × (own < t.faces) × Mirrored floats.now work.now t t.faces }
-    ensures { result ≡ sum_near bound own u (normal_in work.now t own) (hits_at work.now t p.0) }
-{
-    let faces = faces_at(work, t, p);
-    let mut s = get3(floats, 3 * t.count + 6 * own);
-    for x in faces {
-        let g = wide(*x);
-        s = near_step(floats, 3 * t.count + 6 * g, g, own, u, bound, s);
+// The tables, the rows as f32 (see `mirror`), and the bound of the cosine rule.
+#[derive(Clone, Copy)]
+pub struct Near<'a> {
+    pub source: Source<'a>,
+    pub floats: &'a [f32],
+    pub bound: f32,
+    ghost mirrored: { Mirrored floats.now source.work.now source.plan.now source.plan.now.faces },
+}
+
+impl<'a> Near<'a> {
+    // Not one with `sum_all`: they share the walk alone, which is one line.
+    // The normal of face own, and then those of the faces at p, once for each use, that are near to its unit vector u.
+    pub fn sum_near(&self, p: PointNumber, own: usize, u: V3) -> V3
+        requires { (p.0 < self.now.source.plan.now.spots) × (own < self.now.source.plan.now.faces) }
+        ensures { result ≡ sum_near self.now.bound own u (normal_in self.now.source.work.now self.now.source.plan.now own)
+            (hits_at self.now.source.work.now self.now.source.plan.now p.0) }
+    {
+        let count = self.source.plan.count;
+        let faces = self.source.faces_at(p);
+        let mut s = get3(self.floats, 3 * count + 6 * own);
+        for x in faces {
+            let g = wide(*x);
+            s = near_step(self.floats, 3 * count + 6 * g, g, own, u, self.bound, s);
+        }
+        s
     }
-    s
-}
 
-// The unit vector at a corner of face own, whose own one is k, that is gathered under p. Only the cosine rule takes a root here: that of every face is made
-// once for each number.
-fn crease_unit(
-    work: &[u32],
-    t: Plan,
-    floats: &[f32],
-    p: PointNumber,
-    own: usize,
-    rule: CreaseRule,
-    k: Option<V3>,
-) -> Option<V3>
-    requires { Ready work.now t × Summed work.now t rule floats.now × (p.0 < t.spots) × (own < t.faces) × (k ≡ unit_of (normal_in work.now t own)) }
-    ensures { result ≡ unit_of (crease_sum rule own (normal_in work.now t own) (hits_at work.now t p.0)) }
-{
-    match rule {
-        CreaseRule::Own => {
-            return k;
+    // The sum at corner c.
+    pub fn sum_at(&self, c: CornerNumber) -> V3
+        requires { c.0 < self.now.source.plan.now.count }
+        ensures { result ≡ corner_sum_in self.now.source.work.now self.now.source.plan.now (Bound self.now.bound) c.0 }
+    {
+        let p = self.source.gather_of(c);
+        let own = self.source.owner_of(c);
+        let Some(u) = self.source.unit_of(own) else {
+            return self.source.normal_of(own);
+        };
+        self.sum_near(p, own, u)
+    }
+
+    // The same, where the sums at two corners are known, x at a and y at b: a face that uses a point again has the same sum there.
+    pub fn sum_after(&self, c: CornerNumber, a: CornerNumber, x: V3, b: CornerNumber, y: V3) -> V3
+        requires { (c.0 < self.now.source.plan.now.count) × (a.0 < self.now.source.plan.now.count) × (b.0 < self.now.source.plan.now.count)
+            × (x ≡ corner_sum_in self.now.source.work.now self.now.source.plan.now (Bound self.now.bound) a.0)
+            × (y ≡ corner_sum_in self.now.source.work.now self.now.source.plan.now (Bound self.now.bound) b.0) }
+        ensures { result ≡ corner_sum_in self.now.source.work.now self.now.source.plan.now (Bound self.now.bound) c.0 }
+    {
+        if self.source.is_again(c, a) {
+            return x;
         }
-        CreaseRule::Every => {
-            return load_unit(work, t.sums + 4 * p.0);
+        if self.source.is_again(c, b) {
+            return y;
         }
-        CreaseRule::Bound(b) => {
-            let Some(u) = k else {
-                return None;
-            };
-            return math::normalize(sum_near(work, t, floats, p, own, u, b));
-        }
+        self.sum_at(c)
     }
 }
 
-// The normal of a corner of face own, whose sum has the unit vector s.
-pub fn normal_by(work: &[u32], t: Plan, own: usize, s: Option<V3>) -> V3
-    requires { Ready work.now t × (own < t.faces) }
-    ensures { result ≡ or_else s (or_else (unit_of (normal_in work.now t own)) y_axis) }
-{
-    let up = V3 {
-        x: 0.0,
-        y: 1.0,
-        z: 0.0,
-    };
-    s.unwrap_or(load_unit(work, t.rows + 7 * own + 3).unwrap_or(up))
-}
+impl<'a> Source<'a> {
+    // The unit vector at a corner of face own, whose own one is k, that is gathered under p. Only the cosine rule takes a root here: that of every face is made
+    // once for each number.
+    fn crease_unit(
+        &self,
+        floats: &[f32],
+        p: PointNumber,
+        own: usize,
+        rule: CreaseRule,
+        k: Option<V3>,
+    ) -> Option<V3>
+        requires { Summed self.now.work.now self.now.plan.now rule floats.now × (p.0 < self.now.plan.now.spots)
+            × (own < self.now.plan.now.faces) × (k ≡ unit_of (normal_in self.now.work.now self.now.plan.now own)) }
+        ensures { result ≡ unit_of (crease_sum rule own (normal_in self.now.work.now self.now.plan.now own)
+            (hits_at self.now.work.now self.now.plan.now p.0)) }
+    {
+        match rule {
+            CreaseRule::Own => {
+                return k;
+            }
+            CreaseRule::Every => {
+                let t = self.plan;
+                return load_unit(self.work, t.sums + 4 * p.0);
+            }
+            CreaseRule::Bound(bound) => {
+                let Some(u) = k else {
+                    return None;
+                };
+                let near = Near {
+                    source: *self,
+                    floats,
+                    bound,
+                };
+                return math::normalize(near.sum_near(p, own, u));
+            }
+        }
+    }
 
-// The normal of a corner of face own that is gathered under p.
-pub fn corner_normal(
-    work: &[u32],
-    t: Plan,
-    floats: &[f32],
-    p: PointNumber,
-    own: usize,
-    rule: CreaseRule,
-) -> V3
-    requires { Ready work.now t × Summed work.now t rule floats.now × (p.0 < t.spots) × (own < t.faces) }
-    ensures { result ≡ normal_at work.now t rule own p.0 }
-{
-    let k = load_unit(work, t.rows + 7 * own + 3);
-    let s = crease_unit(work, t, floats, p, own, rule, k);
-    normal_by(work, t, own, s)
+    // The normal of corner c.
+    pub fn corner_normal(&self, floats: &[f32], c: CornerNumber, rule: CreaseRule) -> V3
+        requires { Summed self.now.work.now self.now.plan.now rule floats.now × (c.0 < self.now.plan.now.count) }
+        ensures { result ≡ corner_normal_in self.now.work.now self.now.plan.now rule c.0 }
+    {
+        let p = self.gather_of(c);
+        let own = self.owner_of(c);
+        let s = self.crease_unit(floats, p, own, rule, self.unit_of(own));
+        self.normal_by(own, s)
+    }
 }

@@ -6,8 +6,8 @@ ghost use Rattle.normals.specs.Written.{Generated};
 
 use crate::facing::{owners, rows};
 use crate::groups::group;
-use crate::outputs::corner_normals;
 use crate::points::share;
+use crate::source::Source;
 use block::CreaseRule;
 use tables::Plan;
 
@@ -29,5 +29,5 @@ pub fn generate(work: &mut [u32], t: Plan, ccw: bool, rule: CreaseRule, floats: 
 {
     prepare(work, t, ccw);
     share(work, t, rule, floats);
-    corner_normals(work, t, rule, floats);
+    Source { work, plan: &t }.corner_normals(rule, floats);
 }

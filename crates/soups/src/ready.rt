@@ -5,15 +5,16 @@ ghost use Rattle.tables.specs.Soups.{number_in, Sound, Spread};
 ghost use Rattle.soups.specs.Prepared.{Normals, Prepared};
 
 use block::CreaseRule;
-use tables::{Plan, fill, stretch_of};
+use tables::{Plan, Tables, fill};
 
-// Each corner's face number, over the owners. Not one with the owners in `normals`: the number is read from the words that are filled.
+// Each corner's face number, over the owners. Not one with `owners` of normals: the number is read from the words that are filled, so a closure for what
+// differs would take them from the loop, and its clauses would say what they are at each turn.
 fn spread_numbers(work: &mut [u32], t: Plan)
     requires { Sound work.old t }
     ensures { Kept t.owners work.old work.new × Spread work.old work.new t (number_in work.old t) t.faces }
 {
     for g in 0..t.faces {
-        let e = stretch_of(work, t, g);
+        let e = Tables { work, plan: &t }.stretch_of(g);
         let number = work[t.numbers + g];
         fill(work, t.owners + e.from.0, e.to.0 - e.from.0, number);
     }

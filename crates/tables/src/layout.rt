@@ -2,6 +2,8 @@
 ghost use Rattle.std.specs.Prelude.{◌≡◌, ◌≤◌};
 ghost use Rattle.tables.specs.Layout.{most, plan_of};
 
+// What writes the tables takes their words, `&mut`, beside the plan; what reads them is a method of `Tables`. A struct for the writing would have to say in each
+// function that its words are still the same reference, and its plan the same plan.
 #[derive(Clone, Copy)]
 pub struct Plan {
     pub spots: usize,

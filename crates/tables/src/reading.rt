@@ -35,36 +35,47 @@ fn gathered(ring: usize, p: PointNumber) -> PointNumber
     p
 }
 
-// The number that a corner is gathered by for normals (FORMAT 10.2).
-pub fn gather_of(work: &[u32], t: Plan, c: CornerNumber) -> PointNumber
-    requires { Room (length work.now) t × (c.0 < t.count) }
-    ensures { result.0 ≡ gather_in work.now t c.0 }
-{
-    gathered(t.ring, PointNumber(wide(work[t.corners + c.0])))
+// The words of the tables, with where each table lies in them.
+#[derive(Clone, Copy)]
+pub struct Tables<'a> {
+    pub work: &'a [u32],
+    pub plan: &'a Plan,
+    ghost room: { Room (length work.now) plan.now },
 }
 
-// At the number of faces, the number of corners.
-fn start_of(work: &[u32], t: Plan, face: usize) -> CornerNumber
-    requires { Room (length work.now) t × (face ≤ t.faces) }
-    ensures { result.0 ≡ start_in work.now t face }
-{
-    CornerNumber(wide(work[t.starts + face]))
-}
+impl<'a> Tables<'a> {
+    // The number that a corner is gathered by for normals (FORMAT 10.2).
+    pub fn gather_of(&self, c: CornerNumber) -> PointNumber
+        requires { c.0 < self.now.plan.now.count }
+        ensures { result.0 ≡ gather_in self.now.work.now self.now.plan.now c.0 }
+    {
+        let t = self.plan;
+        gathered(t.ring, PointNumber(wide(self.work[t.corners + c.0])))
+    }
 
-// The corners of a kept face.
-pub fn stretch_of(work: &[u32], t: Plan, face: usize) -> Stretch
-    requires { Sound work.now t × (face < t.faces) }
-    ensures { Ends work.now t face result }
-{
-    let from = start_of(work, t, face);
-    let to = start_of(work, t, face + 1);
-    Stretch { from, to }
-}
+    // At the number of faces, the number of corners.
+    fn start_of(&self, face: usize) -> CornerNumber
+        requires { face ≤ self.now.plan.now.faces }
+        ensures { result.0 ≡ start_in self.now.work.now self.now.plan.now face }
+    {
+        CornerNumber(wide(self.work[self.plan.starts + face]))
+    }
 
-// The face of a corner, among the kept ones.
-pub fn owner_of(work: &[u32], t: Plan, c: CornerNumber) -> usize
-    requires { Room (length work.now) t × (c.0 < t.count) }
-    ensures { result ≡ owner_in work.now t c.0 }
-{
-    wide(work[t.owners + c.0])
+    // The corners of a kept face.
+    pub fn stretch_of(&self, face: usize) -> Stretch
+        requires { Sound self.now.work.now self.now.plan.now × (face < self.now.plan.now.faces) }
+        ensures { Ends self.now.work.now self.now.plan.now face result }
+    {
+        let from = self.start_of(face);
+        let to = self.start_of(face + 1);
+        Stretch { from, to }
+    }
+
+    // The face of a corner, among the kept ones.
+    pub fn owner_of(&self, c: CornerNumber) -> usize
+        requires { c.0 < self.now.plan.now.count }
+        ensures { result ≡ owner_in self.now.work.now self.now.plan.now c.0 }
+    {
+        wide(self.work[self.plan.owners + c.0])
+    }
 }

@@ -8,8 +8,10 @@ use Rattle.normals.proofs.whole.generate.Goals as goal
 
 pub corner_normals-requires : goal.corner_normals-requires
 corner_normals-requires c =
-    let M = made_kept c.prepare.ensures c.share.ensures.0 in
-    (M.ready, c.share.ensures.1, omega (arith, c.requires.1, c.share.auto.floats))
+    (c.share.ensures.1, omega (arith, c.requires.1, c.share.auto.floats))
+
+pub invariant_of-corner_normals : goal.invariant_of-corner_normals
+invariant_of-corner_normals c = record { ready = (made_kept c.prepare.ensures c.share.ensures.0).ready }
 
 pub returns : goal.returns
 returns c =

@@ -1,6 +1,0 @@
-use Rattle.normals.specs.Rows.{Summed}
-use Rattle.normals.specs.Written.{Continued}
-use Rattle.normals.proofs.outputs.normals_from.Given as goal
-
-abbrev pub invariant-loop-k : goal.invariant-loop-k
-invariant-loop-k l = Summed l.work l.t l.rule l.floats × Continued l.initial.floats l.floats l.work l.t l.rule l.c l.k

@@ -1,6 +1,0 @@
-use Rattle.mesh.specs.Normals.{sum_all}
-use Rattle.normals.proofs.Walks.{Left}
-use Rattle.normals.proofs.points.sum_all.Given as goal
-
-abbrev pub invariant-loop-g : goal.invariant-loop-g
-invariant-loop-g l = Left sum_all l.work l.t l.initial.s l.faces l.s l.g-index

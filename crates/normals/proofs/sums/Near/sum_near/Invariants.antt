@@ -1,0 +1,6 @@
+use Rattle.mesh.specs.Normals.{sum_near}
+use Rattle.normals.proofs.Walks.{Left}
+use Rattle.normals.proofs.sums.Near.sum_near.Given as goal
+
+abbrev pub invariant-loop-x : goal.invariant-loop-x
+invariant-loop-x l = Left (sum_near l.self.bound l.own l.u) l.self.source.work.now l.self.source.plan.now l.initial.s l.faces l.s l.x-index
