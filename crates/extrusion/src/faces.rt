@@ -78,7 +78,7 @@ fn put_begin(work: &mut [u32], k: usize, wanted: bool, cap: usize) -> usize
     ensures { (work.new ≡ spliced work.old k (flat (begin_points wanted cap))) × (result ≡ k + length (flat (begin_points wanted cap))) }
 {
     if has_cap(wanted, cap) {
-        put_each(work, k, cap, |j| cap - 1 - j);
+        put_each(work, k, cap, |j| narrow(cap - 1 - j));
         return k + cap;
     }
     k
@@ -90,7 +90,7 @@ fn put_end(work: &mut [u32], k: usize, wanted: bool, p: PointNumber, cap: usize)
     ensures { work.new ≡ spliced work.old k (flat (end_points wanted p.0 cap)) }
 {
     if has_cap(wanted, cap) {
-        put_each(work, k, cap, |j| p.0 + j);
+        put_each(work, k, cap, |j| narrow(p.0 + j));
         return;
     }
 }

@@ -1,3 +1,4 @@
+use Rattle.tables.proofs.Putting.{put_are}
 use Prim.Native.Nat.{◌+◌, ◌-◌, ℕ}
 use Rattle.lists.proofs.Splices.{splice_start}
 use Rattle.lists.proofs.Tabs.{length_by}
@@ -17,7 +18,7 @@ put_each-requires-clause-room c = omega (arith, c.requires.1, length_by _ _ _ (b
 pub returns-then-has_cap : goal.returns-then-has_cap
 returns-then-has_cap c =
     let q = begin_yes c.args.wanted c.args.cap _ c.has_cap.ensures c.if-has_cap.true in
-    (c.put_each.ensures (λ j. c.args.cap - 1 - j) (λ j r b p. search rules) ∙ ap (spliced c.args.work.now c.args.k) (sym q), ap (λ (x : ℕ). c.args.k + x) (sym (length_by _ _ _ q)))
+    (put_are (λ j. c.args.cap - 1 - j) c.put_each.ensures (λ j r b p. search rules) ∙ ap (spliced c.args.work.now c.args.k) (sym q), ap (λ (x : ℕ). c.args.k + x) (sym (length_by _ _ _ q)))
 
 pub returns : goal.returns
 returns c =

@@ -1,3 +1,4 @@
+use Rattle.tables.proofs.Putting.{put_are}
 use Prim.Native.Nat.{◌+◌}
 use Rattle.lists.proofs.Splices.{splice_start}
 use Rattle.lists.proofs.Tabs.{length_by}
@@ -13,7 +14,7 @@ put_each-requires-clause-room c = omega (arith, c.requires.1, length_by _ _ _ (e
 
 pub returns-then-has_cap : goal.returns-then-has_cap
 returns-then-has_cap c =
-    c.put_each.ensures (λ j. c.args.p.0 + j) (λ j r b p. search rules) ∙ ap (spliced c.args.work.now c.args.k) (sym (end_yes c.args.wanted c.args.cap _ c.has_cap.ensures c.args.p.0 c.if-has_cap.true))
+    put_are (λ j. c.args.p.0 + j) c.put_each.ensures (λ j r b p. search rules) ∙ ap (spliced c.args.work.now c.args.k) (sym (end_yes c.args.wanted c.args.cap _ c.has_cap.ensures c.args.p.0 c.if-has_cap.true))
 
 pub returns : goal.returns
 returns c =
