@@ -15,7 +15,7 @@ use Rattle.block.specs.Texture.{pair_of}
 use Rattle.block.proofs.ValueLaws.{word_first}
 use Rattle.lists.specs.Loops.{tab}
 use Rattle.lists.proofs.Tabs.{length_tab, tab_at}
-use Rattle.lists.proofs.Lists.{get_d_any}
+use Rattle.lists.proofs.Lists.{get_or_any}
 use Rattle.mesh.specs.Words.{floats}
 use Rattle.mesh.specs.Frames.{origin, at}
 use Rattle.mesh.specs.Arcs.{at2}
@@ -56,11 +56,11 @@ turn_is b k x y z s c r ex ey ez es ec er = er ∙ (λ t. axis_turn (v3 (first_f
 module _ (l : List Pair) (k i : ℕ) (e : k ≡ length l) (r : Pair) where
   pub scale_own : i < k → r ≡ at2 l i → r ≡ scale_at l i
   unfolding at2 scale_at
-  scale_own h q = q ∙ get_d_any l i _ _ (omega arith)
+  scale_own h q = q ∙ get_or_any l i _ _ (omega arith)
 
   pub scale_first : k ≤ i → 0 < k → r ≡ at2 l 0 → r ≡ scale_at l i
   unfolding at2 scale_at
-  scale_first h g q = let p : length l ≤ i = omega arith in q ∙ get_d_any l 0 _ _ (omega arith) ∙ sym (get_or-eq_default l _ p)
+  scale_first h g q = let p : length l ≤ i = omega arith in q ∙ get_or_any l 0 _ _ (omega arith) ∙ sym (get_or-eq_default l _ p)
 
   pub scale_none : k ≤ 0 → r ≡ record { s = one_f; t = one_f } → r ≡ scale_at l i
   unfolding scale_at

@@ -45,18 +45,12 @@ pub fn parts(m: u64, e: u64) -> u64
     quotient(m, e - 54)
 }
 
-pub fn wide(x: u32) -> u64
-    ensures { result ≡ x }
-{
-    x as u64
-}
-
 // The significand of a pattern without a sign.
 pub fn significand(b: u32) -> u64
     requires { b < 2139095040 }
     ensures { result ≡ mant b }
 {
-    let part = wide(b % 8388608);
+    let part = u64::from(b % 8388608);
     if b / 8388608 == 0 {
         part
     } else {
@@ -69,7 +63,7 @@ pub fn exponent(b: u32) -> u64
     requires { b < 2139095040 }
     ensures { result ≡ expo b }
 {
-    let field = wide(b / 8388608);
+    let field = u64::from(b / 8388608);
     if field == 0 { 0 } else { field - 1 }
 }
 

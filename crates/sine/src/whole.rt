@@ -4,7 +4,7 @@ ghost use Rattle.std.specs.Float.Ieee.{neg};
 ghost use Rattle.series.specs.Value.{blend};
 ghost use Rattle.sine.specs.SinCos.{fraction_of, half_of, inside_of, sin_cos_of};
 
-use crate::angle::{exponent, parts, significand, step_of, wide};
+use crate::angle::{exponent, parts, significand, step_of};
 use crate::table::four_entries;
 
 // Laid out as in C, for hosts.
@@ -42,7 +42,7 @@ fn blended(a: u32, b: u32, w: u64) -> u64
     requires { (a ≤ 1073741824) × (b ≤ 1073741824) × (w ≤ 16777216) }
     ensures { result ≡ blend a b w }
 {
-    ((16777216 - w) * wide(a) + w * wide(b)) / 1073741824
+    ((16777216 - w) * u64::from(a) + w * u64::from(b)) / 1073741824
 }
 
 // t / 2^24.
