@@ -28,12 +28,6 @@ pub struct Words4 {
     pub a: u32,
 }
 
-fn wide(x: u8) -> u32
-    ensures { (result ≡ x) × (result < 256) }
-{
-    x as u32
-}
-
 // The number that `width` bits from bit `at` on write, most significant first. Bits beyond the block are 0.
 pub fn field_at(block: &[u8], at: u32, width: u32) -> u32
     requires { width ≤ 32 }
@@ -45,7 +39,7 @@ pub fn field_at(block: &[u8], at: u32, width: u32) -> u32
     for k in 0..n {
         let i = start + k;
         let s = 7 - i % 8;
-        v = v * 2 + wide((get_or(block, i / 8, 0) >> s) % 2);
+        v = v * 2 + u32::from((get_or(block, i / 8, 0) >> s) % 2);
     }
     v
 }
@@ -55,10 +49,10 @@ pub fn word(block: &[u8], at: usize) -> u32
     requires { at + 4 ≤ length block.now }
     ensures { result ≡ word_at block.now at }
 {
-    let a = wide(block[at]);
-    let b = wide(block[at + 1]);
-    let c = wide(block[at + 2]);
-    let d = wide(block[at + 3]);
+    let a = u32::from(block[at]);
+    let b = u32::from(block[at + 1]);
+    let c = u32::from(block[at + 2]);
+    let d = u32::from(block[at + 3]);
     ((a * 256 + b) * 256 + c) * 256 + d
 }
 

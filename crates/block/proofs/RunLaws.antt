@@ -1,5 +1,5 @@
 -- Laws of runs: the length of a run, the first of the runs and the rest, kept faces, and a turn of a loop over the runs.
--- What ends a run is `endsRun`, which is never opened here. Assumes nothing.
+-- What ends a run is `ends_run`, which is never opened here. Assumes nothing.
 use Prim.Native.Nat.{ℕ, zero, suc, ◌+◌, ◌-◌, ◌*◌, ◌/◌, ◌≤◌, ◌<◌}
 use mathlib.Core.Path.{◌≡◌, refl, ap, sym, ◌∙◌, subst}
 use mathlib.Core.Bool.{Bool, true, false, cond, not, ◌&&◌, ◌||◌, and-false}

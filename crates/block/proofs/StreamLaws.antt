@@ -89,8 +89,8 @@ corner_get coord place point (indexed h q p) =
 corner_get coord place point (bare e q) = rw (e, q)
 
 -- the number that a corner reads is Stream::get's
-pub stream_number : (own coord : List ℕ) (perVertex : Bool) (place face point : ℕ) → Corner coord place point
-    → number_at own coord perVertex place face ≡ found_of (stream_index (entries own) perVertex place face point)
+pub stream_number : (own coord : List ℕ) (per_vertex : Bool) (place face point : ℕ) → Corner coord place point
+    → number_at own coord per_vertex place face ≡ found_of (stream_index (entries own) per_vertex place face point)
 unfolding number_at stream_index chosen number_in
 stream_number own coord false place face point at = list_get (entries own) face
 stream_number own coord true place face point at = go (entries own) refl
@@ -121,8 +121,8 @@ module _ {A : Type 0} where
             ap (λ (b : Bool). cond b (made n) missing) (sym c) ∙ listed_get (count_of w values) made n missing
 
     -- the value that a corner reads is what Stream::get gives on the list of the values, the missing value standing for None
-    pub stream_get_lem : (own coord : List ℕ) (perVertex : Bool) (place face point : ℕ) → Corner coord place point
-        → value_at made w values (number_at own coord perVertex place face) missing ≡ or_else (stream_get (values_of made w values) (entries own) perVertex place face point) missing
+    pub stream_get_lem : (own coord : List ℕ) (per_vertex : Bool) (place face point : ℕ) → Corner coord place point
+        → value_at made w values (number_at own coord per_vertex place face) missing ≡ or_else (stream_get (values_of made w values) (entries own) per_vertex place face point) missing
     unfolding stream_get
-    stream_get_lem own coord perVertex place face point at =
-        rw (stream_number own coord perVertex place face point at) (value_get_lem (stream_index (entries own) perVertex place face point))
+    stream_get_lem own coord per_vertex place face point at =
+        rw (stream_number own coord per_vertex place face point at) (value_get_lem (stream_index (entries own) per_vertex place face point))

@@ -10,7 +10,7 @@ abbrev pub kind_of : ℕ → Kind
 kind_of n = get_or (FaceSet ∷ LineSet ∷ Grid ∷ Extrusion ∷ Primitives Triangles ∷ Primitives Fans ∷ Primitives Strips ∷ []) n (Primitives Quads)
 
 -- the one of the kind
-abbrev pub by_kind : {A : Type 0} → Kind → (faceSet lineSet grid extrusion : A) → (primitives : Topology → A) → A
+abbrev pub by_kind : {A : Type 0} → Kind → (face_set line_set grid extrusion : A) → (primitives : Topology → A) → A
 by_kind FaceSet a b c d e = a
 by_kind LineSet a b c d e = b
 by_kind Grid a b c d e = c

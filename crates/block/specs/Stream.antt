@@ -17,13 +17,11 @@ index_bytes kind len = cond (is_indexed kind) len 0
 
 -- FORMAT 2.4: the attribute whose values are list k, and whose own index list is the next one
 unfoldable pub stream_of : Header → Bool → ℕ → Stream
-stream_of h perVertex k =
+stream_of h per_vertex k =
     record {
-      per_vertex = perVertex;
-      values_at = (place_of h k).at;
-      values_len = (place_of h k).len;
-      index_at = (place_of h (k + 1)).at;
-      index_len = index_bytes h.kind (place_of h (k + 1)).len;
+      per_vertex = per_vertex;
+      values = place_of h k;
+      index = record { at = (place_of h (k + 1)).at; len = index_bytes h.kind (place_of h (k + 1)).len };
     }
 
 -- a word whose top bit is set is a negative number
@@ -48,14 +46,14 @@ number_in list k = cond (eqb (length (entries list)) 0) (itself k) (entry_at (en
 
 -- FORMAT 7.1: the number of the value that a corner reads, by its place in coordIndex or by its face
 unfoldable pub number_at : List ℕ → List ℕ → Bool → ℕ → ℕ → Option ℕ
-number_at own coord perVertex place face = cond perVertex (number_in (chosen own coord) place) (number_in own face)
+number_at own coord per_vertex place face = cond per_vertex (number_in (chosen own coord) place) (number_in own face)
 
 -- the bytes of the attribute's values, and of its own index list
 abbrev pub values_in : List ℕ → Stream → List ℕ
-values_in bs s = take s.values_len (drop s.values_at bs)
+values_in bs s = take s.values.len (drop s.values.at bs)
 
 abbrev pub index_in : List ℕ → Stream → List ℕ
-index_in bs s = take s.index_len (drop s.index_at bs)
+index_in bs s = take s.index.len (drop s.index.at bs)
 
 -- FORMAT 7.1: the number that a corner reads in a block
 abbrev pub found_at : List ℕ → List ℕ → Stream → ℕ → ℕ → Option ℕ
@@ -92,7 +90,7 @@ through (w ∷ ws) k n = index_get (slice_get (w ∷ ws) k)
 
 -- idx of Stream::get; `as i64` keeps a face number, which is below 2 ^ 63
 unfoldable pub stream_index : List ℕ → Bool → ℕ → ℕ → ℕ → Option ℤ
-stream_index index perVertex k face coord = cond perVertex (through index k coord) (through index face face)
+stream_index index per_vertex k face coord = cond per_vertex (through index k coord) (through index face face)
 
 -- idx as the number of a value
 abbrev pub found_of : Option ℤ → Option ℕ
@@ -108,7 +106,7 @@ value_get values (Some (pos n)) = slice_get values n
 
 -- Stream::get: k is the place in coordIndex, and coord the entry there
 unfoldable pub stream_get : {A : Type 0} → List A → List ℕ → Bool → ℕ → ℕ → ℕ → Option A
-stream_get values index perVertex k face coord = value_get values (stream_index index perVertex k face coord)
+stream_get values index per_vertex k face coord = value_get values (stream_index index per_vertex k face coord)
 
 -- f 0, f 1, .. f (n - 1)
 unfoldable pub listed : {A : Type 0} → ℕ → (ℕ → A) → List A

@@ -2,20 +2,18 @@
 ghost use Rattle.std.specs.Prelude.{◌≡◌, ◌<◌, true};
 ghost use Rattle.block.specs.Stream.{index_bytes, stream_of, is_negative, chosen, number_in, number_at, found_at, get_at, get4_at};
 
-use crate::extents::list_place;
+use crate::extents::{Place, list_place};
 use crate::header::Header;
 use crate::kind::{Kind, is_indexed};
 use crate::value::{Value, value_or, value4};
 use bits::Words4;
 
-// An attribute of a block: where its values and its own index list lie, in bytes.
+// An attribute of a block: where its values and its own index list lie.
 #[derive(Clone, Copy)]
 pub struct Stream {
     pub per_vertex: bool,
-    pub values_at: usize,
-    pub values_len: usize,
-    pub index_at: usize,
-    pub index_len: usize,
+    pub values: Place,
+    pub index: Place,
 }
 
 // The bytes of an attribute's own index list. Grids have none.
@@ -33,15 +31,14 @@ fn stream_of(h: Header, per_vertex: bool, k: usize) -> Stream
     requires { k < 8 }
     ensures { result ≡ stream_of h per_vertex k }
 {
-    let values = list_place(h, k);
-    let index = list_place(h, k + 1);
-    let kind = h.kind;
+    let list = list_place(h, k + 1);
     Stream {
         per_vertex,
-        values_at: values.at,
-        values_len: values.len,
-        index_at: index.at,
-        index_len: index_bytes(kind, index.len),
+        values: list_place(h, k),
+        index: Place {
+            at: list.at,
+            len: index_bytes(h.kind, list.len),
+        },
     }
 }
 
@@ -125,7 +122,7 @@ fn found_at<'a>(
     ensures { result ≡ found_at block.now coord.now s place face }
 {
     number_at(
-        bits::part(block, s.index_at, s.index_len),
+        bits::part(block, s.index.at, s.index.len),
         coord,
         s.per_vertex,
         place,
@@ -145,7 +142,7 @@ pub fn get<'a, V: Value>(
     ensures { result ≡ get_at V.made V.width block.now coord.now s place face missing }
 {
     let found = found_at(block, coord, s, place, face);
-    value_or(bits::part(block, s.values_at, s.values_len), found, missing)
+    value_or(bits::part(block, s.values.at, s.values.len), found, missing)
 }
 
 // A colour, of 4 words or of 3.
@@ -162,7 +159,7 @@ pub fn get4<'a>(
 {
     let found = found_at(block, coord, s, place, face);
     value4(
-        bits::part(block, s.values_at, s.values_len),
+        bits::part(block, s.values.at, s.values.len),
         alpha,
         found,
         missing,

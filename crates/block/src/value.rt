@@ -105,12 +105,6 @@ impl Value for Rgb {
     }
 }
 
-fn wide(n: u32) -> usize
-    ensures { (result ≡ n) × (result < 4294967296) }
-{
-    n as usize
-}
-
 // The value at the number found, or the missing one where the list has none there.
 pub fn value_or<V: Value>(values: &[u8], found: Option<u32>, missing: V) -> V
     ensures { result ≡ value_at (V.made values.now) V.width values.now found missing }
@@ -118,7 +112,7 @@ pub fn value_or<V: Value>(values: &[u8], found: Option<u32>, missing: V) -> V
     let Some(n) = found else {
         return missing;
     };
-    let k = wide(n);
+    let k = n as usize;
     if k < values.len() / V::bytes() {
         return V::read(values, k);
     }

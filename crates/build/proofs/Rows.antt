@@ -44,7 +44,7 @@ abbrev lent : Lent
 lent = record { block = []; coord = []; floats = replicate 9 (of_bits binary32 0) }
 
 abbrev nowhere : Stream
-nowhere = record { per_vertex = false; values_at = 0; values_len = 0; index_at = 0; index_len = 0 }
+nowhere = record { per_vertex = false; values = record { at = 0; len = 0 }; index = record { at = 0; len = 0 } }
 
 abbrev shared : Shared
 shared =

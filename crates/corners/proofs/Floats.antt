@@ -7,11 +7,11 @@ use lib.ListN.{length, get_or}
 use lib.Ieee.{Float, nan, binary32, to_bits}
 use Rattle.bits.specs.declared.Words3.{Words3}
 use Rattle.math.specs.Vector as vector
-use Rattle.lists.proofs.Lists.{get_d_any}
+use Rattle.lists.proofs.Lists.{get_or_any}
 use Rattle.corners.specs.Corner.{generated_at}
 
 float_word : (l : List Float) (i x : ℕ) → x ≡ to_bits binary32 (get_or l i nan) → i < length l → x ≡ to_bits binary32 (get_or l i vector.zero_f)
-float_word l i x e h = e ∙ ap (to_bits binary32) (get_d_any l i nan vector.zero_f h)
+float_word l i x e h = e ∙ ap (to_bits binary32) (get_or_any l i nan vector.zero_f h)
 
 pub generated_words : (l : List Float) (c : ℕ) (w : Words3) → 3 * c + 3 ≤ length l → w.x ≡ to_bits binary32 (get_or l (3 * c) nan)
     → w.y ≡ to_bits binary32 (get_or l (3 * c + 1) nan) → w.z ≡ to_bits binary32 (get_or l (3 * c + 2) nan) → w ≡ generated_at l c

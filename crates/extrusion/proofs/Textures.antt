@@ -23,7 +23,7 @@ use Rattle.mesh.specs.Extrusion.{Extrusion, spine_count, section_count, extrusio
 use Rattle.lists.specs.Parts.{spliced, Kept}
 use Rattle.lists.proofs.Keep.{kept_at}
 use Rattle.lists.proofs.Splices.{put_part}
-use Rattle.lists.proofs.Lists.{get_d_any}
+use Rattle.lists.proofs.Lists.{get_or_any}
 use Rattle.extrusion.specs.Given.{Given}
 use Rattle.extrusion.specs.Listings.{use_of}
 use Rattle.extrusion.specs.Corners.{texture_of, extrusion_corner, extrusion_texture, Measured, Cornered}
@@ -67,12 +67,12 @@ module _ {bs : List ℕ} {h : Header} {floats : List Float} {at : ℕ} {fit : Fi
   section_arc : (j : ℕ) → j < section_count h → get_or floats (at + j) nan ≡ get_or (arcs2 (extrusion_of bs).section) j zero_f
   section_arc j l =
       let q : j < length (arcs2 (extrusion_of bs).section) = omega (arith, length_arcs (step2 (extrusion_of bs).section) (length (extrusion_of bs).section), section_long T.given) in
-      get_d_any floats (at + j) nan zero_f (omega (arith, arcs_room)) ∙ arc_at j (omega arith) ∙ get_or-append (arcs2 (extrusion_of bs).section) (arcs3 (extrusion_of bs).spine) zero_f j q
+      get_or_any floats (at + j) nan zero_f (omega (arith, arcs_room)) ∙ arc_at j (omega arith) ∙ get_or-append (arcs2 (extrusion_of bs).section) (arcs3 (extrusion_of bs).spine) zero_f j q
 
   spine_arc : (i : ℕ) → i < spine_count h → get_or floats (at + (section_count h + i)) nan ≡ get_or (arcs3 (extrusion_of bs).spine) i zero_f
   spine_arc i l =
       let q : section_count h + i ≡ length (arcs2 (extrusion_of bs).section) + i = omega (arith, length_arcs (step2 (extrusion_of bs).section) (length (extrusion_of bs).section), section_long T.given) in
-      get_d_any floats (at + (section_count h + i)) nan zero_f (omega (arith, arcs_room)) ∙ arc_at (section_count h + i) (omega arith)
+      get_or_any floats (at + (section_count h + i)) nan zero_f (omega (arith, arcs_room)) ∙ arc_at (section_count h + i) (omega arith)
       ∙ ap (λ (k : ℕ). get_or (arcs2 (extrusion_of bs).section ++ arcs3 (extrusion_of bs).spine) k zero_f) q
       ∙ get_or-append-add (arcs2 (extrusion_of bs).section) (arcs3 (extrusion_of bs).spine) i zero_f
 

@@ -73,7 +73,7 @@ pub fn cap_count(h: Header, cap: usize) -> usize
 }
 
 // The cap of the points point(0), point(1), .., where there is one; the place behind it.
-fn put_cap<F: Fn(usize) -> usize>(
+fn put_cap<F: Fn(usize) -> u32>(
     work: &mut [u32],
     k: usize,
     wanted: bool,
@@ -82,7 +82,6 @@ fn put_cap<F: Fn(usize) -> usize>(
 ) -> usize
     requires room { k + cond (has_cap wanted cap) cap 0 ≤ length work.old }
     requires called { (j : ℕ) → j < cap → F.pre point j }
-    requires few { (j : ℕ) (r : ℕ) → j < cap → F.post point j r → r ≤ most }
     ensures put { (value : ℕ → ℕ) → ((j : ℕ) (r : ℕ) → j < cap → F.post point j r → r ≡ value j)
         → work.new ≡ spliced work.old k (cond (has_cap wanted cap) (tab value cap 0) []) }
     ensures behind { result ≡ k + cond (has_cap wanted cap) cap 0 }
@@ -106,7 +105,7 @@ pub fn put_uses(work: &mut [u32], k: usize, n: usize, m: usize, cap: usize, begi
         k + (n - 1) * ((m - 1) * 4),
         begin,
         cap,
-        |j| cap - 1 - j,
+        |j| narrow(cap - 1 - j),
     );
-    put_cap(work, next, end, cap, |j| last.0 + j);
+    put_cap(work, next, end, cap, |j| narrow(last.0 + j));
 }

@@ -44,5 +44,5 @@ pub fn list_faces(h: Header, cap: usize, work: &mut [u32], t: Plan)
     put_uses(work, t.corners, n, m, cap, h.begin_cap, h.end_cap);
     put_starts(work, t.starts, (n - 1) * (m - 1), t.faces, cap);
     put_uses(work, t.places, n, m, cap, h.begin_cap, h.end_cap);
-    put_each(work, t.numbers, t.faces, |j| j);
+    put_each(work, t.numbers, t.faces, |j| narrow(j));
 }

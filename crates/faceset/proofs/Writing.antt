@@ -18,7 +18,7 @@ use Rattle.tables.specs.Listed.{Use, no_use, Beside}
 use Rattle.tables.proofs.Besides.{beside_then, beside_corners, beside_starts, beside_places, beside_numbers}
 use Rattle.faceset.specs.declared.listing.Progress.{Progress}
 use Rattle.faceset.specs.Adding.{Fits, points_used, places_used, face_added, FacePut}
-use Rattle.faceset.proofs.Each.{put_are}
+use Rattle.tables.proofs.Putting.{put_are}
 
 -- ---- one face: its points, its places, its number, and the first corner after it
 

@@ -5,7 +5,7 @@ use Rattle.tables.specs.declared.layout.Plan.{Plan}
 use Rattle.tables.specs.Layout.{Room}
 use Rattle.tables.specs.Soups.{point_in, start_in, number_in, place_in}
 use Rattle.faceset.specs.declared.listing.Progress.{Progress}
-use Rattle.faceset.specs.Each.{PutEach}
+use Rattle.tables.specs.Each.{PutEach}
 use Rattle.tables.specs.Listed.{Use, no_use, no_listing, Listing, uses_at}
 
 -- there is room for face j, with n corners from corner c on

@@ -1,5 +1,4 @@
 -- The tables of a face set: what they list, how a face is added, and how far a pass over the runs has come.
-pub mod Each
 pub mod Listings
 pub mod Adding
 pub mod Passing

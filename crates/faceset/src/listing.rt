@@ -8,9 +8,8 @@ ghost use Rattle.faceset.specs.Listings.{use_of};
 ghost use Rattle.faceset.specs.Adding.{Fits, FacePut, words_after, progress_after};
 ghost use Rattle.faceset.specs.Passing.{Planned, RunFits, FacesListed};
 
-use crate::points::put_each;
 use block::{CornerNumber, is_kept, point_at, runs_in};
-use tables::{Plan, narrow};
+use tables::{Plan, narrow, put_each};
 
 // How many faces are listed, and the next corner.
 #[derive(Clone, Copy)]

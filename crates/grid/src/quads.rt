@@ -9,7 +9,7 @@ ghost use Rattle.grid.specs.Sides.{Planned};
 ghost use Rattle.grid.specs.Listings.{corner_point, grid_listings};
 
 use block::{CornerNumber, Header, PointNumber};
-use tables::{Plan, put_each, wide};
+use tables::{Plan, narrow, put_each, wide};
 
 // The number of the point in column i of row j.
 fn point_at(xd: usize, i: usize, j: usize) -> PointNumber
@@ -45,7 +45,7 @@ fn put_corners(work: &mut [u32], a: usize, n: usize, xd: usize)
     requires { (2 ≤ xd) × (xd ≤ most) × (n ≤ most) × ((c : ℕ) → c < n → corner_point xd c ≤ most) × (a + n ≤ length work.old) }
     ensures { work.new ≡ spliced work.old a (tab (corner_point xd) n 0) }
 {
-    put_each(work, a, n, |c| corner_point(xd, CornerNumber(c)).0);
+    put_each(work, a, n, |c| narrow(corner_point(xd, CornerNumber(c)).0));
 }
 
 // Quad q has number q and the corners from 4 * q on; a corner's place is its point.
@@ -56,7 +56,7 @@ pub fn list_faces(h: Header, work: &mut [u32], t: Plan)
     let counts = h.counts;
     let xd = wide(counts[0]);
     put_corners(work, t.corners, t.count, xd);
-    put_each(work, t.starts, t.faces + 1, |j| 4 * j);
+    put_each(work, t.starts, t.faces + 1, |j| narrow(4 * j));
     put_corners(work, t.places, t.count, xd);
-    put_each(work, t.numbers, t.faces, |j| j);
+    put_each(work, t.numbers, t.faces, |j| narrow(j));
 }

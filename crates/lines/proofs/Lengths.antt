@@ -1,7 +1,7 @@
 -- FORMAT 4, 6.3: how many indices the lines have: two a line.
 use mathlib.Core.Path.{◌≡◌, refl, ◌∙◌}
 use mathlib.Core.Bool.{Bool, true, false, cond}
-use Rattle.std.specs.Prelude.{Option, None, Some}
+use Rattle.std.specs.Prelude.{Option, None, Some, is_some}
 use mathlib.Core.List.{List, [], ◌∷◌, ◌++◌}
 use Prim.Native.Nat.{ℕ, suc, ◌+◌, ◌*◌}
 use native.Mathlib.Omega.{arith}
@@ -11,11 +11,6 @@ use Rattle.block.specs.Runs.{Run, sum_over}
 use Rattle.mesh.specs.Lines.{line}
 use Rattle.mesh.specs.Sizes.{named, lines_after}
 use Rattle.lines.specs.Steps.{vertex_at, corner_after, pairs, run_pairs}
-
--- whether the entry before names a point
-abbrev pub is_some : {A : Type 0} → Option A → Bool
-is_some None = false
-is_some (Some a) = true
 
 module _ (p : ℕ) (numbers : List ℕ) where
   length_pairs : (es : List ℕ) (c : ℕ) (prev : Option ℕ) → length (pairs p numbers c prev es) ≡ 2 * lines_after p (is_some prev) es

@@ -47,10 +47,10 @@ module _ {A : Type 0} where
   get_or_map_lt f (x ∷ xs) (suc i) d e b = get_or_map_lt f xs i d e (le_of_suc-le-suc b)
 
 -- whatever is read beyond the last
-pub get_d_any : {A : Type 0} (l : List A) (i : ℕ) (d e : A) → i < length l → get_or l i d ≡ get_or l i e
-get_d_any [] i d e b = absurd (not-suc-le-zero b)
-get_d_any (x ∷ l) zero d e b = refl
-get_d_any (x ∷ l) (suc i) d e b = get_d_any l i d e (le_of_suc-le-suc b)
+pub get_or_any : {A : Type 0} (l : List A) (i : ℕ) (d e : A) → i < length l → get_or l i d ≡ get_or l i e
+get_or_any [] i d e b = absurd (not-suc-le-zero b)
+get_or_any (x ∷ l) zero d e b = refl
+get_or_any (x ∷ l) (suc i) d e b = get_or_any l i d e (le_of_suc-le-suc b)
 
 pub All_of_map : {A B : Type 0} (P : B → Type 0) (f : A → B) (l : List A) → All (λ (x : A). P (f x)) l → All P (map f l)
 All_of_map P f [] h = tt
@@ -399,11 +399,11 @@ module _ {K : Type 0} (same : K → K → Bool) (self : (a : K) → T (same a a)
       go true e = subst (λ (b : Bool). T b) (sym e) tt
       go false e = has_right same k vs (k ∷ []) (T_or_left (same k k) false (self k))
 
-  pub has_get_d : (l : List K) (i : ℕ) (d : K) → i < length l → T (has same (get_or l i d) l)
+  pub has_get_or : (l : List K) (i : ℕ) (d : K) → i < length l → T (has same (get_or l i d) l)
   unfolding has
-  has_get_d [] i d b = absurd (not-suc-le-zero b)
-  has_get_d (x ∷ xs) zero d b = T_or_left (same x x) (has same x xs) (self x)
-  has_get_d (x ∷ xs) (suc i) d b = T_or_right (same (get_or xs i d) x) (has same (get_or xs i d) xs) (has_get_d xs i d (le_of_suc-le-suc b))
+  has_get_or [] i d b = absurd (not-suc-le-zero b)
+  has_get_or (x ∷ xs) zero d b = T_or_left (same x x) (has same x xs) (self x)
+  has_get_or (x ∷ xs) (suc i) d b = T_or_right (same (get_or xs i d) x) (has same (get_or xs i d) xs) (has_get_or xs i d (le_of_suc-le-suc b))
 
   place_end : (k : K) (vs : List K) → has same k vs ≡ false → place same k (vs ++ (k ∷ [])) ≡ length vs
   unfolding has place
@@ -422,7 +422,7 @@ module _ {K : Type 0} (same : K → K → Bool) (self : (a : K) → T (same a a)
       go : (t : Bool) → ltb v (length vs) ≡ t → place same (get_or (vs ++ (k ∷ [])) v d) (vs ++ (k ∷ [])) ≡ v
       go true t =
           let h : v < length vs = ltb-true v (length vs) t in
-          ap (λ (z : K). place same z (vs ++ (k ∷ []))) (get_or-append vs (k ∷ []) d v h) ∙ place_left same (get_or vs v d) vs (k ∷ []) (has_get_d vs v d h) ∙ D v d h
+          ap (λ (z : K). place same z (vs ++ (k ∷ []))) (get_or-append vs (k ∷ []) d v h) ∙ place_left same (get_or vs v d) vs (k ∷ []) (has_get_or vs v d h) ∙ D v d h
       go false t =
           let e : length vs ≡ v = omega (arith, length-append vs (k ∷ []), ltb-false v (length vs) t) in
           ap (λ (z : K). place same z (vs ++ (k ∷ []))) (get_or_at vs k [] d v e) ∙ place_end k vs n ∙ e

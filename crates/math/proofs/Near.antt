@@ -1,4 +1,4 @@
--- `rootOf` is the nearest f32 to the exact root.
+-- `root_of` is the nearest f32 to the exact root.
 use mathlib.Core.Path.{◌≡◌, sym, ap, ap₂, ◌∙◌, subst, subst₂}
 use mathlib.Core.Logic.{◌⊎◌, inl, inr}
 use mathlib.Core.Bool.{Bool, not}

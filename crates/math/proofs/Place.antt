@@ -90,7 +90,7 @@ pub significand_high : (b : ℕ) → 2 ^ 23 ≤ b → significand b ≡ b % 2 ^ 
 unfolding significand
 significand_high b h = ap (λ (t : Bool). cond t (b * 2 ^ (24 - size b)) (b % 2 ^ 23 + 2 ^ 23)) (le-ltb b (2 ^ 23) h)
 
--- what `rootBits` is for a subnormal and for a normal f32
+-- what `root_bits` is for a subnormal and for a normal f32
 pub bits_low : (b m g : ℕ) → b < 2 ^ 23 → Lifted b m g → 2 ^ 23 ≤ m → joined g m ≡ root_bits b
 unfolding root_bits
 bits_low b m g s l h =

@@ -30,6 +30,6 @@ Plain b = (2 ^ 23 ≤ b) × (b < 255 * 2 ^ 23)
 unfoldable pub plain : Float → Bool
 plain x = lt (of_bits binary32 0) x && lt x (of_bits binary32 0x7f80_0000) && ltb 8388607 (to_bits binary32 x)
 
--- the number that the root of such bits is taken of: their significand, shifted as `rootDigits` does
+-- the number that the root of such bits is taken of: their significand, shifted as `root_digits` does
 abbrev pub tall : ℕ → ℕ
 tall b = (b % 2 ^ 23 + 2 ^ 23) * 2 ^ (25 + (b / 2 ^ 23 + 23) % 2)

@@ -27,7 +27,7 @@ pub record Nearest (x r : Float) : Type 0 where
   pub low : square (units_of (previous r) + units_of r) < 4 * 2 ^ 149 * units_of x
   pub high : 4 * 2 ^ 149 * units_of x < square (units_of r + units_of (next r))
 
--- What `root` promises: the one that `rootOf` computes, which for a positive finite x is the nearest.
+-- What `root` promises: the one that `root_of` computes, which for a positive finite x is the nearest.
 pub record Rooted (x r : Float) : Type 0 where
   pub is : r ≡ root_of x
   pub near : T (positive x) → Nearest x r

@@ -1,4 +1,4 @@
--- FORMAT 9.2: the square root of an f32, f32::sqrt: the nearest f32 to the exact root. `rootOf` computes it; Nearest.antt says what the nearest is.
+-- FORMAT 9.2: the square root of an f32, f32::sqrt: the nearest f32 to the exact root. `root_of` computes it; Nearest.antt says what the nearest is.
 use Rattle.std.specs.Prelude.{ℕ, zero, suc, ◌+◌, ◌-◌, ◌*◌, ◌/◌, ◌%◌, ◌^◌, true, false, cond, leb, ltb, Float}
 use Rattle.std.specs.Float.{nan, inf, fin, binary32}
 use Rattle.std.specs.Float.Ieee.{size, of_bits, to_bits}

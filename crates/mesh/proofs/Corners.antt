@@ -21,7 +21,7 @@ use Rattle.mesh.specs.Normals.{outline, facing, corner_normal}
 use Rattle.mesh.specs.Vertices.{Key, no_key, same_key, key_of, keys_of, vertices, wound, locals, face_indices, indices_of, width}
 use Rattle.mesh.specs.Mend.{Usable, renorm, first_normal, mended}
 use Rattle.mesh.specs.Mesh.{mesh_of, mesh, slices_of, Shown, shown_at, normal_at, part_of}
-use Rattle.lists.proofs.Lists.{All_map, All_get_or, map_All, get_or_map_lt, get_or_map_n, length_map_n, piece, in_flat, has_firsts_new, has_get_d, has_join_n, place_lt, get_or_place}
+use Rattle.lists.proofs.Lists.{All_map, All_get_or, map_All, get_or_map_lt, get_or_map_n, length_map_n, piece, in_flat, has_firsts_new, has_get_or, has_join_n, place_lt, get_or_place}
 use Rattle.mesh.proofs.Keys.{same_key_sound, same_key_self}
 use Rattle.mesh.proofs.Usable.{mend_usable}
 
@@ -89,7 +89,7 @@ module _ (F : Frame) where
       has_firsts_new same_key same_key_sound same_key_self k [] (join_n (keys_of F fs) 0 fs)
       (has_join_n same_key (keys_of F fs) k fs 0 j [] b
       (subst (λ (m : ℕ). T (has same_key k (keys_of F fs m f))) (sym (zero-add j))
-      (has_get_d same_key same_key_self (keys_of F fs j f) i no_key (subst (λ (n : ℕ). i < n) (sym (length_keys fs j f)) h))))
+      (has_get_or same_key same_key_self (keys_of F fs j f) i no_key (subst (λ (n : ℕ). i < n) (sym (length_keys fs j f)) h))))
 
   pub number_lt : (fs : List Face) (j : ℕ) → j < length fs → (i : ℕ) → i < length (get_or fs j []) → number_of fs j i < length (vertices F fs)
   number_lt fs j b i h = place_lt same_key _ (vertices F fs) (key_there fs j b i h)

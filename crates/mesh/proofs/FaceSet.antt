@@ -48,9 +48,9 @@ number_there x k h =
     rw (a, b)
 
 module _ {x y : List ℕ} {k : ℕ} (alike : Alike x y k) where
-  number_same : (own : List ℕ) (perVertex : Bool) (num : ℕ) → number_at own x perVertex k num ≡ number_at own y perVertex k num
+  number_same : (own : List ℕ) (per_vertex : Bool) (num : ℕ) → number_at own x per_vertex k num ≡ number_at own y per_vertex k num
   unfolding number_at chosen
-  number_same own perVertex num = go perVertex (eqb (length (entries own)) 0)
+  number_same own per_vertex num = go per_vertex (eqb (length (entries own)) 0)
     where
       go : (p q : Bool) → cond p (number_in (cond q x own) k) (number_in own num) ≡ cond p (number_in (cond q y own) k) (number_in own num)
       go true true = number_there x k alike.in_x ∙ ap numbered alike.same ∙ sym (number_there y k alike.in_y)

@@ -1,7 +1,7 @@
 -- FORMAT 4: P, C and N of a line set, a grid and an extrusion are the points, the corners and the indices of what its block makes.
 use mathlib.Core.Path.{◌≡◌, refl, ap, ap₂, ◌∙◌}
 use mathlib.Core.Bool.{Bool, true, false, cond}
-use Rattle.std.specs.Prelude.{Option, None, Some}
+use Rattle.std.specs.Prelude.{Option, None, Some, is_some}
 use mathlib.Core.List.{List, [], ◌∷◌, ◌++◌, map, reverse}
 use Prim.Native.Nat.{ℕ, suc, ◌+◌, ◌-◌, ◌*◌}
 use native.Mathlib.Nat.{mul_comm}
@@ -39,17 +39,12 @@ sum_total f (r ∷ rs) = ap (λ (k : ℕ). f r.items + k) (sum_total f rs)
 
 -- ---- line set
 
-is_some : Option Key → Bool
-is_some None = false
-is_some (Some k) = true
-
 one_key : (b : Bool) (q : Key) (l : List Key) (n : ℕ) → length l ≡ n → length (these (cond b (Some q) None) ++ l) ≡ cond b (suc n) n
 one_key true q l n h = ap suc h
 one_key false q l n h = h
 
 one_line : (b : Bool) (q : Key) (prev : Option Key) (os : List (Option Key)) (n : Bool → ℕ) → ((o : Option Key) → length (joined o os) ≡ 2 * n (is_some o))
     → length (line prev (cond b (Some q) None) ++ joined (cond b (Some q) None) os) ≡ 2 * cond (is_some prev) (cond b (suc (n b)) (n b)) (n b)
-unfolding is_some
 one_line true q None os n h = h (Some q)
 one_line true q (Some k) os n h = omega (arith, h (Some q))
 one_line false q None os n h = h None
@@ -76,7 +71,7 @@ module _ (missing : Words4) (R : Rest) (coord : List ℕ) where
       ∙ sum_total (named (point_count R.head)) (runs (entries coord))
 
   lines_indices : (vs : List Key) → length (line_indices missing R coord vs) ≡ 2 * sum_over (lines_after (point_count R.head) false) (runs (entries coord))
-  unfolding line_indices line_ends items_of is_some
+  unfolding line_indices line_ends items_of
   lines_indices vs =
       length-map (join_n (line_ends missing R coord) 0 (runs (entries coord))) (λ (k : Key). place same_key k vs)
       ∙ length_join_n (line_ends missing R coord) (λ (r : Run). 2 * lines_after (point_count R.head) false r.items) (λ num r. ends_length num r.start None r.items) 0 (runs (entries coord))

@@ -107,10 +107,10 @@ module _ (g : Topology) (bs : List ℕ) where
 -- ---- attributes without an index list are read at the corner's point
 
 module _ (own : List ℕ) (none : own ≡ []) {c c' : List ℕ} {k k' p : ℕ} (at : Corner c k p) (at' : Corner c' k' p) where
-  number_same : (perVertex : Bool) (num : ℕ) → number_at own c perVertex k num ≡ number_at own c' perVertex k' num
+  number_same : (per_vertex : Bool) (num : ℕ) → number_at own c per_vertex k num ≡ number_at own c' per_vertex k' num
   unfolding stream_index entries table
-  number_same perVertex num =
-      stream_number own c perVertex k num p at ∙ rw none (go perVertex) ∙ sym (stream_number own c' perVertex k' num p at')
+  number_same per_vertex num =
+      stream_number own c per_vertex k num p at ∙ rw none (go per_vertex) ∙ sym (stream_number own c' per_vertex k' num p at')
     where
       go : (b : Bool) → found_of (stream_index (entries []) b k num p) ≡ found_of (stream_index (entries []) b k' num p)
       go true = refl

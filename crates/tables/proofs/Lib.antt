@@ -6,3 +6,4 @@ pub mod Joins
 pub mod Held
 pub mod Spreads
 pub mod Listings
+pub mod Putting

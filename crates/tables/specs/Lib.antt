@@ -2,3 +2,4 @@
 pub mod Layout
 pub mod Soups
 pub mod Listed
+pub mod Each

@@ -1,19 +1,14 @@
 // A table filled by the number of each word.
 ghost use Rattle.std.specs.Prelude.{◌≡◌, ℕ, ◌+◌, ◌≤◌, ◌<◌, length};
-ghost use Rattle.lists.specs.Loops.{tab};
-ghost use Rattle.lists.specs.Parts.{spliced};
-ghost use Rattle.tables.specs.Layout.{most};
+ghost use Rattle.tables.specs.Each.{PutEach};
 
-use crate::writing::narrow;
-
-// The n words f(0), f(1), .. from place k on.
-pub fn put_each<F: Fn(usize) -> usize>(work: &mut [u32], k: usize, n: usize, f: F)
+// The n words f(0), f(1), .. from place k on (FORMAT 2.4, 8.1).
+pub fn put_each<F: Fn(usize) -> u32>(work: &mut [u32], k: usize, n: usize, f: F)
     requires room { k + n ≤ length work.old }
     requires called { (j : ℕ) → j < n → F.pre f j }
-    requires few { (j : ℕ) (r : ℕ) → j < n → F.post f j r → r ≤ most }
-    ensures { (value : ℕ → ℕ) → ((j : ℕ) (r : ℕ) → j < n → F.post f j r → r ≡ value j) → work.new ≡ spliced work.old k (tab value n 0) }
+    ensures { PutEach (F.post f) k n work.old work.new }
 {
     for j in 0..n {
-        work[k + j] = narrow(f(j));
+        work[k + j] = f(j);
     }
 }

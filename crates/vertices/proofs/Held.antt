@@ -14,7 +14,7 @@ use Rattle.std.specs.Prelude.{Option, Some, None}
 use Rattle.block.specs.declared.number.VertexNumber.{VertexNumber}
 use Rattle.lists.specs.Lists.{has, place, meet, firsts}
 use Rattle.mesh.specs.Vertices.{Key, same_key}
-use Rattle.lists.proofs.Lists.{All_append, All_get_or, T_true, has_get_d, firsts_distinct, meet_old, meet_new}
+use Rattle.lists.proofs.Lists.{All_append, All_get_or, T_true, has_get_or, firsts_distinct, meet_old, meet_new}
 use Rattle.mesh.proofs.Keys.{same_key_sound, same_key_self}
 use Rattle.vertices.specs.declared.places.Widths.{Widths}
 use Rattle.vertices.specs.declared.places.Chains.{Chains}
@@ -61,7 +61,7 @@ module _ (w : Widths) (pts : List ℕ) (z : Store) (x₀ : List ℕ) (s : Store)
         let q : ℕ → Bool = λ i. same_key k (key_at w s i) in
         let l : i.0 < length ks = rw e (place_below w s n k i f) in
         let y : k ≡ get_or ks i.0 k = same_key_sound k (get_or ks i.0 k) (subst (λ (c : Bool). T c) (sym (ap (same_key k) (sym (held_key i.0 k l)) ∙ seek_hit q n i f)) tt) in (
-          T_true _ (subst (λ (c : Key). T (has same_key c ks)) (sym y) (has_get_d same_key same_key_self ks i.0 k l)),
+          T_true _ (subst (λ (c : Key). T (has same_key c ks)) (sym y) (has_get_or same_key same_key_self ks i.0 k l)),
           ap (λ (c : Key). place same_key c ks) y ∙ H.distinct i.0 k l,
         )
 

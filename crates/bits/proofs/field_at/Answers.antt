@@ -34,7 +34,7 @@ pub loop-k-smaller : goal.loop-k-smaller
 loop-k-smaller c = omega arith
 
 pub loop-k-preserved : goal.loop-k-preserved
-loop-k-preserved c = (omega arith, field_more _ _ _ _ _ c.loop-k.invariant.1 (rw c.get_or.ensures at c.wide.ensures.0))
+loop-k-preserved c = (omega arith, field_more _ _ _ _ _ c.loop-k.invariant.1 (rw c.get_or.ensures at c.from.ensures))
 
 pub returns : goal.returns
 returns c = let h : c.loop-k.k ≡ c.args.width = omega arith in rw (← h) c.loop-k.invariant.1

@@ -3,4 +3,4 @@ use Rattle.block.proofs.stream.stream_of.Goals as goal
 
 pub returns : goal.returns
 unfolding stream_of
-returns c = rw (c.index_bytes.ensures, c.list_place-values.ensures, c.list_place-index.ensures)
+returns c = rw (c.index_bytes.ensures, c.list_place.ensures, c.list_place-list.ensures)

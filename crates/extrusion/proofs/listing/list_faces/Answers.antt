@@ -1,3 +1,4 @@
+use Rattle.tables.proofs.Putting.{put_are}
 use Rattle.extrusion.proofs.Tabled.{faces_put, room_corners, room_places, room_starts, sides_most, starts_room, uses_room}
 use Rattle.std.proofs.Common.{rules}
 use mathlib.Core.Path.{refl}
@@ -21,4 +22,4 @@ put_uses-requires-2 c =
 
 pub returns : goal.returns
 returns c =
-    faces_put c.requires _ _ c.spine_count-n.ensures c.section_count-m.ensures _ _ _ _ _ refl c.put_uses.ensures c.put_starts.ensures c.put_uses-2.ensures (c.put_each.ensures (λ j. j) (λ j r b p. search rules))
+    faces_put c.requires _ _ c.spine_count-n.ensures c.section_count-m.ensures _ _ _ _ _ refl c.put_uses.ensures c.put_starts.ensures c.put_uses-2.ensures (put_are (λ j. j) c.put_each.ensures (λ j r b p. search rules))

@@ -6,7 +6,7 @@ use Rattle.bits.specs.Bits.{entries}
 use Rattle.bits.proofs.Entries.{entries_length}
 use Rattle.lists.specs.Parts.{spliced}
 use Rattle.lists.proofs.Tabs.{tab_take}
-use Rattle.faceset.proofs.Each.{put_are}
+use Rattle.tables.proofs.Putting.{put_are}
 use Rattle.faceset.proofs.points.put_points.Goals as goal
 
 pub returns : goal.returns

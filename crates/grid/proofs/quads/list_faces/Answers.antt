@@ -1,3 +1,4 @@
+use Rattle.tables.proofs.Putting.{put_are}
 use Rattle.grid.proofs.Held.{corners_asked, tables_written}
 use Prim.Native.Nat.{◌*◌}
 use Rattle.std.proofs.Common.{rules}
@@ -13,4 +14,4 @@ put_corners-requires-2 c =
 
 pub returns : goal.returns
 returns c =
-    tables_written _ _ _ _ _ _ _ _ c.requires c.wide-xd.ensures c.put_corners.ensures (c.put_each.ensures (λ j. 4 * j) (λ j r b p. search rules)) c.put_corners-2.ensures (c.put_each-2.ensures (λ j. 1 * j) (λ j r b p. search rules))
+    tables_written _ _ _ _ _ _ _ _ c.requires c.wide-xd.ensures c.put_corners.ensures (put_are (λ j. 4 * j) c.put_each.ensures (λ j r b p. search rules)) c.put_corners-2.ensures (put_are (λ j. 1 * j) c.put_each-2.ensures (λ j r b p. search rules))

@@ -10,7 +10,7 @@ use Rattle.lists.specs.Loops.{tab}
 use Rattle.lists.specs.Parts.{spliced}
 use Rattle.lists.proofs.Splices.{splice_start, splice_more, set_is, put_size}
 use Rattle.lists.proofs.Tabs.{tab_same, tab_list}
-use Rattle.faceset.specs.Each.{PutEach}
+use Rattle.tables.specs.Each.{PutEach}
 
 module _ {P : ℕ → ℕ → Type 0} {w : List ℕ} {at : ℕ} where
   pub put_none : PutEach P at 0 w w
