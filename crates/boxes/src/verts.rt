@@ -2,13 +2,13 @@
 ghost use Rattle.std.specs.Prelude.{◌≡◌, ◌+◌, ◌*◌, ◌<◌};
 ghost use Rattle.lists.specs.Lists.{flat};
 ghost use Rattle.lists.specs.Loops.{tab};
-ghost use Rattle.parts.specs.Pushed.{RoomFor, pushed, streams_of};
+ghost use Rattle.parts.specs.Building.{Room, Pushes};
 ghost use Rattle.boxes.specs.Box as spec;
 
 use crate::faces::{BoxFace, face_at};
 use block::Pair;
 use math::V3;
-use parts::{GeomCtx, Vert, put_verts};
+use parts::{Builder, Vert};
 
 // Component by component.
 fn times(v: V3, h: V3) -> V3
@@ -86,27 +86,16 @@ fn box_face(h: V3, k: usize) -> [Vert; 4]
 }
 
 // All faces.
-pub fn put_faces(
-    c: GeomCtx,
-    h: V3,
-    positions: &mut [u32],
-    normals: &mut [u32],
-    textures: &mut [u32],
-)
-    requires { RoomFor c (0 + 6 * 4) (streams_of positions.old normals.old textures.old) }
-    ensures { streams_of positions.new normals.new textures.new
-        ≡ pushed c 0 (flat (tab (spec.box_face h) 6 0)) (streams_of positions.old normals.old textures.old) }
+pub fn put_faces(h: V3, b: &mut Builder<'_>)
+    requires { Room (0 + 6 * 4) b.old }
+    ensures { Pushes 0 (flat (tab (spec.box_face h) 6 0)) b.old b.new }
 {
-    put_verts(
-        c,
+    b.put_verts(
         0,
         6,
         |k|
             requires { k < 6 }
             ensures { result ≡ spec.box_face h k }
         { box_face(h, k) },
-        positions,
-        normals,
-        textures,
     );
 }

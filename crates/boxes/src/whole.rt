@@ -7,7 +7,7 @@ use crate::tris::put_box_tris;
 use crate::verts::put_faces;
 use lent::Answer;
 use math::{V3, is_finite};
-use parts::{GeomCtx, PartLengths, PartSizes, dim, finite_ctx, part_refusal, part_report};
+use parts::{Builder, GeomCtx, PartSizes, dim, finite_ctx, part_report};
 
 // fl::v3: a size with a component that is not finite is the default.
 fn finite_size(s: V3) -> V3
@@ -52,24 +52,20 @@ pub fn box_prim(
         (lent_to positions.new normals.new textures.new indices.new) result }
 {
     let h = half_size(size);
-    let c = finite_ctx(ctx);
+    let mut b = Builder {
+        ctx: finite_ctx(ctx),
+        positions,
+        normals,
+        textures,
+        indices,
+    };
     let z = PartSizes {
         vertices: 24,
         indices: 36,
         pairs: 0,
     };
-    part_refusal(
-        c,
-        z,
-        PartLengths {
-            positions: positions.len(),
-            normals: normals.len(),
-            textures: textures.len(),
-            indices: indices.len(),
-            floats: 0,
-        },
-    )?;
-    put_faces(c, h, positions, normals, textures);
-    put_box_tris(indices);
+    b.refusal(z, 0)?;
+    put_faces(h, &mut b);
+    put_box_tris(b.indices);
     Ok(part_report(z))
 }

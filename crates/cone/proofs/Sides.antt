@@ -7,24 +7,20 @@ use native.Mathlib.Omega.{arith}
 use lib.ListN.{length}
 use lib.Ieee.{Float, binary32, neg, add, div}
 use Rattle.math.specs.Vector.{one_f, two_f}
-use Rattle.lists.specs.Lists.{flat}
-use Rattle.lists.specs.Loops.{tab}
-use Rattle.lists.specs.Parts.{spliced}
 use Rattle.lists.proofs.Pieces.{length_pieces}
 use Rattle.parts.specs.declared.cap.Cap.{Cap}
 use Rattle.parts.specs.declared.sizes.PartSizes.{PartSizes}
-use Rattle.parts.specs.declared.vert.GeomCtx.{GeomCtx}
+use Rattle.parts.specs.declared.builder.Builder.{Builder}
 use Rattle.parts.specs.declared.vert.Vert.{Vert}
 use Rattle.parts.specs.Ring.{share_of}
 use Rattle.parts.specs.Sizes.{dim_of, held_to, sum_of, sizes_where}
 use Rattle.parts.specs.Part.{Part}
-use Rattle.parts.specs.Pushed.{Streams, RoomFor, pushed}
-use Rattle.parts.specs.Cap.{cap_at, cap_sizes, Numbered}
-use Rattle.parts.specs.Written.{Sized, Written, Roomy}
-use Rattle.parts.proofs.Pushing.{room_less}
+use Rattle.parts.specs.Cap.{cap_at, cap_part, cap_sizes, Numbered}
+use Rattle.parts.specs.Written.{Sized}
+use Rattle.parts.specs.Building.{Roomy, Writes}
 use Rattle.parts.proofs.Capping.{cap_sized}
 use Rattle.parts.proofs.Holding.{held_between}
-use Rattle.parts.proofs.Parting.{where_sized, where_room, where_written, where_absent, Small, where_small, cap_small, sized_followed, roomy_first, roomy_next, written_followed}
+use Rattle.parts.proofs.Parting.{where_sized, room_there, Small, where_small, cap_small, sized_followed, roomy_first, roomy_next, written_followed}
 use Rattle.cone.specs.declared.whole.ConeMarks.{ConeMarks}
 use Rattle.cone.specs.Cone.{cone_foot, cone_apex, cone_verts, cone_tri, cone_side, cone_side_at, cone_side_sizes, cone_marks_of, cone_part, cone_of}
 
@@ -52,30 +48,6 @@ module _ (ps : List Float) (r h : Float) (n : ℕ) where
   pub side_sized : Sized (cone_side ps r h n) (cone_side_sizes n)
   unfolding cone_side_sizes cone_side
   side_sized = record { vertices = omega (arith, verts_length); indices = omega (arith, tris_length); pairs = refl }
-
-  module _ {c : GeomCtx} {s : Streams} {i : List ℕ} where
-    pub side_room : Roomy c (cone_side ps r h n) 0 0 s i → RoomFor c (0 + n * 3) s
-    side_room R = room_less c (omega (arith, verts_length)) R.streams
-
-    pub side_places : Roomy c (cone_side ps r h n) 0 0 s i → 0 + n * 3 ≤ length i
-    side_places R = omega (arith, tris_length, R.places)
-
-    pub side_written : {s' : Streams} {i' : List ℕ} → s' ≡ pushed c 0 (flat (tab (cone_verts ps r h n) n 0)) s → i' ≡ spliced i 0 (flat (tab cone_tri n 0)) → Written c (cone_side ps r h n) 0 0 s s' i i'
-    unfolding cone_side
-    side_written a b = record { streams = a; places = b }
-
-  module _ (there : Bool) {c : GeomCtx} {s : Streams} {i : List ℕ} where
-    pub there_room : there ≡ true → Roomy c (cone_side_at ps there r h n) 0 0 s i → Roomy c (cone_side ps r h n) 0 0 s i
-    unfolding cone_side_at
-    there_room e R = where_room (cone_side ps r h n) there e R
-
-    pub there_written : {s' : Streams} {i' : List ℕ} → there ≡ true → Written c (cone_side ps r h n) 0 0 s s' i i' → Written c (cone_side_at ps there r h n) 0 0 s s' i i'
-    unfolding cone_side_at
-    there_written e W = where_written (cone_side ps r h n) there e W
-
-    pub absent_written : there ≡ false → Written c (cone_side_at ps there r h n) 0 0 s s i i
-    unfolding cone_side_at
-    absent_written e = where_absent (cone_side ps r h n) there e
 
 -- ---- sizes that fit
 
@@ -120,23 +92,26 @@ module _ (ps : List Float) (r h : Float) (n : ℕ) (side bottom : Bool) {m : Con
   pub all_low : m.all.vertices < 2 ^ 32
   all_low = omega (arith, ap (λ (z : PartSizes). z.vertices) all_is, rw bottom_is at small_a.vertices, (where_small 8192 bottom (cap_sizes n) (cap_small n low)).vertices)
 
-  pub lower_numbered : Numbered (cap_of m.bottom)
-  lower_numbered = record { few = low; first_low = omega (arith, small_a.vertices); pair_low = omega (arith, small_a.pairs) }
+  pub lower_low : Numbered (cap_of m.bottom)
+  lower_low = record { few = low; first_low = omega (arith, small_a.vertices); pair_low = omega (arith, small_a.pairs) }
 
-  module _ {c : GeomCtx} {s : Streams} {i : List ℕ} (R : Roomy c (cone_part ps r h n side bottom) 0 0 s i) where
-    pub one_room : Roomy c S 0 0 s i
-    unfolding cone_part
-    one_room = roomy_first D Z₁ R
+  abbrev lower : Cap
+  lower = cap_of m.bottom
 
-    module _ {s₁ : Streams} {i₁ : List ℕ} (W₁ : Written c S 0 0 s s₁ i i₁) where
-      pub lower_room : Roomy c (D m.bottom.vertices m.bottom.pairs) m.bottom.vertices m.bottom.indices s₁ i₁
+  -- each is written where it is there
+  module _ {b₀ : Builder} (R : Roomy (cone_part ps r h n side bottom) 0 0 b₀) where
+    pub side_room : side ≡ true → Roomy (cone_side ps r h n) 0 0 b₀
+    unfolding cone_part cone_side_at
+    side_room = room_there (cone_side ps r h n) (roomy_first D Z₁ R)
+
+    module _ {b₁ : Builder} (W₁ : Writes S 0 0 b₀ b₁) where
+      pub lower_room : bottom ≡ true → Roomy (cap_part ps lower) lower.first m.bottom.indices b₁
+      unfolding cone_part cap_at
+      lower_room = room_there (cap_part ps lower) (roomy_next D Z₁ R W₁)
+
+      pub all_written : {b₂ : Builder} → Writes (D m.bottom.vertices m.bottom.pairs) m.bottom.vertices m.bottom.indices b₁ b₂ → Writes (cone_part ps r h n side bottom) 0 0 b₀ b₂
       unfolding cone_part
-      lower_room = roomy_next D Z₁ R W₁
-
-      pub all_written : {s₂ : Streams} {i₂ : List ℕ} → Written c (D m.bottom.vertices m.bottom.pairs) m.bottom.vertices m.bottom.indices s₁ s₂ i₁ i₂
-          → Written c (cone_part ps r h n side bottom) 0 0 s s₂ i i₂
-      unfolding cone_part
-      all_written W₂ = written_followed D Z₁ R W₁ W₂
+      all_written W = written_followed D Z₁ R W₁ W
 
 -- ---- the call
 

@@ -1,19 +1,23 @@
 // FORMAT 17.9, cone (side): a triangle a slice, with vertices of its own.
-ghost use Rattle.std.specs.Prelude.{◌≡◌, List, ℕ, ◌+◌, ◌*◌, ◌≤◌, ◌<◌, length, Float};
+ghost use Rattle.std.specs.Prelude.{◌≡◌, List, ℕ, ◌+◌, ◌*◌, ◌≤◌, ◌<◌, IfSome, MatchOption, Float};
 ghost use Rattle.math.specs.Vector.{y_axis, unit_of};
 ghost use Rattle.mesh.specs.Normals.{or_else};
-ghost use Rattle.lists.specs.Lists.{flat};
-ghost use Rattle.lists.specs.Loops.{tab};
-ghost use Rattle.lists.specs.Parts.{spliced};
-ghost use Rattle.parts.specs.Pushed.{RoomFor, pushed, streams_of};
-ghost use Rattle.parts.specs.Written.{Written, Roomy};
+ghost use Rattle.parts.specs.Building.{Roomy, Writes};
 ghost use Rattle.cone.specs.Roots.{Roots};
 ghost use Rattle.cone.specs.Cone.{cone_normal, cone_foot, cone_apex, cone_verts, cone_tri, cone_side};
 
 use crate::lengths::{Lengths, is_known, known_unit, lengths_near};
 use block::Pair;
 use math::V3;
-use parts::{GeomCtx, Vert, index_of, put_verts, put_words, ring_at, share};
+use parts::{Builder, Vert, index_of, put_words, ring_at, share};
+
+// The radius, the height and the slices.
+#[derive(Clone, Copy)]
+pub struct Side {
+    pub r: f32,
+    pub height: f32,
+    pub n: usize,
+}
 
 // What is scaled to length 1 for the normal at pair p.
 fn cone_slope(pairs: &[f32], r: f32, height: f32, p: usize) -> V3
@@ -138,21 +142,18 @@ fn cone_apex(height: f32, normal: V3, s: f32) -> Vert
 }
 
 // The three vertices of slice i.
-fn cone_verts(pairs: &[f32], known: Lengths, r: f32, height: f32, n: usize, i: usize) -> [Vert; 3]
-    requires { (n ≤ 1024) × (i < n) × Roots known }
-    ensures { result ≡ cone_verts pairs.now r height n i }
+fn cone_verts(pairs: &[f32], known: Lengths, k: Side, i: usize) -> [Vert; 3]
+    requires { (k.n ≤ 1024) × (i < k.n) × Roots known }
+    ensures { result ≡ cone_verts pairs.now k.r k.height k.n i }
 {
-    let s0 = share(i, n);
-    let s1 = share(i + 1, n);
+    let s0 = share(i, k.n);
+    let s1 = share(i + 1, k.n);
     let sm = (s0 + s1) / 2.0;
     let p = 5 * i;
-    let k = slice_normals(pairs, known, r, height, p);
-    let from = k.from;
-    let to = k.to;
-    let up = k.apex;
-    let a = cone_foot(pairs, r, height, p, from, s0);
-    let b = cone_foot(pairs, r, height, p + 1, to, s1);
-    let apex = cone_apex(height, up, sm);
+    let u = slice_normals(pairs, known, k.r, k.height, p);
+    let a = cone_foot(pairs, k.r, k.height, p, u.from, s0);
+    let b = cone_foot(pairs, k.r, k.height, p + 1, u.to, s1);
+    let apex = cone_apex(k.height, u.apex, sm);
     [a, b, apex]
 }
 
@@ -165,35 +166,28 @@ fn cone_tri(i: usize) -> [u32; 3]
 }
 
 // The whole side.
-pub fn put_side(
-    c: GeomCtx,
-    pairs: &[f32],
-    r: f32,
-    height: f32,
-    n: usize,
-    positions: &mut [u32],
-    normals: &mut [u32],
-    textures: &mut [u32],
-    indices: &mut [u32],
-)
-    requires { (n ≤ 1024) × Roomy c (cone_side pairs.now r height n) 0 0 (streams_of positions.old normals.old textures.old) indices.old }
-    ensures { Written c (cone_side pairs.now r height n) 0 0
-        (streams_of positions.old normals.old textures.old)
-        (streams_of positions.new normals.new textures.new)
-        indices.old indices.new }
+fn put_side(pairs: &[f32], k: Side, b: &mut Builder<'_>)
+    requires { (k.n ≤ 1024) × Roomy (cone_side pairs.now k.r k.height k.n) 0 0 b.old }
+    ensures { Writes (cone_side pairs.now k.r k.height k.n) 0 0 b.old b.new }
 {
-    let known = lengths_near(r, height);
-    put_verts(
-        c,
+    let known = lengths_near(k.r, k.height);
+    b.put_verts(
         0,
-        n,
+        k.n,
         |i|
-            requires { (n ≤ 1024) × (i < n) × Roots known }
-            ensures { result ≡ cone_verts pairs.exit.now r height n i }
-        { cone_verts(pairs, known, r, height, n, i) },
-        positions,
-        normals,
-        textures,
+            requires { (k.n ≤ 1024) × (i < k.n) × Roots known }
+            ensures { result ≡ cone_verts pairs.exit.now k.r k.height k.n i }
+        { cone_verts(pairs, known, k, i) },
     );
-    put_words(indices, 0, n, cone_tri);
+    put_words(b.indices, 0, k.n, cone_tri);
+}
+
+// The side, if there is one.
+pub fn put_side_at(pairs: &[f32], side: Option<Side>, b: &mut Builder<'_>)
+    requires { IfSome side (λ k. (k.n ≤ 1024) × Roomy (cone_side pairs.now k.r k.height k.n) 0 0 b.old) }
+    ensures { MatchOption side (b.new ≡ b.old) (λ k. Writes (cone_side pairs.now k.r k.height k.n) 0 0 b.old b.new) }
+{
+    if let Some(k) = side {
+        put_side(pairs, k, b);
+    }
 }

@@ -7,22 +7,18 @@ use native.Mathlib.Omega.{arith}
 use lib.ListN.{length}
 use lib.Ieee.{Float, binary32, neg, div}
 use Rattle.math.specs.Vector.{one_f, two_f}
-use Rattle.lists.specs.Lists.{flat}
-use Rattle.lists.specs.Loops.{tab}
-use Rattle.lists.specs.Parts.{spliced}
 use Rattle.lists.proofs.Pieces.{length_pieces}
 use Rattle.parts.specs.declared.cap.Cap.{Cap}
 use Rattle.parts.specs.declared.sizes.PartSizes.{PartSizes}
-use Rattle.parts.specs.declared.vert.GeomCtx.{GeomCtx}
+use Rattle.parts.specs.declared.builder.Builder.{Builder}
 use Rattle.parts.specs.Sizes.{dim_of, held_to, sum_of, sizes_where}
 use Rattle.parts.specs.Part.{Part, followed}
-use Rattle.parts.specs.Pushed.{Streams, RoomFor, pushed}
-use Rattle.parts.specs.Cap.{cap_at, cap_sizes, Numbered}
-use Rattle.parts.specs.Written.{Sized, Written, Roomy}
-use Rattle.parts.proofs.Pushing.{room_less}
+use Rattle.parts.specs.Cap.{cap_at, cap_part, cap_sizes, Numbered}
+use Rattle.parts.specs.Written.{Sized}
+use Rattle.parts.specs.Building.{Roomy, Writes}
 use Rattle.parts.proofs.Capping.{cap_sized}
 use Rattle.parts.proofs.Holding.{held_between}
-use Rattle.parts.proofs.Parting.{where_sized, where_room, where_written, where_absent, Small, where_small, cap_small, sum_small, sized_followed, roomy_first, roomy_next, written_followed}
+use Rattle.parts.proofs.Parting.{where_sized, room_there, Small, where_small, cap_small, sum_small, sized_followed, roomy_first, roomy_next, written_followed}
 use Rattle.cylinder.specs.declared.whole.Marks.{Marks}
 use Rattle.cylinder.specs.Cylinder.{side_verts, side_tris, side_part, side_at, side_sizes, marks_of, cylinder_part, cylinder_of}
 
@@ -40,30 +36,6 @@ module _ (ps : List Float) (r h : Float) (n : ℕ) where
   pub side_sized : Sized (side_part ps r h n) (side_sizes n)
   unfolding side_sizes side_part
   side_sized = record { vertices = omega (arith, verts_length); indices = omega (arith, tris_length); pairs = refl }
-
-  module _ {c : GeomCtx} {s : Streams} {i : List ℕ} where
-    pub side_room : Roomy c (side_part ps r h n) 0 0 s i → RoomFor c (0 + (n + 1) * 2) s
-    side_room R = room_less c (omega (arith, verts_length)) R.streams
-
-    pub side_places : Roomy c (side_part ps r h n) 0 0 s i → 0 + n * 6 ≤ length i
-    side_places R = omega (arith, tris_length, R.places)
-
-    pub side_written : {s' : Streams} {i' : List ℕ} → s' ≡ pushed c 0 (flat (tab (side_verts ps r h n) (n + 1) 0)) s → i' ≡ spliced i 0 (flat (tab side_tris n 0)) → Written c (side_part ps r h n) 0 0 s s' i i'
-    unfolding side_part
-    side_written a b = record { streams = a; places = b }
-
-  module _ (there : Bool) {c : GeomCtx} {s : Streams} {i : List ℕ} where
-    pub there_room : there ≡ true → Roomy c (side_at ps there r h n) 0 0 s i → Roomy c (side_part ps r h n) 0 0 s i
-    unfolding side_at
-    there_room e R = where_room (side_part ps r h n) there e R
-
-    pub there_written : {s' : Streams} {i' : List ℕ} → there ≡ true → Written c (side_part ps r h n) 0 0 s s' i i' → Written c (side_at ps there r h n) 0 0 s s' i i'
-    unfolding side_at
-    there_written e W = where_written (side_part ps r h n) there e W
-
-    pub absent_written : there ≡ false → Written c (side_at ps there r h n) 0 0 s s i i
-    unfolding side_at
-    absent_written e = where_absent (side_part ps r h n) there e
 
 -- ---- sizes that fit
 
@@ -101,24 +73,12 @@ module _ (ps : List Float) (r h : Float) (n : ℕ) where
     small_a : Small 8192 z
     small_a = rw ez (where_small 8192 side (side_sizes n) (side_small n low))
 
-    pub upper_numbered : Numbered (cap_of h true z)
+    upper_numbered : Numbered (cap_of h true z)
     upper_numbered = record { few = low; first_low = omega (arith, small_a.vertices); pair_low = omega (arith, small_a.pairs) }
-
-    module _ {c : GeomCtx} {s : Streams} {i : List ℕ} (R : Roomy c (followed (S side) (U top)) 0 0 s i) where
-      pub one_room : Roomy c (S side) 0 0 s i
-      one_room = roomy_first (U top) Z₁ R
-
-      module _ {s₁ : Streams} {i₁ : List ℕ} (W₁ : Written c (S side) 0 0 s s₁ i i₁) where
-        pub upper_room : Roomy c (U top z.vertices z.pairs) z.vertices z.indices s₁ i₁
-        upper_room = roomy_next (U top) Z₁ R W₁
-
-        pub two_written : {s₂ : Streams} {i₂ : List ℕ} → Written c (U top z.vertices z.pairs) z.vertices z.indices s₁ s₂ i₁ i₂
-            → Written c (followed (S side) (U top)) 0 0 s s₂ i i₂
-        two_written W₂ = written_followed (U top) Z₁ R W₁ W₂
 
   -- and the bottom
   module _ (side top bottom : Bool) {m : Marks} (low : n ≤ 1024) (em : m ≡ marks_of n side top bottom) where
-    pub top_is : m.top ≡ a side
+    top_is : m.top ≡ a side
     unfolding marks_of
     top_is = λ t. (em t).top
 
@@ -143,23 +103,47 @@ module _ (ps : List Float) (r h : Float) (n : ℕ) where
     pub all_low : m.all.vertices < 2 ^ 32
     all_low = omega (arith, ap (λ (z : PartSizes). z.vertices) all_is, rw bottom_is at small_b.vertices, (where_small 8192 bottom (cap_sizes n) (cap_small n low)).vertices)
 
-    pub lower_numbered : Numbered (cap_of (neg h) false m.bottom)
-    lower_numbered = record { few = low; first_low = omega (arith, small_b.vertices); pair_low = omega (arith, small_b.pairs) }
+    pub lower_low : Numbered (cap_of (neg h) false m.bottom)
+    lower_low = record { few = low; first_low = omega (arith, small_b.vertices); pair_low = omega (arith, small_b.pairs) }
 
-    module _ {c : GeomCtx} {s : Streams} {i : List ℕ} (R : Roomy c (cylinder_part ps r h n side top bottom) 0 0 s i) where
-      pub two_room : Roomy c (followed (S side) (U top)) 0 0 s i
+    abbrev upper : Cap
+    upper = cap_of h true m.top
+
+    abbrev lower : Cap
+    lower = cap_of (neg h) false m.bottom
+
+    Z₀ : Sized (S side) m.top
+    Z₀ = Z₁ side top low top_is
+
+    pub upper_low : Numbered upper
+    upper_low = upper_numbered side top low top_is
+
+    -- each is written where it is there
+    module _ {b₀ : Builder} (R : Roomy (cylinder_part ps r h n side top bottom) 0 0 b₀) where
+      R₂ : Roomy (followed (S side) (U top)) 0 0 b₀
       unfolding cylinder_part
-      two_room = roomy_first (D bottom) Z₂ R
+      R₂ = roomy_first (D bottom) Z₂ R
 
-      module _ {s₂ : Streams} {i₂ : List ℕ} (W₂ : Written c (followed (S side) (U top)) 0 0 s s₂ i i₂) where
-        pub lower_room : Roomy c (D bottom m.bottom.vertices m.bottom.pairs) m.bottom.vertices m.bottom.indices s₂ i₂
-        unfolding cylinder_part
-        lower_room = roomy_next (D bottom) Z₂ R W₂
+      pub side_room : side ≡ true → Roomy (side_part ps r h n) 0 0 b₀
+      unfolding side_at
+      side_room = room_there (side_part ps r h n) (roomy_first (U top) Z₀ R₂)
 
-        pub all_written : {s₃ : Streams} {i₃ : List ℕ} → Written c (D bottom m.bottom.vertices m.bottom.pairs) m.bottom.vertices m.bottom.indices s₂ s₃ i₂ i₃
-            → Written c (cylinder_part ps r h n side top bottom) 0 0 s s₃ i i₃
-        unfolding cylinder_part
-        all_written W₃ = written_followed (D bottom) Z₂ R W₂ W₃
+      module _ {b₁ : Builder} (W₁ : Writes (S side) 0 0 b₀ b₁) where
+        pub upper_room : top ≡ true → Roomy (cap_part ps upper) upper.first m.top.indices b₁
+        unfolding cap_at
+        upper_room = room_there (cap_part ps upper) (roomy_next (U top) Z₀ R₂ W₁)
+
+        module _ {b₂ : Builder} (W₂ : Writes (U top m.top.vertices m.top.pairs) m.top.vertices m.top.indices b₁ b₂) where
+          W₃ : Writes (followed (S side) (U top)) 0 0 b₀ b₂
+          W₃ = written_followed (U top) Z₀ R₂ W₁ W₂
+
+          pub lower_room : bottom ≡ true → Roomy (cap_part ps lower) lower.first m.bottom.indices b₂
+          unfolding cylinder_part cap_at
+          lower_room = room_there (cap_part ps lower) (roomy_next (D bottom) Z₂ R W₃)
+
+          pub all_written : {b₃ : Builder} → Writes (D bottom m.bottom.vertices m.bottom.pairs) m.bottom.vertices m.bottom.indices b₂ b₃ → Writes (cylinder_part ps r h n side top bottom) 0 0 b₀ b₃
+          unfolding cylinder_part
+          all_written W = written_followed (D bottom) Z₂ R W₃ W
 
 -- ---- the call
 

@@ -1,33 +1,37 @@
 // FORMAT 17.8, cylinder (side): two vertices at each pair, two triangles a slice.
-ghost use Rattle.std.specs.Prelude.{◌≡◌, ◌+◌, ◌*◌, ◌≤◌, ◌<◌, length};
-ghost use Rattle.lists.specs.Lists.{flat};
-ghost use Rattle.lists.specs.Loops.{tab};
-ghost use Rattle.lists.specs.Parts.{spliced};
-ghost use Rattle.parts.specs.Pushed.{RoomFor, pushed, streams_of};
-ghost use Rattle.parts.specs.Written.{Written, Roomy};
+ghost use Rattle.std.specs.Prelude.{◌≡◌, ◌+◌, ◌*◌, ◌≤◌, ◌<◌, IfSome, MatchOption};
+ghost use Rattle.parts.specs.Building.{Roomy, Writes};
 ghost use Rattle.cylinder.specs.Cylinder.{side_vert, side_verts, side_tris, side_part};
 
 use block::Pair;
 use math::V3;
-use parts::{GeomCtx, Vert, index_of, put_verts, put_words, ring_at, share};
+use parts::{Builder, Vert, index_of, put_words, ring_at, share};
+
+// The radius, half the height and the slices.
+#[derive(Clone, Copy)]
+pub struct Side {
+    pub r: f32,
+    pub h: f32,
+    pub n: usize,
+}
 
 // The vertex at pair i, at height y, with t.
-fn side_vert(pairs: &[f32], r: f32, n: usize, i: usize, y: f32, t: f32) -> Vert
-    requires { (n ≤ 1024) × (i ≤ n) }
-    ensures { result ≡ side_vert pairs.now r n i y t }
+fn side_vert(pairs: &[f32], k: Side, i: usize, y: f32, t: f32) -> Vert
+    requires { (k.n ≤ 1024) × (i ≤ k.n) }
+    ensures { result ≡ side_vert pairs.now k.r k.n i y t }
 {
     let q = ring_at(pairs, i);
     let position = V3 {
-        x: q.x * r,
+        x: q.x * k.r,
         y,
-        z: q.z * r,
+        z: q.z * k.r,
     };
     let normal = V3 {
         x: q.x,
         y: 0.0,
         z: q.z,
     };
-    let s = share(i, n);
+    let s = share(i, k.n);
     let st = Pair { s, t };
     Vert {
         position,
@@ -37,12 +41,12 @@ fn side_vert(pairs: &[f32], r: f32, n: usize, i: usize, y: f32, t: f32) -> Vert
 }
 
 // The two at pair i.
-fn side_verts(pairs: &[f32], r: f32, h: f32, n: usize, i: usize) -> [Vert; 2]
-    requires { (n ≤ 1024) × (i ≤ n) }
-    ensures { result ≡ side_verts pairs.now r h n i }
+fn side_verts(pairs: &[f32], k: Side, i: usize) -> [Vert; 2]
+    requires { (k.n ≤ 1024) × (i ≤ k.n) }
+    ensures { result ≡ side_verts pairs.now k.r k.h k.n i }
 {
-    let below = side_vert(pairs, r, n, i, -h, 0.0);
-    let above = side_vert(pairs, r, n, i, h, 1.0);
+    let below = side_vert(pairs, k, i, -k.h, 0.0);
+    let above = side_vert(pairs, k, i, k.h, 1.0);
     [below, above]
 }
 
@@ -59,34 +63,27 @@ fn side_tris(i: usize) -> [u32; 6]
 }
 
 // The whole side.
-pub fn put_side(
-    c: GeomCtx,
-    pairs: &[f32],
-    r: f32,
-    h: f32,
-    n: usize,
-    positions: &mut [u32],
-    normals: &mut [u32],
-    textures: &mut [u32],
-    indices: &mut [u32],
-)
-    requires { (n ≤ 1024) × Roomy c (side_part pairs.now r h n) 0 0 (streams_of positions.old normals.old textures.old) indices.old }
-    ensures { Written c (side_part pairs.now r h n) 0 0
-        (streams_of positions.old normals.old textures.old)
-        (streams_of positions.new normals.new textures.new)
-        indices.old indices.new }
+fn put_side(pairs: &[f32], k: Side, b: &mut Builder<'_>)
+    requires { (k.n ≤ 1024) × Roomy (side_part pairs.now k.r k.h k.n) 0 0 b.old }
+    ensures { Writes (side_part pairs.now k.r k.h k.n) 0 0 b.old b.new }
 {
-    put_verts(
-        c,
+    b.put_verts(
         0,
-        n + 1,
+        k.n + 1,
         |i|
-            requires { (n ≤ 1024) × (i ≤ n) }
-            ensures { result ≡ side_verts pairs.exit.now r h n i }
-        { side_verts(pairs, r, h, n, i) },
-        positions,
-        normals,
-        textures,
+            requires { (k.n ≤ 1024) × (i ≤ k.n) }
+            ensures { result ≡ side_verts pairs.exit.now k.r k.h k.n i }
+        { side_verts(pairs, k, i) },
     );
-    put_words(indices, 0, n, side_tris);
+    put_words(b.indices, 0, k.n, side_tris);
+}
+
+// The side, if there is one.
+pub fn put_side_at(pairs: &[f32], side: Option<Side>, b: &mut Builder<'_>)
+    requires { IfSome side (λ k. (k.n ≤ 1024) × Roomy (side_part pairs.now k.r k.h k.n) 0 0 b.old) }
+    ensures { MatchOption side (b.new ≡ b.old) (λ k. Writes (side_part pairs.now k.r k.h k.n) 0 0 b.old b.new) }
+{
+    if let Some(k) = side {
+        put_side(pairs, k, b);
+    }
 }

@@ -1,18 +1,14 @@
 // FORMAT 17.8, 17.10: the call of a cylinder.
-ghost use Rattle.std.specs.Prelude.{◌≤◌, ◌≡◌, true};
-ghost use Rattle.parts.specs.Sizes.{sizes_where};
-ghost use Rattle.parts.specs.Part.{followed};
-ghost use Rattle.parts.specs.Cap.{cap_at};
+ghost use Rattle.std.specs.Prelude.{◌≤◌, ◌≡◌};
 ghost use Rattle.parts.specs.Parted.{Parted, lent_to};
-ghost use Rattle.parts.specs.Pushed.{streams_of};
-ghost use Rattle.parts.specs.Written.{Written, Roomy};
-ghost use Rattle.cylinder.specs.Cylinder.{side_sizes, side_at, marks_of, cylinder_part, cylinder_of};
+ghost use Rattle.parts.specs.Building.{Roomy, Writes};
+ghost use Rattle.cylinder.specs.Cylinder.{side_sizes, marks_of, cylinder_part, cylinder_of};
 
-use crate::side::put_side;
+use crate::side::{Side, put_side_at};
 use lent::Answer;
 use parts::{
-    Cap, GeomCtx, PartLengths, PartSizes, cap_sizes, dim, finite_ctx, held, part_refusal,
-    part_report, put_cap_at, sizes_where, sum_sizes,
+    Builder, Cap, GeomCtx, NO_PART, PartSizes, cap_sizes, dim, finite_ctx, held, part_report,
+    sum_sizes,
 };
 
 // The sizes of a side of n slices.
@@ -39,9 +35,9 @@ fn marks_of(n: usize, side: bool, top: bool, bottom: bool) -> Marks
     requires { n ≤ 1024 }
     ensures { result ≡ marks_of n side top bottom }
 {
-    let a = sizes_where(side, side_sizes(n));
-    let b = sum_sizes(a, sizes_where(top, cap_sizes(n)));
-    let all = sum_sizes(b, sizes_where(bottom, cap_sizes(n)));
+    let a = side.then_some(side_sizes(n)).unwrap_or(NO_PART);
+    let b = sum_sizes(a, top.then_some(cap_sizes(n)).unwrap_or(NO_PART));
+    let all = sum_sizes(b, bottom.then_some(cap_sizes(n)).unwrap_or(NO_PART));
     Marks {
         top: a,
         bottom: b,
@@ -49,107 +45,38 @@ fn marks_of(n: usize, side: bool, top: bool, bottom: bool) -> Marks
     }
 }
 
-// The side where it is there.
-fn put_side_where(
-    side: bool,
-    c: GeomCtx,
-    pairs: &[f32],
-    r: f32,
-    h: f32,
-    n: usize,
-    positions: &mut [u32],
-    normals: &mut [u32],
-    textures: &mut [u32],
-    indices: &mut [u32],
-)
-    requires { (n ≤ 1024) × Roomy c (side_at pairs.now side r h n) 0 0 (streams_of positions.old normals.old textures.old) indices.old }
-    ensures { Written c (side_at pairs.now side r h n) 0 0
-        (streams_of positions.old normals.old textures.old)
-        (streams_of positions.new normals.new textures.new)
-        indices.old indices.new }
-{
-    if side {
-        put_side(c, pairs, r, h, n, positions, normals, textures, indices);
-    }
-}
-
-// The side, and then the top, before which there is a.
-fn put_side_and_top(
-    c: GeomCtx,
-    pairs: &[f32],
-    r: f32,
-    h: f32,
-    n: usize,
-    side: bool,
-    top: bool,
-    a: PartSizes,
-    positions: &mut [u32],
-    normals: &mut [u32],
-    textures: &mut [u32],
-    indices: &mut [u32],
-)
-    requires { (n ≤ 1024) × (a ≡ sizes_where side (side_sizes n))
-        × Roomy c (followed (side_at pairs.now side r h n) (cap_at pairs.now top h r n true)) 0 0
-        (streams_of positions.old normals.old textures.old) indices.old }
-    ensures { Written c (followed (side_at pairs.now side r h n) (cap_at pairs.now top h r n true)) 0 0
-        (streams_of positions.old normals.old textures.old)
-        (streams_of positions.new normals.new textures.new)
-        indices.old indices.new }
-{
-    put_side_where(
-        side, c, pairs, r, h, n, positions, normals, textures, indices,
-    );
-    let upper = Cap {
-        y: h,
-        r,
-        slices: n,
-        top: true,
-        first: a.vertices,
-        pair: a.pairs,
-    };
-    put_cap_at(
-        top, c, pairs, upper, a.indices, positions, normals, textures, indices,
-    );
-}
-
-// The three, one after the other.
+// The side, the top and the bottom, each where it is there, one after the other.
 fn put_cylinder(
-    c: GeomCtx,
     pairs: &[f32],
-    r: f32,
-    h: f32,
-    n: usize,
+    k: Side,
     side: bool,
     top: bool,
     bottom: bool,
     m: Marks,
-    positions: &mut [u32],
-    normals: &mut [u32],
-    textures: &mut [u32],
-    indices: &mut [u32],
+    b: &mut Builder<'_>,
 )
-    requires { (n ≤ 1024) × (m ≡ marks_of n side top bottom) × Roomy c (cylinder_part pairs.now r h n side top bottom) 0 0 (streams_of positions.old normals.old textures.old) indices.old }
-    ensures { Written c (cylinder_part pairs.now r h n side top bottom) 0 0
-        (streams_of positions.old normals.old textures.old)
-        (streams_of positions.new normals.new textures.new)
-        indices.old indices.new }
+    requires { (k.n ≤ 1024) × (m ≡ marks_of k.n side top bottom) × Roomy (cylinder_part pairs.now k.r k.h k.n side top bottom) 0 0 b.old }
+    ensures { Writes (cylinder_part pairs.now k.r k.h k.n side top bottom) 0 0 b.old b.new }
 {
-    let a = m.top;
-    put_side_and_top(
-        c, pairs, r, h, n, side, top, a, positions, normals, textures, indices,
-    );
-    let b = m.bottom;
-    let lower = Cap {
-        y: -h,
-        r,
-        slices: n,
-        top: false,
-        first: b.vertices,
-        pair: b.pairs,
+    put_side_at(pairs, side.then_some(k), b);
+    let upper = Cap {
+        y: k.h,
+        r: k.r,
+        slices: k.n,
+        top: true,
+        first: m.top.vertices,
+        pair: m.top.pairs,
     };
-    put_cap_at(
-        bottom, c, pairs, lower, b.indices, positions, normals, textures, indices,
-    );
+    b.put_cap_at(pairs, top.then_some(upper), m.top.indices);
+    let lower = Cap {
+        y: -k.h,
+        r: k.r,
+        slices: k.n,
+        top: false,
+        first: m.bottom.vertices,
+        pair: m.bottom.pairs,
+    };
+    b.put_cap_at(pairs, bottom.then_some(lower), m.bottom.indices);
 }
 
 // The mesh of a cylinder, into the lent slices; or a refusal, and every lent element as it was.
@@ -171,25 +98,20 @@ pub fn cylinder(
         (lent_to positions.old normals.old textures.old indices.old)
         (lent_to positions.new normals.new textures.new indices.new) result }
 {
-    let r = dim(radius, 1.0);
-    let h = dim(height, 2.0) / 2.0;
-    let n = held(slices, 3);
-    let c = finite_ctx(ctx);
-    let m = marks_of(n, side, top, bottom);
-    let z = m.all;
-    part_refusal(
-        c,
-        z,
-        PartLengths {
-            positions: positions.len(),
-            normals: normals.len(),
-            textures: textures.len(),
-            indices: indices.len(),
-            floats: pairs.len(),
-        },
-    )?;
-    put_cylinder(
-        c, pairs, r, h, n, side, top, bottom, m, positions, normals, textures, indices,
-    );
-    Ok(part_report(z))
+    let k = Side {
+        r: dim(radius, 1.0),
+        h: dim(height, 2.0) / 2.0,
+        n: held(slices, 3),
+    };
+    let mut b = Builder {
+        ctx: finite_ctx(ctx),
+        positions,
+        normals,
+        textures,
+        indices,
+    };
+    let m = marks_of(k.n, side, top, bottom);
+    b.refusal(m.all, pairs.len())?;
+    put_cylinder(pairs, k, side, top, bottom, m, &mut b);
+    Ok(part_report(m.all))
 }

@@ -6,4 +6,5 @@ pub mod Holding
 pub mod Naming
 pub mod Taking
 pub mod Edges
+pub mod Building
 pub mod Turning

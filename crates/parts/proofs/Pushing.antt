@@ -1,4 +1,4 @@
--- Vertices written one after the other: none, some and then more, and all of a loop's.
+-- Vertices written one after the other: none, some and then more.
 use mathlib.Core.Path.{◌≡◌, refl, sym, ap, ◌∙◌}
 use mathlib.Core.Bool.{Bool, true, false, cond}
 use mathlib.Core.List.{List, [], ◌∷◌, ◌++◌, map, map-append}
@@ -129,39 +129,6 @@ module _ (c : GeomCtx) where
   pub pushed_next : (k : ℕ) (vs : List Vert) (w : Vert) {s s' s'' : Streams} → RoomFor c (k + length vs + 1) s → s' ≡ pushed c k vs s → s'' ≡ pushed c (k + length vs) (w ∷ []) s'
       → s'' ≡ pushed c k (vs ++ w ∷ []) s
   pushed_next k vs w {s} R e₁ e₂ = e₂ ∙ ap (pushed c (k + length vs) (w ∷ [])) e₁ ∙ pushed_more k vs (w ∷ []) s R
-
--- ---- a loop: of n lists of w vertices, F 0, F 1, .., the first i are written from vertex k on
-
-pub record Filling (c : GeomCtx) (k : ℕ) (F : ℕ → List Vert) (w n : ℕ) (s₀ : Streams) (i : ℕ) (s : Streams) : Type 0 where
-  pub so_far : i ≤ n
-  pub is : s ≡ pushed c k (flat (tab F i 0)) s₀
-  pub room₀ : RoomFor c (k + n * w) s₀
-  pub room : RoomFor c (k + n * w) s
-
-module _ {c : GeomCtx} {k : ℕ} {F : ℕ → List Vert} {w n : ℕ} {s₀ : Streams} (wide : (t : ℕ) → length (F t) ≡ w) where
-  pub filling_none : RoomFor c (k + n * w) s₀ → Filling c k F w n s₀ 0 s₀
-  unfolding tab flat
-  filling_none R = record { so_far = omega arith; is = pushed_none c k s₀; room₀ = R; room = R }
-
-  pub filling_more : {i a : ℕ} {s s' : Streams} → Filling c k F w n s₀ i s → i < n → a ≡ k + i * w → s' ≡ pushed c a (F i) s → Filling c k F w n s₀ (i + 1) s'
-  filling_more {i} {a} {s} {s'} P b ea es =
-      let e : length (flat (tab F i 0)) ≡ i * w = length_pieces F w wide i in
-      let f = wide i in
-      let r = piece_room k n w i (k + n * w) (omega arith) b in
-      let R : RoomFor c (k + length (flat (tab F i 0)) + length (F i)) s₀ = room_less c (omega arith) P.room₀ in
-      let g : a ≡ k + length (flat (tab F i 0)) = omega arith in
-      let q : s' ≡ pushed c k (flat (tab F i 0) ++ F i) s₀ = rw (es, g, P.is) (pushed_more c k (flat (tab F i 0)) (F i) s₀ R) in
-      record {
-        so_far = omega arith;
-        is = q ∙ ap (λ (l : List Vert). pushed c k l s₀) (sym (flat_more F i));
-        room₀ = P.room₀;
-        room = rw es (pushed_room c a (F i) s (omega arith) P.room);
-      }
-
-  pub filling_all : {i : ℕ} {s : Streams} → Filling c k F w n s₀ i s → n ≤ i → s ≡ pushed c k (flat (tab F n 0)) s₀
-  filling_all {i} P h =
-      let e : i ≡ n = (let s = P.so_far in omega arith) in
-      P.is ∙ ap (λ (j : ℕ). pushed c k (flat (tab F j 0)) s₀) e
 
 -- ---- one vertex
 

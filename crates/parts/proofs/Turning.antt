@@ -1,21 +1,21 @@
 -- Rows of words and of vertices written one after another, as a closure gives them.
-use mathlib.Core.Path.{◌≡◌, refl, sym, ap, ◌∙◌}
+use mathlib.Core.Path.{◌≡◌, refl, sym, ap, ◌∙◌, subst}
 use mathlib.Core.List.{List, [], ◌∷◌, ◌++◌}
 use Prim.Native.Nat.{ℕ, ◌+◌, ◌*◌, ◌≤◌, ◌<◌}
 use native.Mathlib.Omega.{arith}
-use lib.ListN.{length, get_or, set, take, length-append}
+use lib.ListN.{length, get_or, take, length-append}
 use lib.Seq.{length-take-le}
 use Rattle.std.proofs.lemmas.List.{take_more}
 use Rattle.lists.specs.Lists.{flat}
 use Rattle.lists.specs.Loops.{tab}
 use Rattle.lists.specs.Parts.{spliced}
-use Rattle.lists.proofs.Splices.{set_is, splice_more}
 use Rattle.lists.proofs.Pieces.{Uneven, flat_more, flat_ones, length_pieces, uneven_room, uneven_more}
-use Rattle.parts.specs.declared.vert.GeomCtx.{GeomCtx}
+use Rattle.parts.specs.declared.builder.Builder.{Builder}
 use Rattle.parts.specs.declared.vert.Vert.{Vert}
-use Rattle.parts.specs.Pushed.{Streams, pushed, RoomFor}
+use Rattle.parts.specs.Building.{Room, Pushes}
 use Rattle.parts.specs.Turns.{Gives}
-use Rattle.parts.proofs.Pushing.{room_less, pushed_none, pushed_more, pushed_next, next_room}
+use Rattle.parts.proofs.Pushing.{room_less}
+use Rattle.parts.proofs.Building.{pushes_none, room_after, pushes_on}
 
 -- rows of w elements
 pub wide_given : {A R : Type 0} {items : R → List A} {post : ℕ → R → Type 0} {n k : ℕ} {Room : ℕ → Type 0} (w : ℕ) (f : ℕ → List A) → ((t : ℕ) → length (f t) ≡ w)
@@ -43,47 +43,53 @@ module _ {A R : Type 0} {items : R → List A} {post : ℕ → R → Type 0} {n 
 -- ---- vertices
 
 -- the next of a list of them
-pub run_more : {c : GeomCtx} (k : ℕ) {i : ℕ} (vs : List Vert) {s₀ s s' : Streams} (d : Vert) → RoomFor c (k + length vs) s₀ → i < length vs → s ≡ pushed c k (take i vs) s₀
-    → s' ≡ pushed c (k + i) (get_or vs i d ∷ []) s → s' ≡ pushed c k (take (i + 1) vs) s₀
-run_more {c} k {i} vs {s₀} {s} {s'} d R b e es =
-    let z : length (take i vs) ≡ i = length-take-le i vs (omega arith) in
-    pushed_next c k (take i vs) (get_or vs i d) (room_less c (omega arith) R) e (es ∙ ap (λ (j : ℕ). pushed c (k + j) (get_or vs i d ∷ []) s) (sym z))
-    ∙ ap (λ (l : List Vert). pushed c k l s₀) (sym (take_more vs i d b))
+module _ (k : ℕ) {i : ℕ} (vs : List Vert) {b b' : Builder} (R : Room (k + length vs) b) (h : i < length vs) (P : Pushes k (take i vs) b b') where
+  taken : length (take i vs) ≡ i
+  taken = length-take-le i vs (omega arith)
+
+  pub run_room : Room (k + i + 1) b'
+  run_room = room_after P (omega (arith, taken)) (room_less b.ctx (omega arith) R)
+
+  pub run_more : (d : Vert) {b'' : Builder} → Pushes (k + i) (get_or vs i d ∷ []) b' b'' → Pushes k (take (i + 1) vs) b b''
+  run_more d {b''} Q =
+      let q : Pushes k (take i vs ++ get_or vs i d ∷ []) b b'' = pushes_on P (omega (arith, taken)) (room_less b.ctx (omega (arith, taken)) R) Q in
+      rw (take_more vs i d h) q
 
 -- of n rows the first i are written, and a is the next number
-pub record Rowing (c : GeomCtx) (n : ℕ) (f : ℕ → List Vert) (k : ℕ) (s₀ : Streams) (i a : ℕ) (s : Streams) : Type 0 where
+pub record Rowing (n : ℕ) (f : ℕ → List Vert) (k : ℕ) (b : Builder) (i a : ℕ) (b' : Builder) : Type 0 where
   pub so_far : i ≤ n
   pub next : a ≡ k + length (flat (tab f i 0))
-  pub is : s ≡ pushed c k (flat (tab f i 0)) s₀
+  pub is : Pushes k (flat (tab f i 0)) b b'
 
-module _ {c : GeomCtx} {n k : ℕ} {f : ℕ → List Vert} {s₀ : Streams} where
-  pub rowing_none : Rowing c n f k s₀ 0 k s₀
+module _ {n k : ℕ} {f : ℕ → List Vert} {b : Builder} where
+  pub rowing_none : Rowing n f k b 0 k b
   unfolding tab flat
-  rowing_none = record { so_far = omega arith; next = omega arith; is = pushed_none c k s₀ }
+  rowing_none = record { so_far = omega arith; next = omega arith; is = pushes_none k b }
 
-  pub rowing_all : {i a : ℕ} {s : Streams} → Rowing c n f k s₀ i a s → n ≤ i → s ≡ pushed c k (flat (tab f n 0)) s₀
-  rowing_all {i} P h =
+  pub rowing_all : {i a : ℕ} {b' : Builder} → Rowing n f k b i a b' → n ≤ i → Pushes k (flat (tab f n 0)) b b'
+  rowing_all {i} {b' = b'} P h =
       let e : i ≡ n = omega (arith, P.so_far) in
-      P.is ∙ ap (λ (j : ℕ). pushed c k (flat (tab f j 0)) s₀) e
+      subst (λ (j : ℕ). Pushes k (flat (tab f j 0)) b b') e P.is
 
-  module _ {R : Type 0} {items : R → List Vert} {post : ℕ → R → Type 0} {i a : ℕ} {s : Streams} {r : List Vert} {x : R} (G : Gives items post n k (λ m. RoomFor c m s₀) f) (P : Rowing c n f k s₀ i a s) (b : i < n) (p : post i x) (er : r ≡ items x) where
+  module _ {R : Type 0} {items : R → List Vert} {post : ℕ → R → Type 0} {i a : ℕ} {b' : Builder} {r : List Vert} {x : R} (G : Gives items post n k (λ m. Room m b) f) (P : Rowing n f k b i a b') (h : i < n) (p : post i x) (er : r ≡ items x) where
     same : r ≡ f i
-    same = er ∙ G.row i b x p
+    same = er ∙ G.row i h x p
 
-    pub rowing_room : RoomFor c (a + length r) s
-    rowing_room =
-        room_less c (omega (arith, uneven_room f n i b, P.next, ap length same))
-        (next_room c k (flat (tab f i 0)) (omega (arith, uneven_room f n i b)) G.room P.is)
+    pub rowing_fits : a + length r ≤ k + length (flat (tab f n 0))
+    rowing_fits = omega (arith, uneven_room f n i h, ap length same, P.next)
 
-    pub rowing_more : {s' : Streams} → s' ≡ pushed c a r s → Rowing c n f k s₀ (i + 1) (a + length r) s'
-    rowing_more {s'} es =
+    pub rowing_room : Room (a + length r) b'
+    rowing_room = room_after P.is (omega (arith, P.next)) (room_less b.ctx rowing_fits G.room)
+
+    pub rowing_more : {b'' : Builder} → Pushes a r b' b'' → Rowing n f k b (i + 1) (a + length r) b''
+    rowing_more {b''} Q =
         let m = flat_more f i in
-        let q : s' ≡ pushed c k (flat (tab f i 0) ++ f i) s₀ = rw (es, same, P.next, P.is) (pushed_more c k (flat (tab f i 0)) (f i) s₀ (room_less c (omega (arith, uneven_room f n i b)) G.room)) in
+        let q : Pushes k (flat (tab f i 0) ++ r) b b'' = pushes_on P.is P.next (room_less b.ctx (omega (arith, P.next, rowing_fits)) G.room) Q in
         record {
           so_far = omega arith;
           next = omega (arith, P.next, ap length same, ap length m, length-append (flat (tab f i 0)) (f i));
-          is = q ∙ ap (λ (l : List Vert). pushed c k l s₀) (sym m);
+          is = subst (λ (l : List Vert). Pushes k l b b'') (ap (λ (l : List Vert). flat (tab f i 0) ++ l) same ∙ sym m) q;
         }
 
-pub rowing_ones : (c : GeomCtx) (k n : ℕ) (f : ℕ → Vert) (s : Streams) {s' : Streams} → s' ≡ pushed c k (flat (tab (λ j. f j ∷ []) n 0)) s → s' ≡ pushed c k (tab f n 0) s
-rowing_ones c k n f s e = e ∙ ap (λ (l : List Vert). pushed c k l s) (flat_ones f n 0)
+pub rowing_ones : (k n : ℕ) (f : ℕ → Vert) (b : Builder) {b' : Builder} → Pushes k (flat (tab (λ j. f j ∷ []) n 0)) b b' → Pushes k (tab f n 0) b b'
+rowing_ones k n f b {b'} P = subst (λ (l : List Vert). Pushes k l b b') (flat_ones f n 0) P

@@ -8,3 +8,4 @@ pub mod Written
 pub mod Parted
 pub mod Edges
 pub mod Turns
+pub mod Building

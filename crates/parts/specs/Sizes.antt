@@ -1,12 +1,11 @@
 -- FORMAT 17.2, 17.10, 17.11: sizes with their defaults, slices and stacks within their bounds, and by numbers what a part asks for and reports.
-use Rattle.std.specs.Prelude.{ℕ, ◌+◌, ◌*◌, Bool, true, false, ◌&&◌, ◌||◌, cond, ltb, Float}
+use Rattle.std.specs.Prelude.{ℕ, ◌+◌, ◌*◌, Bool, true, false, ◌&&◌, ◌||◌, cond, ltb, length, Float}
 use Rattle.std.specs.Float.Ieee.{lt}
 use Rattle.std.specs.Float.Ieee.Scale.{finite}
 use Rattle.math.specs.Vector.{zero_f}
 use Rattle.lent.specs.declared.answer.Report.{Report}
+use Rattle.parts.specs.declared.builder.Builder.{Builder}
 use Rattle.parts.specs.declared.sizes.PartSizes.{PartSizes}
-use Rattle.parts.specs.declared.sizes.PartLengths.{PartLengths}
-use Rattle.parts.specs.declared.vert.GeomCtx.{GeomCtx}
 
 -- FORMAT 17.2, dim: positive and finite, or the default
 unfoldable pub dim_of : Float → Float → Float
@@ -17,16 +16,16 @@ unfoldable pub held_to : ℕ → ℕ → ℕ
 held_to n least = cond (ltb n least) least (cond (ltb 1024 n) 1024 n)
 
 -- FORMAT 17.10: texture that is not wanted asks for nothing
-unfoldable pub is_short_texture : GeomCtx → PartSizes → PartLengths → Bool
-is_short_texture c z l = c.need_uvs && ltb l.textures (2 * z.vertices)
+unfoldable pub is_short_texture : Builder → PartSizes → Bool
+is_short_texture b z = b.ctx.need_uvs && ltb (length b.textures.now) (2 * z.vertices)
 
 -- FORMAT 17.10, 8, by numbers: a lent slice is shorter than what is to be written to it
-unfoldable pub is_short_part : GeomCtx → PartSizes → PartLengths → Bool
-is_short_part c z l =
-    ltb l.positions (3 * z.vertices)
-    || (ltb l.normals (3 * z.vertices)
-    || (is_short_texture c z l
-    || ltb l.indices z.indices))
+unfoldable pub is_short_part : Builder → PartSizes → Bool
+is_short_part b z =
+    ltb (length b.positions.now) (3 * z.vertices)
+    || (ltb (length b.normals.now) (3 * z.vertices)
+    || (is_short_texture b z
+    || ltb (length b.indices.now) z.indices))
 
 -- FORMAT 17.11: solid, lit and without colours
 unfoldable pub report_of : PartSizes → Report

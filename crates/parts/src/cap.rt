@@ -1,16 +1,13 @@
 // FORMAT 17.4, cap: the flat end of a cylinder or a cone.
-ghost use Rattle.std.specs.Prelude.{◌≡◌, [], ◌∷◌, ◌+◌, ◌*◌, ◌≤◌, ◌<◌, ◌^◌, length};
-ghost use Rattle.lists.specs.Lists.{flat};
-ghost use Rattle.lists.specs.Loops.{tab};
-ghost use Rattle.lists.specs.Parts.{spliced};
-ghost use Rattle.parts.specs.Pushed.{RoomFor, pushed, streams_of};
-ghost use Rattle.parts.specs.Cap.{cap_normal, cap_texture, cap_centre, cap_vert, cap_tri, cap_verts, cap_indices, cap_sizes, cap_at, Numbered, Capped};
-ghost use Rattle.parts.specs.Written.{Written, Roomy};
+ghost use Rattle.std.specs.Prelude.{◌≡◌, [], ◌∷◌, ◌+◌, ◌*◌, ◌≤◌, ◌<◌, ◌^◌, IfSome, MatchOption};
+ghost use Rattle.parts.specs.Cap.{cap_normal, cap_texture, cap_centre, cap_vert, cap_tri, cap_sizes, cap_part, Numbered};
+ghost use Rattle.parts.specs.Building.{Roomy, Writes};
 
+use crate::builder::Builder;
 use crate::ring::ring_at;
 use crate::sizes::PartSizes;
-use crate::turns::{put_verts, put_words};
-use crate::vert::{GeomCtx, Vert, index_of, put_vert};
+use crate::turns::put_words;
+use crate::vert::{Vert, index_of};
 use block::Pair;
 use math::V3;
 
@@ -110,46 +107,6 @@ fn cap_tri(k: Cap, i: usize) -> [u32; 3]
     [centre, b, a]
 }
 
-// The centre, the ring, and a triangle for each slice, from place `at` of the indices on.
-pub fn put_cap(
-    c: GeomCtx,
-    pairs: &[f32],
-    k: Cap,
-    at: usize,
-    positions: &mut [u32],
-    normals: &mut [u32],
-    textures: &mut [u32],
-    indices: &mut [u32],
-)
-    requires { Capped c k at (streams_of positions.old normals.old textures.old) (length indices.old) }
-    ensures { (streams_of positions.new normals.new textures.new
-        ≡ pushed c k.first (cap_verts pairs.now k) (streams_of positions.old normals.old textures.old))
-        × (indices.new ≡ spliced indices.old at (cap_indices k)) }
-{
-    put_vert(c, k.first, cap_centre(k), positions, normals, textures);
-    put_verts(
-        c,
-        k.first + 1,
-        k.slices,
-        |i|
-            requires { (k.pair < 2 ^ 24) × (i < 2 ^ 16) }
-            ensures { result ≡ cap_vert pairs.exit.now k i ∷ [] }
-        { [cap_vert(pairs, k, i)] },
-        positions,
-        normals,
-        textures,
-    );
-    put_words(
-        indices,
-        at,
-        k.slices,
-        |i|
-            requires { (i < k.slices) × (k.first < 2 ^ 24) × (k.slices ≤ 1024) }
-            ensures { result ≡ cap_tri k i }
-        { cap_tri(k, i) },
-    );
-}
-
 // The sizes of a cap of n slices.
 pub fn cap_sizes(n: usize) -> PartSizes
     requires { n ≤ 1024 }
@@ -162,25 +119,39 @@ pub fn cap_sizes(n: usize) -> PartSizes
     }
 }
 
-// A cap where it is there.
-pub fn put_cap_at(
-    there: bool,
-    c: GeomCtx,
-    pairs: &[f32],
-    k: Cap,
-    at: usize,
-    positions: &mut [u32],
-    normals: &mut [u32],
-    textures: &mut [u32],
-    indices: &mut [u32],
-)
-    requires { Numbered k × Roomy c (cap_at pairs.now there k.y k.r k.slices k.top k.first k.pair) k.first at (streams_of positions.old normals.old textures.old) indices.old }
-    ensures { Written c (cap_at pairs.now there k.y k.r k.slices k.top k.first k.pair) k.first at
-        (streams_of positions.old normals.old textures.old)
-        (streams_of positions.new normals.new textures.new)
-        indices.old indices.new }
-{
-    if there {
-        put_cap(c, pairs, k, at, positions, normals, textures, indices);
+impl Builder<'_> {
+    // The centre, the ring, and a triangle for each slice, from place `at` of the indices on.
+    fn put_cap(&mut self, pairs: &[f32], k: Cap, at: usize)
+        requires { Numbered k × Roomy (cap_part pairs.now k) k.first at self.old }
+        ensures { Writes (cap_part pairs.now k) k.first at self.old self.new }
+    {
+        self.put_vert(k.first, cap_centre(k));
+        self.put_verts(
+            k.first + 1,
+            k.slices,
+            |i|
+                requires { (k.pair < 2 ^ 24) × (i < 2 ^ 16) }
+                ensures { result ≡ cap_vert pairs.exit.now k i ∷ [] }
+            { [cap_vert(pairs, k, i)] },
+        );
+        put_words(
+            self.indices,
+            at,
+            k.slices,
+            |i|
+                requires { (i < k.slices) × (k.first < 2 ^ 24) × (k.slices ≤ 1024) }
+                ensures { result ≡ cap_tri k i }
+            { cap_tri(k, i) },
+        );
+    }
+
+    // A cap, if there is one.
+    pub fn put_cap_at(&mut self, pairs: &[f32], cap: Option<Cap>, at: usize)
+        requires { IfSome cap (λ k. Numbered k × Roomy (cap_part pairs.now k) k.first at self.old) }
+        ensures { MatchOption cap (self.new ≡ self.old) (λ k. Writes (cap_part pairs.now k) k.first at self.old self.new) }
+    {
+        if let Some(k) = cap {
+            self.put_cap(pairs, k, at);
+        }
     }
 }

@@ -2,9 +2,9 @@
 ghost use Rattle.std.specs.Prelude.{◌≡◌, [], ◌∷◌, ◌/◌, ◌≤◌, ◌<◌, ◌^◌, ltb};
 ghost use Rattle.block.specs.declared.refusal.Refusal.TheVariants.{Pairs, Buffer};
 ghost use Rattle.block.specs.Refusal.{refused_as, row, first_of};
-ghost use Rattle.parts.specs.Sizes.{dim_of, held_to, is_short_texture, is_short_part, report_of, sum_of, sizes_where};
+ghost use Rattle.parts.specs.Sizes.{dim_of, held_to, is_short_texture, is_short_part, report_of, sum_of};
 
-use crate::vert::GeomCtx;
+use crate::builder::Builder;
 use block::Refusal;
 use lent::Report;
 
@@ -16,15 +16,12 @@ pub struct PartSizes {
     pub pairs: usize,
 }
 
-// The lengths of the lent slices, and of the list of pairs in floats.
-#[derive(Clone, Copy)]
-pub struct PartLengths {
-    pub positions: usize,
-    pub normals: usize,
-    pub textures: usize,
-    pub indices: usize,
-    pub floats: usize,
-}
+// Those of no part.
+pub const NO_PART: PartSizes = PartSizes {
+    vertices: 0,
+    indices: 0,
+    pairs: 0,
+};
 
 // dim: positive and finite, or the default.
 pub fn dim(v: f32, d: f32) -> f32
@@ -51,44 +48,46 @@ pub fn held(n: u32, least: u32) -> usize
     n as usize
 }
 
-fn is_short_texture(c: GeomCtx, z: PartSizes, l: PartLengths) -> bool
-    requires { z.vertices < 2 ^ 32 }
-    ensures { result ≡ is_short_texture c z l }
-{
-    if c.need_uvs {
-        return l.textures < 2 * z.vertices;
+impl Builder<'_> {
+    fn is_short_texture(&self, z: PartSizes) -> bool
+        requires { z.vertices < 2 ^ 32 }
+        ensures { result ≡ is_short_texture self.now z }
+    {
+        if self.ctx.need_uvs {
+            return self.textures.len() < 2 * z.vertices;
+        }
+        false
     }
-    false
-}
 
-fn is_short_part(c: GeomCtx, z: PartSizes, l: PartLengths) -> bool
-    requires { z.vertices < 2 ^ 32 }
-    ensures { result ≡ is_short_part c z l }
-{
-    if l.positions < 3 * z.vertices {
-        return true;
+    fn is_short(&self, z: PartSizes) -> bool
+        requires { z.vertices < 2 ^ 32 }
+        ensures { result ≡ is_short_part self.now z }
+    {
+        if self.positions.len() < 3 * z.vertices {
+            return true;
+        }
+        if self.normals.len() < 3 * z.vertices {
+            return true;
+        }
+        if self.is_short_texture(z) {
+            return true;
+        }
+        self.indices.len() < z.indices
     }
-    if l.normals < 3 * z.vertices {
-        return true;
-    }
-    if is_short_texture(c, z, l) {
-        return true;
-    }
-    l.indices < z.indices
-}
 
-// 10, and then 8.
-pub fn part_refusal(c: GeomCtx, z: PartSizes, l: PartLengths) -> Result<(), Refusal>
-    requires { z.vertices < 2 ^ 32 }
-    ensures { refused_as result ≡ first_of (row Pairs (ltb (l.floats / 2) z.pairs) ∷ row Buffer (is_short_part c z l) ∷ []) }
-{
-    if l.floats / 2 < z.pairs {
-        return Err(Refusal::Pairs);
+    // Of a part of these sizes, with a list of so many floats as pairs: 10, and then 8.
+    pub fn refusal(&self, z: PartSizes, floats: usize) -> Result<(), Refusal>
+        requires { z.vertices < 2 ^ 32 }
+        ensures { refused_as result ≡ first_of (row Pairs (ltb (floats / 2) z.pairs) ∷ row Buffer (is_short_part self.now z) ∷ []) }
+    {
+        if floats / 2 < z.pairs {
+            return Err(Refusal::Pairs);
+        }
+        if self.is_short(z) {
+            return Err(Refusal::Buffer);
+        }
+        Ok(())
     }
-    if is_short_part(c, z, l) {
-        return Err(Refusal::Buffer);
-    }
-    Ok(())
 }
 
 // FORMAT 17.11: solid, lit and without colours.
@@ -113,19 +112,5 @@ pub fn sum_sizes(a: PartSizes, b: PartSizes) -> PartSizes
         vertices: a.vertices + b.vertices,
         indices: a.indices + b.indices,
         pairs: a.pairs + b.pairs,
-    }
-}
-
-// Those that are given, where the part is there.
-pub fn sizes_where(there: bool, z: PartSizes) -> PartSizes
-    ensures { result ≡ sizes_where there z }
-{
-    if there {
-        return z;
-    }
-    PartSizes {
-        vertices: 0,
-        indices: 0,
-        pairs: 0,
     }
 }

@@ -1,13 +1,9 @@
-// FORMAT 17.4, Builder::vert: a vertex of a part, and how it is written.
-ghost use Rattle.std.specs.Prelude.{◌≡◌, ◌+◌, ◌≤◌, ◌<◌, ◌^◌, [], ◌∷◌, length};
-ghost use Rattle.mesh.specs.Words.{words2, words3, bits};
-ghost use Rattle.lists.specs.Parts.{spliced};
+// FORMAT 17.4, Builder::vert: a vertex of a part, and its texture point as it is written.
+ghost use Rattle.std.specs.Prelude.{◌≡◌, ◌<◌, ◌^◌};
 ghost use Rattle.parts.specs.Part.{finite_ctx, uv_of};
-ghost use Rattle.parts.specs.Pushed.{RoomFor, pushed, streams_of};
 
 use bits::Words2;
 use block::{Pair, TexTransform};
-use lists::put_all;
 use math::V3;
 
 // GeomCtx: whether texture is wanted, and the transform, if there is one.
@@ -43,18 +39,7 @@ pub fn index_of(k: usize) -> u32
     k as u32
 }
 
-fn put_vector(words: &mut [u32], a: usize, v: V3)
-    requires { a + 3 ≤ length words.old }
-    ensures { words.new ≡ spliced words.old a (words3 (bits v)) }
-{
-    put_all(
-        words,
-        a,
-        &[math::bits_of(v.x), math::bits_of(v.y), math::bits_of(v.z)],
-    );
-}
-
-fn uv_of(c: GeomCtx, v: Vert) -> Words2
+pub fn uv_of(c: GeomCtx, v: Vert) -> Words2
     ensures { result ≡ uv_of c v }
 {
     let st = v.st;
@@ -63,25 +48,4 @@ fn uv_of(c: GeomCtx, v: Vert) -> Words2
         t: math::bits_of(st.t),
     };
     block::uv(c.transform, w)
-}
-
-// Vertex k.
-pub fn put_vert(
-    c: GeomCtx,
-    k: usize,
-    v: Vert,
-    positions: &mut [u32],
-    normals: &mut [u32],
-    textures: &mut [u32],
-)
-    requires { RoomFor c (k + 1) (streams_of positions.old normals.old textures.old) }
-    ensures { streams_of positions.new normals.new textures.new
-        ≡ pushed c k (v ∷ []) (streams_of positions.old normals.old textures.old) }
-{
-    put_vector(positions, 3 * k, v.position);
-    put_vector(normals, 3 * k, v.normal);
-    if c.need_uvs {
-        let w = uv_of(c, v);
-        put_all(textures, 2 * k, &[w.s, w.t]);
-    }
 }

@@ -1,18 +1,14 @@
 -- The numbers of a sphere, and its triangles one after the other.
-use mathlib.Core.Path.{◌≡◌, refl, sym, ap, subst}
+use mathlib.Core.Path.{◌≡◌, refl, ap, subst}
 use mathlib.Core.Bool.{Bool, true, false, not, cond}
 use mathlib.Core.List.{List, [], ◌∷◌}
-use Prim.Native.Nat.{ℕ, ◌+◌, ◌*◌, ◌≤◌, ◌<◌}
-use native.Mathlib.Nat.{mul-le-mul, zero-add}
+use Prim.Native.Nat.{ℕ, ◌+◌, ◌*◌, ◌≤◌}
+use native.Mathlib.Nat.{mul-le-mul}
 use native.Mathlib.Omega.{arith}
 use lib.Dec.{eqb}
 use lib.ListN.{length, length-append}
 use Rattle.lists.specs.Parts.{Added, spliced}
-use Rattle.lists.proofs.Numbers.{piece_room}
 use Rattle.lists.proofs.Pieces.{added_both}
-use Rattle.parts.specs.declared.vert.GeomCtx.{GeomCtx}
-use Rattle.parts.specs.Pushed.{Streams, RoomFor}
-use Rattle.parts.proofs.Pushing.{room_less}
 use Rattle.lists.proofs.Splices.{splice_start}
 use Rattle.sphere.specs.Sphere.{sphere_quad}
 
@@ -72,12 +68,6 @@ module _ (n k j i : ℕ) (l : List ℕ) (at : ℕ) where
           added_both l first second room (subst (λ (x : List ℕ). Added spliced x at l u l') one_is p) (subst (λ (x : List ℕ). Added spliced x u l' v l'') two_is q)
 
 -- ---- rows
-
-pub zero_plus : (n : ℕ) → n ≡ 0 + n
-zero_plus n = sym (zero-add n)
-
-pub row_room : (k n j : ℕ) {c : GeomCtx} {s : Streams} → j < k + 1 → RoomFor c (0 + (k + 1) * (n + 1)) s → RoomFor c (j * (n + 1) + (n + 1)) s
-row_room k n j {c} h R = room_less c (omega (arith, piece_room 0 (k + 1) (n + 1) j (0 + (k + 1) * (n + 1)) (omega arith) h)) R
 
 pub rows_low : (k n b : ℕ) → k ≤ 1024 → n + b ≤ 1026 → (k + 1) * (n + b) ≤ 1051650
 rows_low k n b h g = mul-le-mul {n₁ = k + 1} {m₁ = n + b} {n₂ = 1025} {m₂ = 1026} (omega arith) g

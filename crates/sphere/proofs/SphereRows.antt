@@ -1,6 +1,6 @@
 -- FORMAT 17.7, worked out: all positions, normals, texture points and indices of a sphere of 3 slices and 2 stacks with radius 2, and how many pairs it takes.
 use mathlib.Core.Path.{◌≡◌, refl}
-use mathlib.Core.Bool.{true, false}
+use mathlib.Core.Bool.{true}
 use mathlib.Core.List.{List, [], ◌∷◌, ◌++◌}
 use Prim.Native.Nat.{ℕ}
 use lib.Ieee.{Float, binary32, of_bits, to_bits, of_int, add, sub, mul, div, lt}

@@ -2,12 +2,12 @@
 ghost use Rattle.std.specs.Prelude.{◌≡◌, [], ◌∷◌, ◌+◌, ◌*◌, ◌≤◌};
 ghost use Rattle.lists.specs.Lists.{flat};
 ghost use Rattle.lists.specs.Loops.{tab};
-ghost use Rattle.parts.specs.Pushed.{RoomFor, pushed, streams_of};
+ghost use Rattle.parts.specs.Building.{Room, Pushes};
 ghost use Rattle.sphere.specs.Sphere.{sphere_vert, sphere_row};
 
 use block::Pair;
 use math::V3;
-use parts::{GeomCtx, Vert, cosine_at, put_verts, ring_at, share, sine_at};
+use parts::{Builder, Vert, cosine_at, ring_at, share, sine_at};
 
 // Vertex i of row j.
 fn sphere_vert(r: f32, n: usize, k: usize, pairs: &[f32], j: usize, i: usize) -> Vert
@@ -34,51 +34,26 @@ fn sphere_vert(r: f32, n: usize, k: usize, pairs: &[f32], j: usize, i: usize) ->
     }
 }
 
-fn put_row(
-    c: GeomCtx,
-    r: f32,
-    n: usize,
-    k: usize,
-    pairs: &[f32],
-    j: usize,
-    positions: &mut [u32],
-    normals: &mut [u32],
-    textures: &mut [u32],
-)
-    requires { (n ≤ 1024) × (k ≤ 1024) × (j ≤ k) × RoomFor c (j * (n + 1) + (n + 1)) (streams_of positions.old normals.old textures.old) }
-    ensures { streams_of positions.new normals.new textures.new
-        ≡ pushed c (j * (n + 1)) (sphere_row r n k pairs.now j) (streams_of positions.old normals.old textures.old) }
+fn put_row(r: f32, n: usize, k: usize, pairs: &[f32], j: usize, b: &mut Builder<'_>)
+    requires { (n ≤ 1024) × (k ≤ 1024) × (j ≤ k) × Room (j * (n + 1) + (n + 1)) b.old }
+    ensures { Pushes (j * (n + 1)) (sphere_row r n k pairs.now j) b.old b.new }
 {
-    put_verts(
-        c,
+    b.put_verts(
         j * (n + 1),
         n + 1,
         |i|
             requires { (n ≤ 1024) × (k ≤ 1024) × (j ≤ k) × (i ≤ n) }
             ensures { result ≡ sphere_vert r n k pairs.exit.now j i ∷ [] }
         { [sphere_vert(r, n, k, pairs, j, i)] },
-        positions,
-        normals,
-        textures,
     );
 }
 
 // All rows.
-pub fn put_rows(
-    c: GeomCtx,
-    r: f32,
-    n: usize,
-    k: usize,
-    pairs: &[f32],
-    positions: &mut [u32],
-    normals: &mut [u32],
-    textures: &mut [u32],
-)
-    requires { (n ≤ 1024) × (k ≤ 1024) × RoomFor c (0 + (k + 1) * (n + 1)) (streams_of positions.old normals.old textures.old) }
-    ensures { streams_of positions.new normals.new textures.new
-        ≡ pushed c 0 (flat (tab (sphere_row r n k pairs.now) (k + 1) 0)) (streams_of positions.old normals.old textures.old) }
+pub fn put_rows(r: f32, n: usize, k: usize, pairs: &[f32], b: &mut Builder<'_>)
+    requires { (n ≤ 1024) × (k ≤ 1024) × Room (0 + (k + 1) * (n + 1)) b.old }
+    ensures { Pushes 0 (flat (tab (sphere_row r n k pairs.now) (k + 1) 0)) b.old b.new }
 {
     for j in 0..k + 1 {
-        put_row(c, r, n, k, pairs, j, positions, normals, textures);
+        put_row(r, n, k, pairs, j, b);
     }
 }

@@ -7,7 +7,7 @@ ghost use Rattle.sphere.specs.Sphere.{sphere_part, sphere_of};
 use crate::bands::put_bands;
 use crate::rows::put_rows;
 use lent::Answer;
-use parts::{GeomCtx, PartLengths, PartSizes, dim, finite_ctx, held, part_refusal, part_report};
+use parts::{Builder, GeomCtx, PartSizes, dim, finite_ctx, held, part_report};
 
 // Of n slices and k stacks.
 fn sphere_sizes(n: usize, k: usize) -> PartSizes
@@ -40,20 +40,16 @@ pub fn sphere(
     let r = dim(radius, 1.0);
     let n = held(slices, 3);
     let k = held(stacks, 2);
-    let c = finite_ctx(ctx);
+    let mut b = Builder {
+        ctx: finite_ctx(ctx),
+        positions,
+        normals,
+        textures,
+        indices,
+    };
     let z = sphere_sizes(n, k);
-    part_refusal(
-        c,
-        z,
-        PartLengths {
-            positions: positions.len(),
-            normals: normals.len(),
-            textures: textures.len(),
-            indices: indices.len(),
-            floats: pairs.len(),
-        },
-    )?;
-    put_rows(c, r, n, k, pairs, positions, normals, textures);
-    put_bands(indices, n, k);
+    b.refusal(z, pairs.len())?;
+    put_rows(r, n, k, pairs, &mut b);
+    put_bands(b.indices, n, k);
     Ok(part_report(z))
 }

@@ -1,21 +1,17 @@
-use mathlib.Core.Path.{refl}
-use Rattle.parts.proofs.Turning.{wide_given}
-use Rattle.cone.specs.Cone.{cone_verts, cone_tri}
-use Rattle.cone.proofs.Sides.{side_room, side_places, side_written}
+use Rattle.parts.proofs.Building.{places_after, writes_both}
+use Rattle.cone.specs.Cone.{cone_verts, cone_tri, cone_side}
 use Rattle.cone.proofs.side.put_side.Goals as goal
 
 pub put_verts-requires-clause-given : goal.put_verts-requires-clause-given
-unfolding cone_verts
-put_verts-requires-clause-given c =
-    (cone_verts c.args.pairs.now c.args.r c.args.height c.args.n, wide_given 3 _ (λ t. refl) (λ i b x p. p) (side_room _ _ _ _ c.requires.1))
+unfolding cone_side
+put_verts-requires-clause-given c = (cone_verts c.args.pairs.now c.args.k.r c.args.k.height c.args.k.n, record { row = λ i b x p. p; room = c.requires.1.vertices })
 
 pub put_words-requires-clause-given : goal.put_words-requires-clause-given
-unfolding cone_tri
-put_words-requires-clause-given c =
-    (cone_tri, wide_given 3 _ (λ t. refl) (λ i b x p. p) (side_places _ _ _ _ c.requires.1))
+unfolding cone_side
+put_words-requires-clause-given c = (cone_tri, record { row = λ i b x p. p; room = places_after (c.put_verts.ensures (cone_verts c.args.pairs.now c.args.k.r c.args.k.height c.args.k.n) (record { row = λ i b x p. p; room = c.requires.1.vertices })) c.requires.1.places })
 
 pub returns : goal.returns
-unfolding cone_verts cone_tri
+unfolding cone_side
 returns c =
-    side_written _ _ _ _ (c.put_verts.ensures (cone_verts c.args.pairs.now c.args.r c.args.height c.args.n) (wide_given 3 _ (λ t. refl) (λ i b x p. p) (side_room _ _ _ _ c.requires.1)))
-    (c.put_words.ensures cone_tri (wide_given 3 _ (λ t. refl) (λ i b x p. p) (side_places _ _ _ _ c.requires.1)))
+    writes_both (c.put_verts.ensures (cone_verts c.args.pairs.now c.args.k.r c.args.k.height c.args.k.n) (record { row = λ i b x p. p; room = c.requires.1.vertices }))
+    (c.put_words.ensures cone_tri (record { row = λ i b x p. p; room = places_after (c.put_verts.ensures (cone_verts c.args.pairs.now c.args.k.r c.args.k.height c.args.k.n) (record { row = λ i b x p. p; room = c.requires.1.vertices })) c.requires.1.places }))

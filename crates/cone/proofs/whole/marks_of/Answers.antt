@@ -1,12 +1,13 @@
 use native.Mathlib.Omega.{arith}
 use Rattle.cone.proofs.Sides.{side_small}
-use Rattle.parts.proofs.Parting.{where_small, cap_small, sum_low}
+use Rattle.parts.proofs.Parting.{where_small, cap_small, sum_low, sizes_there}
 use Rattle.cone.specs.Cone.{cone_marks_of}
 use Rattle.cone.proofs.whole.marks_of.Goals as goal
 
 pub sum_sizes-all-requires : goal.sum_sizes-all-requires
-sum_sizes-all-requires c = sum_low 8192 8192 (rw (c.sizes_where-a.ensures, c.side_sizes.ensures) (where_small 8192 _ _ (side_small _ c.requires))) (rw (c.sizes_where.ensures, c.cap_sizes.ensures) (where_small 8192 _ _ (cap_small _ c.requires))) (omega arith) (omega arith)
+sum_sizes-all-requires c =
+    sum_low 8192 8192 (rw (sizes_there _ _ c.then_some.ensures c.unwrap_or-a.ensures, c.side_sizes.ensures) (where_small 8192 _ _ (side_small _ c.requires))) (rw (sizes_there _ _ c.then_some-2.ensures c.unwrap_or.ensures, c.cap_sizes.ensures) (where_small 8192 _ _ (cap_small _ c.requires))) (omega arith) (omega arith)
 
 pub returns : goal.returns
 unfolding cone_marks_of
-returns c = rw (c.sum_sizes-all.ensures, c.sizes_where-a.ensures, c.sizes_where.ensures, c.side_sizes.ensures, c.cap_sizes.ensures)
+returns c = rw (c.sum_sizes-all.ensures, sizes_there _ _ c.then_some.ensures c.unwrap_or-a.ensures, sizes_there _ _ c.then_some-2.ensures c.unwrap_or.ensures, c.side_sizes.ensures, c.cap_sizes.ensures)

@@ -9,4 +9,4 @@ put_verts-requires-clause-given c =
 
 pub returns : goal.returns
 unfolding sphere_row
-returns c = rowing_ones _ _ _ _ _ (c.put_verts.ensures _ (ones_given _ (λ i b x p. p) c.requires.3))
+returns c = rowing_ones _ _ _ _ (c.put_verts.ensures _ (ones_given _ (λ i b x p. p) c.requires.3))

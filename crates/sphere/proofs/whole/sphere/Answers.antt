@@ -1,5 +1,6 @@
+use Rattle.std.proofs.Common.{rules}
 use Rattle.std.proofs.lemmas.Result.{err_from_is_err_and}
-use Rattle.sphere.proofs.Calling.{low, sized_call, room_call, written_call}
+use Rattle.sphere.proofs.Calling.{low, sized_call, rows_room, bands_room, written_call}
 use Rattle.parts.proofs.Parting.{call_refused, call_roomy, call_made}
 use Rattle.sphere.proofs.whole.sphere.Goals as goal
 
@@ -7,26 +8,25 @@ pub sphere_sizes-z-requires : goal.sphere_sizes-z-requires
 sphere_sizes-z-requires c =
     low c.args.radius c.args.slices c.args.stacks c.args.pairs.now c.dim-r.ensures c.held-n.ensures c.held-k.ensures
 
-pub part_refusal-requires : goal.part_refusal-requires
-part_refusal-requires c = c.sphere_sizes-z.ensures.0
+pub refusal-requires : goal.refusal-requires
+refusal-requires c = c.sphere_sizes-z.ensures.0
 
-pub returns-in_err-part_refusal : goal.returns-in_err-part_refusal
-returns-in_err-part_refusal c =
+pub returns-in_err-refusal : goal.returns-in_err-refusal
+returns-in_err-refusal c =
     let p = err_from_is_err_and c.from_residual.result c.from_residual.ensures.1 in
-    rw (p.1, p.2) (call_refused c.args.ctx c.args.pairs.now _ (record { positions = c.args.positions.now; normals = c.args.normals.now; textures = c.args.textures.now }) c.args.indices.now (sized_call c.args.radius c.args.slices c.args.stacks c.args.pairs.now c.dim-r.ensures c.held-n.ensures c.held-k.ensures (c.sphere_sizes-z.ensures.1 _ _)) c.finite_ctx-c.ensures _ c.in_err-part_refusal.ensures)
+    rw (p.1, p.2) (call_refused c.args.ctx c.args.pairs.now _ _ (sized_call c.args.radius c.args.slices c.args.stacks c.args.pairs.now c.dim-r.ensures c.held-n.ensures c.held-k.ensures (c.sphere_sizes-z.ensures.1 _ _)) c.finite_ctx.ensures _ c.in_err-refusal.ensures)
 
 pub put_rows-requires : goal.put_rows-requires
 put_rows-requires c =
-    let R = room_call c.args.radius c.args.slices c.args.stacks c.args.pairs.now c.dim-r.ensures c.held-n.ensures c.held-k.ensures (call_roomy c.args.ctx c.args.pairs.now _ (record { positions = c.args.positions.now; normals = c.args.normals.now; textures = c.args.textures.now }) c.args.indices.now (sized_call c.args.radius c.args.slices c.args.stacks c.args.pairs.now c.dim-r.ensures c.held-n.ensures c.held-k.ensures (c.sphere_sizes-z.ensures.1 _ _)) c.finite_ctx-c.ensures c.in_ok-part_refusal.ensures) in
     let l = low c.args.radius c.args.slices c.args.stacks c.args.pairs.now c.dim-r.ensures c.held-n.ensures c.held-k.ensures in
-    (l.0, l.2, R.0)
+    (l.0, l.2, rows_room c.args.radius c.args.slices c.args.stacks c.args.pairs.now c.dim-r.ensures c.held-n.ensures c.held-k.ensures (call_roomy c.args.ctx c.args.pairs.now _ _ (sized_call c.args.radius c.args.slices c.args.stacks c.args.pairs.now c.dim-r.ensures c.held-n.ensures c.held-k.ensures (c.sphere_sizes-z.ensures.1 _ _)) c.finite_ctx.ensures c.in_ok-refusal.ensures))
 
 pub put_bands-requires : goal.put_bands-requires
 put_bands-requires c =
-    let R = room_call c.args.radius c.args.slices c.args.stacks c.args.pairs.now c.dim-r.ensures c.held-n.ensures c.held-k.ensures (call_roomy c.args.ctx c.args.pairs.now _ (record { positions = c.args.positions.now; normals = c.args.normals.now; textures = c.args.textures.now }) c.args.indices.now (sized_call c.args.radius c.args.slices c.args.stacks c.args.pairs.now c.dim-r.ensures c.held-n.ensures c.held-k.ensures (c.sphere_sizes-z.ensures.1 _ _)) c.finite_ctx-c.ensures c.in_ok-part_refusal.ensures) in
     let l = low c.args.radius c.args.slices c.args.stacks c.args.pairs.now c.dim-r.ensures c.held-n.ensures c.held-k.ensures in
-    (l.0, l.2, R.1)
+    (l.0, l.2, bands_room c.args.radius c.args.slices c.args.stacks c.args.pairs.now c.dim-r.ensures c.held-n.ensures c.held-k.ensures (call_roomy c.args.ctx c.args.pairs.now _ _ (sized_call c.args.radius c.args.slices c.args.stacks c.args.pairs.now c.dim-r.ensures c.held-n.ensures c.held-k.ensures (c.sphere_sizes-z.ensures.1 _ _)) c.finite_ctx.ensures c.in_ok-refusal.ensures) c.put_rows.ensures)
 
 pub returns : goal.returns
 returns c =
-    call_made c.args.ctx c.args.pairs.now _ (record { positions = c.args.positions.now; normals = c.args.normals.now; textures = c.args.textures.now }) c.args.indices.now (sized_call c.args.radius c.args.slices c.args.stacks c.args.pairs.now c.dim-r.ensures c.held-n.ensures c.held-k.ensures (c.sphere_sizes-z.ensures.1 _ _)) c.finite_ctx-c.ensures c.in_ok-part_refusal.ensures (written_call c.args.radius c.args.slices c.args.stacks c.args.pairs.now c.dim-r.ensures c.held-n.ensures c.held-k.ensures c.put_rows.ensures c.put_bands.ensures) c.part_report.ensures
+    call_made c.args.ctx c.args.pairs.now _ _ (sized_call c.args.radius c.args.slices c.args.stacks c.args.pairs.now c.dim-r.ensures c.held-n.ensures c.held-k.ensures (c.sphere_sizes-z.ensures.1 _ _)) c.finite_ctx.ensures c.in_ok-refusal.ensures (written_call c.args.radius c.args.slices c.args.stacks c.args.pairs.now c.dim-r.ensures c.held-n.ensures c.held-k.ensures c.put_rows.ensures c.put_bands.ensures) c.part_report.ensures
+    (search rules) (search rules) (search rules) (search rules)

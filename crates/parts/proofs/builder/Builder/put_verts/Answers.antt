@@ -1,6 +1,6 @@
 use Rattle.std.proofs.Common.{rules}
-use Rattle.parts.proofs.Turning.{rowing_none, rowing_room, rowing_more, rowing_all}
-use Rattle.parts.proofs.turns.put_verts.Goals as goal
+use Rattle.parts.proofs.Turning.{rowing_none, rowing_room, rowing_fits, rowing_more, rowing_all}
+use Rattle.parts.proofs.builder.Builder.put_verts.Goals as goal
 
 pub loop-i-init : goal.loop-i-init
 loop-i-init g c = λ f G. rowing_none
@@ -10,7 +10,8 @@ put_run-requires g c = rowing_room c.requires.given.1 (c.loop-i.invariant c.requ
 
 pub overflow_add-next : goal.overflow_add-next
 overflow_add-next g c =
-    let h = (rowing_room c.requires.given.1 (c.loop-i.invariant c.requires.given.0 c.requires.given.1) c.loop-i-test.true c.row-r.ensures c.as_slice-r.ensures).positions in
+    let h = rowing_fits c.requires.given.1 (c.loop-i.invariant c.requires.given.0 c.requires.given.1) c.loop-i-test.true c.row-r.ensures c.as_slice-r.ensures in
+    let s = c.requires.given.1.room.positions in
     search rules
 
 pub loop-i-preserved : goal.loop-i-preserved
