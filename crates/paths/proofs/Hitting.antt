@@ -9,6 +9,7 @@ use native.Mathlib.Omega.{arith}
 use lib.Dec.{eqb, ltb}
 use lib.Ieee.{Float}
 use lib.ListN.{length, get_or, take}
+use lib.Seq.{take_all}
 use Rattle.std.specs.List.{list_any}
 use borrow.Author.Tests.{eq-eqb, ne_eqb, lt-ltb, le-ltb, ltb-false}
 use Rattle.lists.specs.Loops.{pick, run, first}
@@ -100,11 +101,13 @@ found_first p g (x ∷ xs) (suc k) i h e =
     go true b = sym (lt-ltb i (i + suc k) (omega arith))
     go false b = let c : suc i + k ≡ i + suc k = omega arith in b ∙ ap (ltb (first g k (suc i))) c
 
-pub any_clear_is : (l : List ℕ) (m : ℕ) → m ≤ length l → list_any (λ (a : ℕ). eqb a 0) (take m l) ≡ any_clear l m
+pub any_clear_is : (l : List ℕ) → list_any (λ (a : ℕ). eqb a 0) l ≡ any_clear l (length l)
 unfolding any_clear
-any_clear_is l m h =
+any_clear_is l =
+    let m = length l in
     let z : 0 + m ≡ m = omega arith in
-    found_first (λ (a : ℕ). eqb a 0) (λ (j : ℕ). eqb (get_or l j 0) 0) l m 0 h (λ t w. let y : 0 + t ≡ t = omega arith in rw y refl) ∙ ap (ltb (first (λ (j : ℕ). eqb (get_or l j 0) 0) m 0)) z
+    ap (list_any (λ (a : ℕ). eqb a 0)) (sym (take_all m l (omega arith)))
+    ∙ found_first (λ (a : ℕ). eqb a 0) (λ (j : ℕ). eqb (get_or l j 0) 0) l m 0 (omega arith) (λ t w. let y : 0 + t ≡ t = omega arith in rw y refl) ∙ ap (ltb (first (λ (j : ℕ). eqb (get_or l j 0) 0) m 0)) z
 
 all_there : (l : List ℕ) (m : ℕ) → any_clear l m ≡ false → (j : ℕ) → j < m → eqb (get_or l j 0) 0 ≡ false
 unfolding any_clear

@@ -7,11 +7,11 @@ use native.Mathlib.Nat.{zero-add}
 use native.Mathlib.Omega.{arith}
 use lib.Dec.{eqb, ltb}
 use lib.Ieee.{Float}
-use lib.ListN.{length, drop}
+use lib.ListN.{length, drop, replicate}
 use borrow.Author.Tests.{ne_eqb, lt-ltb, le-ltb}
 use Rattle.lists.specs.Loops.{pick, tab, run, first}
 use Rattle.lists.proofs.Lists.{beyond}
-use Rattle.lists.proofs.Tabs.{length_tab}
+use Rattle.lists.proofs.Tabs.{length_tab, tab_replicate}
 use Rattle.lists.proofs.Tests.{and_no}
 use Rattle.mesh.specs.Mesh.{over}
 use Rattle.std.specs.Prelude.{Ok, Err}
@@ -69,35 +69,36 @@ pub turned : (positions indices : List ℕ) (rays : List Float) (m t : ℕ) (l r
 unfolding turn_of
 turned positions indices rays m t l r tri e h = h ∙ ap (λ (x : Triangle). updated (step_at rays x (t + 1)) m l) e
 
-tested : (positions indices paths held mid left : List ℕ) (rays : List Float) → is_refused positions indices paths (length held) ≡ false → Loaded paths rays (paths_in paths)
-    → mid ≡ updated (λ (j r : ℕ). 0) (paths_in paths) held → left ≡ run (turn_of positions indices rays (paths_in paths)) (length indices / 3) 0 mid
-    → left ≡ answers_after positions indices paths held
+tested : (positions indices paths held mid made left : List ℕ) (rays : List Float) → is_refused positions indices paths (length held) ≡ false → Loaded paths rays (paths_in paths)
+    → mid ≡ replicate (paths_in paths) 0 → made ≡ run (turn_of positions indices rays (paths_in paths)) (length indices / 3) 0 mid
+    → left ≡ made ++ drop (paths_in paths) held → left ≡ answers_after positions indices paths held
 unfolding answers_after answers_of answer_of turn_of
-tested positions indices paths held mid left rays taken loaded p q =
+tested positions indices paths held mid made left rays taken loaded p q e =
     let m = paths_in paths in
     let n = length indices / 3 in
     let f : ℕ → ℕ = λ (j : ℕ). answer_of positions indices (ray_in paths j) in
-    let made : left ≡ tab f m 0 ++ drop m held =
+    let none : List ℕ = replicate m 0 in
+    let is : made ≡ tab f m 0 =
     q
-    ∙ ap (λ (l : List ℕ). run (turn_of positions indices rays m) n 0 l) p
+    ∙ ap (λ (l : List ℕ). run (turn_of positions indices rays m) n 0 l) (p ∙ sym (updated_tab (λ j. 0) m 0 ∙ tab_replicate 0 m 0))
     ∙ (λ i. run (λ (t : ℕ) (l : List ℕ).
     updated_same (step_at rays (triangle_in positions indices t) (t + 1)) (words_of positions indices paths t) m l
-    (λ (j : ℕ) (b : j < m) (x : ℕ). step_same positions indices paths rays m t j x loaded b) i) n 0 (updated (λ (j r : ℕ). 0) m held))
-    ∙ passes (words_of positions indices paths) m n 0 (λ (j r : ℕ). 0) held
-    ∙ (λ i. updated (λ (j x : ℕ). carried (blocks positions indices (ray_in paths j)) n i) m held)
-    ∙ updated_tab f m held (accepted positions indices paths (length held) taken).fits in
-    beyond (tab f m 0) held m (length_tab f m 0) made
+    (λ (j : ℕ) (b : j < m) (x : ℕ). step_same positions indices paths rays m t j x loaded b) i) n 0 (updated (λ (j r : ℕ). 0) m none))
+    ∙ passes (words_of positions indices paths) m n 0 (λ (j r : ℕ). 0) none
+    ∙ (λ i. updated (λ (j x : ℕ). carried (blocks positions indices (ray_in paths j)) n i) m none)
+    ∙ updated_tab f m 0 in
+    beyond (tab f m 0) held m (length_tab f m 0) (e ∙ ap (λ (l : List ℕ). l ++ drop m held) is)
     ∙ ap (λ (b : Bool). cond b held (over (answers_of positions indices paths) held)) (sym taken)
 
 -- ---- the call
 
 module _ (positions indices paths held : List ℕ) where
-  pub tested_call : (mid left : List ℕ) (rays : List Float) → is_refused positions indices paths (length held) ≡ false → Loaded paths rays (paths_in paths)
-      → mid ≡ updated (λ (j r : ℕ). 0) (paths_in paths) held → left ≡ run (turn_of positions indices rays (paths_in paths)) (length indices / 3) 0 mid
-      → PathsCall positions indices paths held left (Ok tt)
+  pub tested_call : (mid made left : List ℕ) (rays : List Float) → is_refused positions indices paths (length held) ≡ false → Loaded paths rays (paths_in paths)
+      → mid ≡ replicate (paths_in paths) 0 → made ≡ run (turn_of positions indices rays (paths_in paths)) (length indices / 3) 0 mid
+      → left ≡ made ++ drop (paths_in paths) held → PathsCall positions indices paths held left (Ok tt)
   unfolding paths_number
-  tested_call mid left rays taken loaded p q =
-      record { number = sym (ap (λ (b : Bool). cond b 12 0) taken); answers = tested positions indices paths held mid left rays taken loaded p q }
+  tested_call mid made left rays taken loaded p q e =
+      record { number = sym (ap (λ (b : Bool). cond b 12 0) taken); answers = tested positions indices paths held mid made left rays taken loaded p q e }
 
   pub refused_call : is_refused positions indices paths (length held) ≡ true → PathsCall positions indices paths held held (Err (record {}))
   unfolding paths_number answers_after

@@ -4,7 +4,7 @@ use mathlib.Core.List.{List, [], ◌∷◌, ◌++◌}
 use Prim.Native.Nat.{ℕ, zero, suc, ◌+◌, ◌-◌, ◌≤◌, ◌<◌, suc-le-suc}
 use native.Mathlib.Nat.{le_of_suc-le-suc, not-suc-le-zero, sub-zero}
 use native.Mathlib.Omega.{arith}
-use lib.ListN.{length, get_or, drop, set, length-set}
+use lib.ListN.{length, get_or, replicate, set, length-set}
 use Rattle.lists.specs.Loops.{tab, run}
 use Rattle.lists.proofs.Loops.{run_go, run_end}
 use Rattle.lists.proofs.Tabs.{tab_shift}
@@ -100,14 +100,13 @@ updated_same g h (suc k) (x ∷ xs) e =
     λ n. e 0 (omega arith) x n ∷ updated_same (λ (i : ℕ). g (suc i)) (λ (i : ℕ). h (suc i)) k xs (λ (j : ℕ) (w : j < k) (y : ℕ). e (suc j) (suc-le-suc w) y) n
 
 -- a change that does not look at what was there
-pub updated_tab : (f : ℕ → ℕ) (k : ℕ) (l : List ℕ) → k ≤ length l → updated (λ (j x : ℕ). f j) k l ≡ tab f k 0 ++ drop k l
+pub updated_tab : (f : ℕ → ℕ) (k v : ℕ) → updated (λ (j x : ℕ). f j) k (replicate k v) ≡ tab f k 0
 unfolding updated tab
-updated_tab f zero l h = refl
-updated_tab f (suc k) [] h = absurd (not-suc-le-zero h)
-updated_tab f (suc k) (x ∷ xs) h =
+updated_tab f zero v = refl
+updated_tab f (suc k) v =
     ap (λ (r : List ℕ). f 0 ∷ r)
-    (updated_tab (λ (i : ℕ). f (suc i)) k xs (le_of_suc-le-suc h)
-    ∙ ap (λ (r : List ℕ). r ++ drop k xs) (tab_shift (λ (i : ℕ). f (suc i)) f k 0 1 (λ (t : ℕ) (b : t < k). let e : suc (0 + t) ≡ 1 + t = omega arith in ap f e)))
+    (updated_tab (λ (i : ℕ). f (suc i)) k v
+    ∙ tab_shift (λ (i : ℕ). f (suc i)) f k 0 1 (λ (t : ℕ) (b : t < k). let e : suc (0 + t) ≡ 1 + t = omega arith in ap f e))
 
 -- a change that leaves the first k as they are
 pub updated_kept : (g : ℕ → ℕ → ℕ) (k : ℕ) (l : List ℕ) → ((j : ℕ) → j < k → g j (get_or l j 0) ≡ get_or l j 0) → updated g k l ≡ l

@@ -13,14 +13,14 @@ unfoldable pub crossing_of : Ray → Triangle → Crossing
 crossing_of ray tri =
     let pvec = vcross ray.dir tri.edge2 in
     let det = vdot tri.edge1 pvec in
-    let invDet = div binary32 one_f det in
+    let inv_det = div binary32 one_f det in
     let tvec = vsub ray.orig tri.vert0 in
     let qvec = vcross tvec tri.edge1 in
     record {
       det = det;
-      u = mul binary32 (vdot tvec pvec) invDet;
-      v = mul binary32 (vdot ray.dir qvec) invDet;
-      t = mul binary32 (vdot tri.edge2 qvec) invDet;
+      u = mul binary32 (vdot tvec pvec) inv_det;
+      v = mul binary32 (vdot ray.dir qvec) inv_det;
+      t = mul binary32 (vdot tri.edge2 qvec) inv_det;
     }
 
 -- FORMAT 19.2: edges and both ends count. A comparison with a NaN is false, so no NaN passes.

@@ -63,25 +63,13 @@ fn is_to_one(x: f32) -> bool
 fn is_hit(c: Crossing) -> bool
     ensures { result ≡ is_hit c }
 {
-    if c.det == 0.0 {
-        return false;
-    }
-    if is_from_zero(c.u) {} else {
-        return false;
-    }
-    if is_to_one(c.u) {} else {
-        return false;
-    }
-    if is_from_zero(c.v) {} else {
-        return false;
-    }
-    if is_to_one(c.u + c.v) {} else {
-        return false;
-    }
-    if is_from_zero(c.t) {} else {
-        return false;
-    }
-    is_to_one(c.t)
+    (c.det != 0.0)
+        & is_from_zero(c.u)
+        & is_to_one(c.u)
+        & is_from_zero(c.v)
+        & is_to_one(c.u + c.v)
+        & is_from_zero(c.t)
+        & is_to_one(c.t)
 }
 
 pub fn hits(ray: Ray, tri: Triangle) -> bool

@@ -28,13 +28,13 @@ fn verdict(rays: &[f32], j: usize, tri: Triangle, number: u64, answer: u64) -> u
     answer_after(hits(ray_at(rays, j), tri), number, answer)
 }
 
-// The answers of the first m paths after a triangle.
-fn mark(rays: &[f32], m: usize, tri: Triangle, number: u64, answers: &mut [u64])
-    requires { (m ≤ 64) × (length rays.now ≡ 384) × (m ≤ length answers.old) }
+// The answers of the paths after a triangle.
+fn mark(rays: &[f32], tri: Triangle, number: u64, answers: &mut [u64])
+    requires { (length answers.old ≤ 64) × (length rays.now ≡ 384) }
     ensures { answers.new
-        ≡ updated (step_at rays.now tri number) m answers.old }
+        ≡ updated (step_at rays.now tri number) (length answers.old) answers.old }
 {
-    for j in 0..m {
+    for j in 0..answers.len() {
         answers[j] = verdict(rays, j, tri, number, answers[j]);
     }
 }
@@ -61,51 +61,42 @@ fn count_hits(rays: &[f32], m: usize, tri: Triangle) -> u32
     count
 }
 
-// Whether one of the first m paths is clear.
-fn any_clear(answers: &[u64], m: usize) -> bool
-    requires { m ≤ length answers.now }
-    ensures { result ≡ any_clear answers.now m }
+// Whether one of the paths is clear.
+fn any_clear(answers: &[u64]) -> bool
+    ensures { result ≡ any_clear answers.now (length answers.now) }
 {
-    answers[..m].iter().any(|answer| *answer == 0)
+    answers.iter().any(|answer| *answer == 0)
 }
 
-// One triangle for the first m paths. Few triangles hit any, and only then are answers looked at.
+// One triangle for all the paths. Few triangles hit any, and only then are answers looked at.
 // It answers false where no path is left clear.
-fn turn(rays: &[f32], m: usize, tri: Triangle, number: u64, answers: &mut [u64]) -> bool
-    requires { (m ≤ 64) × (length rays.now ≡ 384) × (m ≤ length answers.old) }
+fn turn(rays: &[f32], tri: Triangle, number: u64, answers: &mut [u64]) -> bool
+    requires { (length answers.old ≤ 64) × (length rays.now ≡ 384) }
     ensures { (answers.new
-        ≡ updated (step_at rays.now tri number) m answers.old)
-        × (result ≡ (eqb (hit_count rays.now tri m) 0
-        || any_clear answers.new m)) }
+        ≡ updated (step_at rays.now tri number) (length answers.old) answers.old)
+        × (result ≡ (eqb (hit_count rays.now tri (length answers.old)) 0
+        || any_clear answers.new (length answers.old))) }
 {
-    if count_hits(rays, m, tri) == 0 {
+    if count_hits(rays, answers.len(), tri) == 0 {
         return true;
     }
-    mark(rays, m, tri, number, answers);
-    any_clear(answers, m)
+    mark(rays, tri, number, answers);
+    any_clear(answers)
 }
 
-// All triangles for the first m paths.
-pub fn pass(positions: &[u32], indices: &[u32], rays: &[f32], m: usize, answers: &mut [u64])
+// All triangles for the paths, which have an answer each.
+pub fn pass(positions: &[u32], indices: &[u32], rays: &[f32], answers: &mut [u64])
     requires { (any (leb (length positions.now / 3)) indices.now ≡ false)
-        × (m ≤ 64) × (length rays.now ≡ 384) × (m ≤ length answers.old) }
+        × (length answers.old ≤ 64) × (length rays.now ≡ 384) }
     ensures { answers.new
-        ≡ run (turn_of positions.now indices.now rays.now m)
+        ≡ run (turn_of positions.now indices.now rays.now (length answers.old))
         (length indices.now / 3) 0 answers.old }
 {
     let n = indices.len() / 3;
     for t in 0..n {
         let tri = triangle_at(positions, indices, t);
-        if !turn(rays, m, tri, t as u64 + 1, answers) {
+        if !turn(rays, tri, t as u64 + 1, answers) {
             return;
         }
     }
-}
-
-// The first m paths are clear.
-pub fn clear(answers: &mut [u64], m: usize)
-    requires { m ≤ length answers.old }
-    ensures { answers.new ≡ updated (λ (j r : ℕ). 0) m answers.old }
-{
-    answers[..m].fill(0);
 }

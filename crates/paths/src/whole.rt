@@ -2,7 +2,7 @@
 ghost use Rattle.paths.specs.Paths.{PathsCall};
 
 use crate::answer::{PathsAnswer, PathsRefusal};
-use crate::pass::{clear, pass};
+use crate::pass::pass;
 use crate::rays::load;
 use crate::refusal::is_refused;
 
@@ -22,7 +22,8 @@ pub fn test_paths(
     }
     let mut rays: [f32; 384] = [0.0; 384];
     load(paths, &mut rays);
-    clear(answers, paths.len() / 6);
-    pass(positions, indices, &rays, paths.len() / 6, answers);
+    let lent = &mut answers[..paths.len() / 6];
+    lent.fill(0);
+    pass(positions, indices, &rays, lent);
     Ok(())
 }

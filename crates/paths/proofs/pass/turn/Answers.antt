@@ -6,4 +6,4 @@ returns-then-count_hits-eq0 c = turn_missed _ _ _ _ c.count_hits.ensures _ c.if-
 
 pub returns : goal.returns
 returns c =
-    (c.mark.ensures, turn_hit _ _ c.args.number _ c.count_hits.ensures _ c.if-count_hits-eq0.false c.any_clear.ensures)
+    (c.mark.ensures, turn_hit _ _ c.args.number _ c.count_hits.ensures _ c.if-count_hits-eq0.false (rw c.mark.auto.answers at c.any_clear.ensures))
