@@ -16,30 +16,65 @@ pub fn point_of(work: &[u32], t: CornerTables, c: CornerNumber) -> PointNumber
     PointNumber(wide(work[t.corners + c.0]))
 }
 
-// A corner's place in coordIndex. Not one with `number_of`: each says in its contract what its table holds.
-fn place_of(work: &[u32], t: CornerTables, c: CornerNumber) -> usize
-    requires { Laid t (length work.now) × (c.0 < t.count) }
-    ensures { result ≡ place_at work.now t c.0 }
-{
-    wide(work[t.places + c.0])
+// A corner, with the tables that say what it is.
+#[derive(Clone, Copy)]
+struct Corner<'a> {
+    work: &'a [u32],
+    tables: &'a CornerTables,
+    c: CornerNumber,
+    ghost laid: { Laid tables.now (length work.now) },
+    ghost there: { c.0 < tables.now.count },
 }
 
-// The number of its face.
-fn number_of(work: &[u32], t: CornerTables, c: CornerNumber) -> usize
-    requires { Laid t (length work.now) × (c.0 < t.count) }
-    ensures { result ≡ number_at work.now t c.0 }
-{
-    wide(work[t.numbers + c.0])
-}
+impl<'a> Corner<'a> {
+    // Its place in coordIndex. Not one with `number`: each says in its contract what its table holds.
+    fn place(&self) -> usize
+        ensures { result ≡ place_at self.now.work.now self.now.tables.now self.now.c.0 }
+    {
+        wide(self.work[self.tables.places + self.c.0])
+    }
 
-fn texture_of(work: &[u32], t: CornerTables, c: CornerNumber) -> Words2
-    requires { Laid t (length work.now) × (c.0 < t.count) }
-    ensures { result ≡ texture_at work.now t c.0 }
-{
-    let at = t.textures + 2 * c.0;
-    Words2 {
-        s: work[at],
-        t: work[at + 1],
+    // The number of its face.
+    fn number(&self) -> usize
+        ensures { result ≡ number_at self.now.work.now self.now.tables.now self.now.c.0 }
+    {
+        wide(self.work[self.tables.numbers + self.c.0])
+    }
+
+    fn texture(&self) -> Words2
+        ensures { result ≡ texture_at self.now.work.now self.now.tables.now self.now.c.0 }
+    {
+        let at = self.tables.textures + 2 * self.c.0;
+        Words2 {
+            s: self.work[at],
+            t: self.work[at + 1],
+        }
+    }
+
+    // Its normal as it goes into the key: supplied, or generated.
+    fn normal(&self, block: &'a [u8], coord: &'a [u8], a: Attributes, floats: &[f32]) -> Words3
+        requires { 3 * self.now.tables.now.count ≤ length floats.now }
+        ensures { result ≡ normal_at (record { block = block.now; coord = coord.now; floats = floats.now }) a self.now.work.now self.now.tables.now self.now.c.0 }
+    {
+        let Some(s) = a.normals else {
+            return generated_of(floats, self.c);
+        };
+        let none = Words3 { x: 0, y: 0, z: 0 };
+        block::get(block, coord, s, self.place(), self.number(), none)
+    }
+
+    fn colour(&self, block: &'a [u8], coord: &'a [u8], a: Attributes) -> Words4
+        ensures { result ≡ colour_at (record { block = block.now; coord = coord.now; floats = [] }) a self.now.work.now self.now.tables.now self.now.c.0 }
+    {
+        get4(
+            block,
+            coord,
+            a.colours,
+            a.alpha,
+            self.place(),
+            self.number(),
+            a.missing,
+        )
     }
 }
 
@@ -55,44 +90,6 @@ fn generated_of(floats: &[f32], c: CornerNumber) -> Words3
     }
 }
 
-// Its normal as it goes into the key: supplied, or generated.
-fn normal_of<'a>(
-    block: &'a [u8],
-    coord: &'a [u8],
-    a: Attributes,
-    floats: &[f32],
-    work: &[u32],
-    t: CornerTables,
-    c: CornerNumber,
-) -> Words3
-    requires { Laid t (length work.now) × (c.0 < t.count) × (3 * t.count ≤ length floats.now) }
-    ensures { result ≡ normal_at (record { block = block.now; coord = coord.now; floats = floats.now }) a work.now t c.0 }
-{
-    let Some(s) = a.normals else {
-        return generated_of(floats, c);
-    };
-    let place = place_of(work, t, c);
-    let face = number_of(work, t, c);
-    let none = Words3 { x: 0, y: 0, z: 0 };
-    block::get(block, coord, s, place, face, none)
-}
-
-fn colour_of<'a>(
-    block: &'a [u8],
-    coord: &'a [u8],
-    a: Attributes,
-    work: &[u32],
-    t: CornerTables,
-    c: CornerNumber,
-) -> Words4
-    requires { Laid t (length work.now) × (c.0 < t.count) }
-    ensures { result ≡ colour_at (record { block = block.now; coord = coord.now; floats = [] }) a work.now t c.0 }
-{
-    let place = place_of(work, t, c);
-    let face = number_of(work, t, c);
-    get4(block, coord, a.colours, a.alpha, place, face, a.missing)
-}
-
 pub fn key_of<'a>(
     block: &'a [u8],
     coord: &'a [u8],
@@ -105,8 +102,13 @@ pub fn key_of<'a>(
     requires { Laid t (length work.now) × (c.0 < t.count) × (3 * t.count ≤ length floats.now) }
     ensures { result ≡ words_at (record { block = block.now; coord = coord.now; floats = floats.now }) a work.now t c.0 }
 {
-    let n = normal_of(block, coord, a, floats, work, t, c);
-    let k = colour_of(block, coord, a, work, t, c);
-    let x = texture_of(work, t, c);
+    let corner = Corner {
+        work,
+        tables: &t,
+        c,
+    };
+    let n = corner.normal(block, coord, a, floats);
+    let k = corner.colour(block, coord, a);
+    let x = corner.texture();
     [n.x, n.y, n.z, k.r, k.g, k.b, k.a, x.s, x.t]
 }

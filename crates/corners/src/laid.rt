@@ -4,6 +4,7 @@ ghost use Rattle.tables.specs.Layout.{most};
 ghost use Rattle.corners.specs.Laid.{tables_at};
 
 // Of each of `count` corners: its point, its vertex number, its place, its face's number, and its two words of texture. Then the chains of vertices by bucket.
+// All lie in the words that the caller lends, as there is no heap. What writes them takes them, `&mut`, beside these tables, for the reason at `tables::Plan`.
 #[derive(Clone, Copy)]
 pub struct CornerTables {
     pub count: usize,

@@ -4,7 +4,7 @@ ghost use Rattle.bits.specs.Bits.{entries};
 ghost use Rattle.block.specs.Runs.{runs, sum_over};
 ghost use Rattle.mesh.specs.Lines.{line};
 ghost use Rattle.mesh.specs.Sizes as sizes;
-ghost use Rattle.lists.specs.Parts.{seg, spliced, Added};
+ghost use Rattle.lists.specs.Parts.{spliced, Added};
 ghost use Rattle.lines.specs.Steps.{last_of, vertex_at, pairs, run_pairs, Stepped, RunPut, Put};
 
 use block::{CornerNumber, PointNumber, VertexNumber, point_at, runs_in};
@@ -88,27 +88,19 @@ fn put_run(
     w
 }
 
-// All lines, through the vertex numbers that stand in `work` from `named` on, to the front of `indices`. How many indices there are.
-pub fn put_lines(
-    coord: &[u8],
-    points: u32,
-    work: &[u32],
-    named: usize,
-    count: usize,
-    indices: &mut [u32],
-) -> usize
-    requires { (named + count ≤ length work.now) × (count ≡ sum_over (sizes.named points) (runs (entries coord.now)))
+// All lines, through the vertex numbers of the corners, to the front of `indices`. How many indices there are.
+pub fn put_lines(coord: &[u8], points: u32, numbers: &[u32], indices: &mut [u32]) -> usize
+    requires { (length numbers.now ≡ sum_over (sizes.named points) (runs (entries coord.now)))
         × (2 * sum_over (sizes.lines_after points false) (runs (entries coord.now)) ≤ length indices.old) }
-    ensures { Put (run_pairs points (seg work.now named count) 0 (runs (entries coord.now))) result indices.old indices.new }
+    ensures { Put (run_pairs points numbers.now 0 (runs (entries coord.now))) result indices.old indices.new }
 {
-    let to = named + count;
     let mut w = Progress {
         at: 0,
         corner: CornerNumber(0),
         last: None,
     };
     for (_, run) in runs_in(coord) {
-        w = put_run(run, points, &work[named..to], w, indices);
+        w = put_run(run, points, numbers, w, indices);
     }
     w.at
 }

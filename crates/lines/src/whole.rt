@@ -34,7 +34,8 @@ pub fn make_lines<'a>(
     let n = all_vertices(
         block, coord, a, floats, sources, positions, normals, colours, textures, work, w, t,
     );
-    let made = put_lines(coord, points, work, t.named, t.count, indices);
+    let to = t.named + t.count;
+    let made = put_lines(coord, points, &work[t.named..to], indices);
     clear_words(work);
     clear_floats(floats);
     Counts {

@@ -1,4 +1,5 @@
 // FORMAT 4, 8: how many points, corners and kept faces there are, how many points make a ring, and where each table starts. Tables hold kept faces only.
+// They lie in the one slice of words that the caller lends, as there is no heap.
 ghost use Rattle.std.specs.Prelude.{◌≡◌, ◌≤◌};
 ghost use Rattle.tables.specs.Layout.{most, plan_of};
 

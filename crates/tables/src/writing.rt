@@ -13,7 +13,7 @@ pub fn narrow(x: usize) -> u32
     x as u32
 }
 
-// The n words from a are v.
+// The n words from a are v. Kept beside the library's `fill`, as its contract says once what that leaves of the other words.
 pub fn fill(work: &mut [u32], a: usize, n: usize, v: u32)
     requires { a + n ≤ length work.old }
     ensures { work.new ≡ spliced work.old a (replicate n v) }

@@ -5,9 +5,8 @@ ghost use Rattle.tables.specs.Layout.{most};
 ghost use Rattle.vertices.specs.Search.{corner_key};
 ghost use Rattle.vertices.specs.Adding.{linked, Appended, Ready, Vertexed, count_after};
 
-use crate::hash::bucket_of;
 use crate::parts::put_row;
-use crate::places::{Bucket, Chains, Widths};
+use crate::places::{Bucket, Chains, CornerKey, Widths};
 use crate::search::{find, word_of};
 use block::{PointNumber, VertexNumber};
 use tables::narrow;
@@ -23,7 +22,7 @@ pub fn link(work: &mut [u32], t: Chains, n: VertexNumber, bucket: Bucket)
     work[head] = word_of(n);
 }
 
-// Vertex n is made: of point v, with the words key of a corner, in a bucket.
+// Vertex n is made: of the point and the words of a corner, in a bucket.
 pub fn append(
     sources: &mut [u32],
     positions: &mut [u32],
@@ -34,23 +33,22 @@ pub fn append(
     w: Widths,
     t: Chains,
     n: VertexNumber,
-    v: PointNumber,
     bucket: Bucket,
-    key: &[u32],
+    key: &CornerKey<'_>,
 )
     requires { Room w t (record { sources = sources.old; normals = normals.old; colours = colours.old; textures = textures.old }) positions.old work.old (n.0 + 1)
-        × (v.0 < t.spots) × (bucket.0 < t.buckets) × (9 ≤ length key.now) }
-    ensures { Appended w t n.0 v.0 bucket.0 key.now
+        × (key.now.point.0 < t.spots) × (bucket.0 < t.buckets) }
+    ensures { Appended w t n.0 key.now.point.0 bucket.0 key.now.words.now
         (record { sources = sources.old; normals = normals.old; colours = colours.old; textures = textures.old }) positions.old work.old
         (record { sources = sources.new; normals = normals.new; colours = colours.new; textures = textures.new }) positions.new work.new }
 {
     let i = n.0;
-    let at = t.points + 3 * v.0;
+    let at = t.points + 3 * key.point.0;
     put_row(positions, 3, i, work, at);
-    put_row(normals, w.normal, i, key, 0);
-    put_row(colours, w.colour, i, key, 3);
-    put_row(textures, w.texture, i, key, 7);
-    sources[i] = narrow(v.0);
+    put_row(normals, w.normal, i, key.words, 0);
+    put_row(colours, w.colour, i, key.words, 3);
+    put_row(textures, w.texture, i, key.words, 7);
+    sources[i] = narrow(key.point.0);
     link(work, t, n, bucket);
 }
 
@@ -73,15 +71,16 @@ pub fn vertex(
         (record { sources = sources.old; normals = normals.old; colours = colours.old; textures = textures.old }) positions.old work.old
         (record { sources = sources.new; normals = normals.new; colours = colours.new; textures = textures.new }) positions.new work.new result.0 }
 {
-    let bucket = bucket_of(w, t.buckets, point, key);
+    let asked = CornerKey { point, words: key };
+    let bucket = asked.bucket_of(w, t.buckets);
     let known = find(
-        sources, normals, colours, textures, w, n, point, bucket, key, work, t,
+        sources, normals, colours, textures, w, n, bucket, &asked, work, t,
     );
     if let Some(i) = known {
         return i;
     }
     append(
-        sources, positions, normals, colours, textures, work, w, t, n, point, bucket, key,
+        sources, positions, normals, colours, textures, work, w, t, n, bucket, &asked,
     );
     n
 }

@@ -5,8 +5,7 @@ ghost use Rattle.tables.specs.Layout.{most};
 ghost use Rattle.vertices.specs.Hash.{normal_sum, colour_sum, texture_sum, spread_of, bucket_of};
 ghost use Rattle.vertices.specs.Search.{two, three, four, corner_key};
 
-use crate::places::{Bucket, Widths};
-use block::PointNumber;
+use crate::places::{Bucket, CornerKey, Widths};
 use tables::wide;
 
 // Word k of the n of a key from a place on; 0 where it is not made.
@@ -20,38 +19,6 @@ fn word_where(key: &[u32], at: usize, n: usize, k: usize) -> usize
     0
 }
 
-// The words of a normal, each times its weight. No product waits for another.
-// Not one with the two below: each has a number of words and weights of its own.
-fn normal_sum(key: &[u32], n: usize) -> usize
-    requires { 9 ≤ length key.now }
-    ensures { (result ≡ normal_sum (three (seg key.now 0 n))) × (result < 3 * 2 ^ 60) }
-{
-    let x = word_where(key, 0, n, 0);
-    let y = word_where(key, 0, n, 1);
-    let z = word_where(key, 0, n, 2);
-    x * 0xb52_97a5 + y * 0x85e_bca7 + z * 0xc2b_2ae3
-}
-
-fn colour_sum(key: &[u32], n: usize) -> usize
-    requires { 9 ≤ length key.now }
-    ensures { (result ≡ colour_sum (four (seg key.now 3 n))) × (result < 4 * 2 ^ 60) }
-{
-    let r = word_where(key, 3, n, 0);
-    let g = word_where(key, 3, n, 1);
-    let b = word_where(key, 3, n, 2);
-    let a = word_where(key, 3, n, 3);
-    r * 0xd6e_8feb + g * 0xa13_6aaf + b * 0xe2d_0b4d + a * 0x8f1_bbcd
-}
-
-fn texture_sum(key: &[u32], n: usize) -> usize
-    requires { 9 ≤ length key.now }
-    ensures { (result ≡ texture_sum (two (seg key.now 7 n))) × (result < 2 * 2 ^ 60) }
-{
-    let s = word_where(key, 7, n, 0);
-    let t = word_where(key, 7, n, 1);
-    s * 0xca6_2c1d + t * 0x94d_049b
-}
-
 // Both halves of a sum together, and a product that carries what differs into the high bits.
 fn spread(sum: usize) -> usize
     ensures { (result ≡ spread_of sum) × (result < 2 ^ 32) }
@@ -60,15 +27,46 @@ fn spread(sum: usize) -> usize
     half * 0xb529_7a4d % 0x1_0000_0000
 }
 
-// The bucket of the key of point v and the words key, of so many buckets.
-pub fn bucket_of(w: Widths, buckets: usize, v: PointNumber, key: &[u32]) -> Bucket
-    requires { (9 ≤ length key.now) × (v.0 ≤ most) × ((0 < buckets) × (buckets ≤ 4 * most)) }
-    ensures { (result.0 ≡ bucket_of buckets (corner_key w v.0 key.now)) × (result.0 < buckets) }
-{
-    let normal = normal_sum(key, w.normal);
-    let colour = colour_sum(key, w.colour);
-    let texture = texture_sum(key, w.texture);
-    let sum = v.0 * 0x9e3_779b + normal + colour + texture;
-    let hash = spread(sum);
-    Bucket(hash * buckets / 0x1_0000_0000)
+impl<'a> CornerKey<'a> {
+    // The words of a normal, each times its weight. No product waits for another.
+    // Not one with the two below: each has a number of words and weights of its own.
+    fn normal_sum(&self, n: usize) -> usize
+        ensures { (result ≡ normal_sum (three (seg self.now.words.now 0 n))) × (result < 3 * 2 ^ 60) }
+    {
+        let x = word_where(self.words, 0, n, 0);
+        let y = word_where(self.words, 0, n, 1);
+        let z = word_where(self.words, 0, n, 2);
+        x * 0xb52_97a5 + y * 0x85e_bca7 + z * 0xc2b_2ae3
+    }
+
+    fn colour_sum(&self, n: usize) -> usize
+        ensures { (result ≡ colour_sum (four (seg self.now.words.now 3 n))) × (result < 4 * 2 ^ 60) }
+    {
+        let r = word_where(self.words, 3, n, 0);
+        let g = word_where(self.words, 3, n, 1);
+        let b = word_where(self.words, 3, n, 2);
+        let a = word_where(self.words, 3, n, 3);
+        r * 0xd6e_8feb + g * 0xa13_6aaf + b * 0xe2d_0b4d + a * 0x8f1_bbcd
+    }
+
+    fn texture_sum(&self, n: usize) -> usize
+        ensures { (result ≡ texture_sum (two (seg self.now.words.now 7 n))) × (result < 2 * 2 ^ 60) }
+    {
+        let s = word_where(self.words, 7, n, 0);
+        let t = word_where(self.words, 7, n, 1);
+        s * 0xca6_2c1d + t * 0x94d_049b
+    }
+
+    // The bucket of the key, of so many buckets.
+    pub fn bucket_of(&self, w: Widths, buckets: usize) -> Bucket
+        requires { (self.now.point.0 ≤ most) × ((0 < buckets) × (buckets ≤ 4 * most)) }
+        ensures { (result.0 ≡ bucket_of buckets (corner_key w self.now.point.0 self.now.words.now)) × (result.0 < buckets) }
+    {
+        let normal = self.normal_sum(w.normal);
+        let colour = self.colour_sum(w.colour);
+        let texture = self.texture_sum(w.texture);
+        let sum = self.point.0 * 0x9e3_779b + normal + colour + texture;
+        let hash = spread(sum);
+        Bucket(hash * buckets / 0x1_0000_0000)
+    }
 }

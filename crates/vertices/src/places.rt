@@ -1,6 +1,9 @@
 // Where vertices are kept (FORMAT 5) and the tables for the search among them.
+ghost use Rattle.std.specs.Prelude.{◌≤◌, length};
 
-// How many words of a vertex each slice holds: 3, 4 and 2, or 0 for an attribute that is not made.
+use block::PointNumber;
+
+// How many words of a vertex each slice holds: 3, 4 and 2, or 0 for an attribute that is not made. Numbers, not Options: a row's place is a multiple of them.
 #[derive(Clone, Copy)]
 pub struct Widths {
     pub normal: usize,
@@ -9,7 +12,8 @@ pub struct Widths {
 }
 
 // In the working slice: where the words of the points stand, how many points there are, into how many buckets vertices are put,
-// and where the chains' heads stand, one for each bucket, and the nexts, one for each vertex.
+// and where the chains' heads stand, one for each bucket, and the nexts, one for each vertex. Chains of numbers, since the words are lent and there is no heap.
+// One function reads them, and the others write them and take the words, `&mut`, beside them, for the reason at `tables::Plan`.
 #[derive(Clone, Copy)]
 pub struct Chains {
     pub points: usize,
@@ -22,3 +26,11 @@ pub struct Chains {
 // The number of a bucket, which is none of the three of FORMAT 11.
 #[derive(Clone, Copy)]
 pub struct Bucket(pub usize);
+
+// What the key of a corner is made of: its point, and nine words.
+#[derive(Clone, Copy)]
+pub struct CornerKey<'a> {
+    pub point: PointNumber,
+    pub words: &'a [u32],
+    ghost nine: { 9 ≤ length words.now },
+}

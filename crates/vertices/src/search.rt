@@ -7,8 +7,8 @@ ghost use Rattle.vertices.specs.Hash.{bucket_of};
 ghost use Rattle.vertices.specs.Search.{known_by, key_at, corner_key, place_of, bucket_at, Chained};
 
 use crate::parts::same_row;
-use crate::places::{Bucket, Chains, Widths};
-use block::{PointNumber, VertexNumber};
+use crate::places::{Bucket, Chains, CornerKey, Widths};
+use block::VertexNumber;
 use tables::{narrow, wide};
 
 // The vertex that a word of a chain names: the word is one more than its number, 0 for none.
@@ -29,7 +29,7 @@ pub fn word_of(i: VertexNumber) -> u32
     narrow(i.0 + 1)
 }
 
-// Whether vertex i has the point v and the words key of a corner (VertexKey).
+// Whether vertex i has the point and the words of a corner (VertexKey).
 pub fn same_vertex(
     sources: &[u32],
     normals: &[u32],
@@ -37,27 +37,26 @@ pub fn same_vertex(
     textures: &[u32],
     w: Widths,
     i: VertexNumber,
-    v: PointNumber,
-    key: &[u32],
+    key: &CornerKey<'_>,
 ) -> bool
-    requires { Roomy w (record { sources = sources.now; normals = normals.now; colours = colours.now; textures = textures.now }) (i.0 + 1) × (9 ≤ length key.now) }
-    ensures { result ≡ same_key (corner_key w v.0 key.now)
+    requires { Roomy w (record { sources = sources.now; normals = normals.now; colours = colours.now; textures = textures.now }) (i.0 + 1) }
+    ensures { result ≡ same_key (corner_key w key.now.point.0 key.now.words.now)
         (key_at w (record { sources = sources.now; normals = normals.now; colours = colours.now; textures = textures.now }) i.0) }
 {
     let k = i.0;
-    if v.0 != wide(sources[k]) {
+    if key.point.0 != wide(sources[k]) {
         return false;
     }
-    if !same_row(key, 0, normals, w.normal, k) {
+    if !same_row(key.words, 0, normals, w.normal, k) {
         return false;
     }
-    if !same_row(key, 3, colours, w.colour, k) {
+    if !same_row(key.words, 3, colours, w.colour, k) {
         return false;
     }
-    same_row(key, 7, textures, w.texture, k)
+    same_row(key.words, 7, textures, w.texture, k)
 }
 
-// The vertex, if there is one, among the first n that has the point v and the words key. Only the chain of the vertices in the key's bucket is
+// The vertex, if there is one, among the first n that has the point and the words of a corner. Only the chain of the vertices in the key's bucket is
 // looked at: the last of them is in its head, the one before vertex i in the next of i.
 pub fn find(
     sources: &[u32],
@@ -66,23 +65,22 @@ pub fn find(
     textures: &[u32],
     w: Widths,
     n: VertexNumber,
-    v: PointNumber,
     bucket: Bucket,
-    key: &[u32],
+    key: &CornerKey<'_>,
     work: &[u32],
     t: Chains,
 ) -> Option<VertexNumber>
     requires { Roomy w (record { sources = sources.now; normals = normals.now; colours = colours.now; textures = textures.now }) n.0
-        × (9 ≤ length key.now) × Laid t (length work.now) n.0
+        × Laid t (length work.now) n.0
         × Chained t (bucket_at w t (record { sources = sources.now; normals = normals.now; colours = colours.now; textures = textures.now })) work.now n.0
-        × (bucket.0 ≡ bucket_of t.buckets (corner_key w v.0 key.now)) × (bucket.0 < t.buckets) }
+        × (bucket.0 ≡ bucket_of t.buckets (corner_key w key.now.point.0 key.now.words.now)) × (bucket.0 < t.buckets) }
     ensures { result ≡ place_of w (record { sources = sources.now; normals = normals.now; colours = colours.now; textures = textures.now }) n.0
-        (corner_key w v.0 key.now) }
+        (corner_key w key.now.point.0 key.now.words.now) }
 {
     let mut x = known_by(work[t.heads + bucket.0]);
     // A while: the next vertex is where the chain leads, so no range counts it.
     while let Some(i) = x {
-        if same_vertex(sources, normals, colours, textures, w, i, v, key) {
+        if same_vertex(sources, normals, colours, textures, w, i, key) {
             return x;
         }
         x = known_by(work[t.nexts + i.0]);

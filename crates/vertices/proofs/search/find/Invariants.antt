@@ -8,7 +8,7 @@ use Rattle.vertices.proofs.search.find.Given as goal
 abbrev pub invariant-loop-x : goal.invariant-loop-x
 invariant-loop-x l =
     (n : ℕ) → Chained l.t (bucket_at l.w l.t (record { sources = l.sources; normals = l.normals; colours = l.colours; textures = l.textures })) l.work n
-    → Met l.w l.t (record { sources = l.sources; normals = l.normals; colours = l.colours; textures = l.textures }) (corner_key l.w l.v.0 l.key) n l.x
+    → Met l.w l.t (record { sources = l.sources; normals = l.normals; colours = l.colours; textures = l.textures }) (corner_key l.w l.key.point.0 l.key.words.now) n l.x
 
 abbrev pub decreases-loop-x : goal.decreases-loop-x
 decreases-loop-x l = up_to l.x

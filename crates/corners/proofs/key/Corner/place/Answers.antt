@@ -1,6 +1,6 @@
 use Rattle.corners.specs.Corner.{place_at}
 use borrow.Author.Rules.{rules}
-use Rattle.corners.proofs.key.place_of.Goals as goal
+use Rattle.corners.proofs.key.Corner.place.Goals as goal
 
 pub returns : goal.returns
 unfolding place_at

@@ -1,6 +1,6 @@
 use native.Mathlib.Omega.{arith}
 use Rattle.vertices.specs.Hash.{texture_sum}
-use Rattle.vertices.proofs.hash.texture_sum.Goals as goal
+use Rattle.vertices.proofs.places.CornerKey.texture_sum.Goals as goal
 
 pub returns : goal.returns
 unfolding texture_sum

@@ -1,6 +1,6 @@
 use native.Mathlib.Omega.{arith}
 use Rattle.vertices.specs.Hash.{normal_sum}
-use Rattle.vertices.proofs.hash.normal_sum.Goals as goal
+use Rattle.vertices.proofs.places.CornerKey.normal_sum.Goals as goal
 
 pub returns : goal.returns
 unfolding normal_sum

@@ -1,6 +1,6 @@
 use native.Mathlib.Omega.{arith}
 use Rattle.vertices.specs.Hash.{colour_sum}
-use Rattle.vertices.proofs.hash.colour_sum.Goals as goal
+use Rattle.vertices.proofs.places.CornerKey.colour_sum.Goals as goal
 
 pub returns : goal.returns
 unfolding colour_sum

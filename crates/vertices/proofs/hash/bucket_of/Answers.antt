@@ -1,6 +1,0 @@
-use Rattle.vertices.proofs.Buckets.{corner_bucket, bucket_below}
-use Rattle.vertices.proofs.hash.bucket_of.Goals as goal
-
-pub returns : goal.returns
-returns c =
-    (corner_bucket _ _ _ _ c.normal_sum-normal.ensures.0 c.colour_sum-colour.ensures.0 c.texture_sum-texture.ensures.0 c.spread-hash.ensures.0, bucket_below _ _ c.spread-hash.ensures.1 c.requires.2.0)
