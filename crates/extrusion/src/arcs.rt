@@ -4,11 +4,10 @@ ghost use Rattle.mesh.specs.Arcs as spec;
 ghost use Rattle.mesh.specs.Arcs.{step2, step3, length_to, arcs, arcs2, arcs3};
 ghost use Rattle.mesh.specs.Extrusion.{spine_count, section_count, extrusion_of};
 ghost use Rattle.lists.specs.Parts.{spliced};
-ghost use Rattle.extrusion.specs.Given.{Given};
 
 use crate::frames::step;
-use crate::reading::{Entries, section_of, spine_of};
-use block::{Header, Pair};
+use crate::reading::{Entries, Extruded};
+use block::Pair;
 use math::V3;
 
 fn spine_step(spine: &Entries<V3>, i: usize) -> f32
@@ -81,15 +80,17 @@ fn put_params<F: Fn(usize) -> f32>(n: usize, step: F, floats: &mut [f32], k: usi
     floats[k + last] = share(t, last, last, x);
 }
 
-// The cross-section's parameters, then the spine's, into floats from place `at`.
-pub fn put_arcs(block: &[u8], h: Header, floats: &mut [f32], at: usize)
-    requires { Given block.now h × (at + (section_count h + spine_count h) ≤ length floats.old) }
-    ensures { floats.new ≡ spliced floats.old at
-        (arcs2 (extrusion_of block.now).section ++ arcs3 (extrusion_of block.now).spine) }
-{
-    let spine = spine_of(block, h);
-    let section = section_of(block, h);
-    let m = section.len();
-    put_params(m, |i| section_step(&section, i), floats, at);
-    put_params(spine.len(), |i| spine_step(&spine, i), floats, at + m);
+impl<'a> Extruded<'a> {
+    // The cross-section's parameters, then the spine's, into floats from place `at`.
+    pub fn put_arcs(&self, floats: &mut [f32], at: usize)
+        requires { (at + (section_count self.now.header + spine_count self.now.header) ≤ length floats.old) }
+        ensures { floats.new ≡ spliced floats.old at
+            (arcs2 (extrusion_of self.now.block.now).section ++ arcs3 (extrusion_of self.now.block.now).spine) }
+    {
+        let spine = self.spine();
+        let section = self.section();
+        let m = section.len();
+        put_params(m, |i| section_step(&section, i), floats, at);
+        put_params(spine.len(), |i| spine_step(&spine, i), floats, at + m);
+    }
 }

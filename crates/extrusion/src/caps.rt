@@ -4,10 +4,9 @@ ghost use Rattle.math.specs.Vector.{zero_f};
 ghost use Rattle.mesh.specs.Extrusion as spec;
 ghost use Rattle.mesh.specs.Extrusion.{section_of, extrusion_of, ring_of, cap_length, cap_fit};
 ghost use Rattle.mesh.specs.Texture.{span_of};
-ghost use Rattle.extrusion.specs.Given.{Given};
 
-use crate::reading::{Entries, section_of};
-use block::{Header, Pair};
+use crate::reading::{Entries, Extruded};
+use block::Pair;
 use mesh::{Fit, Span};
 use texture::{divisor_of, widen};
 
@@ -20,31 +19,6 @@ fn closes(section: &Entries<Pair>) -> bool
         return section.at(0) == section.at(m - 1);
     }
     false
-}
-
-// How many corners a cap has: a closing point is left out.
-pub fn cap_length(block: &[u8], h: Header) -> usize
-    requires { Given block.now h }
-    ensures { result ≡ cap_length (section_of block.now h) }
-{
-    let section = section_of(block, h);
-    let m = section.len();
-    if closes(&section) {
-        return m - 1;
-    }
-    m
-}
-
-// How many points make a ring, whose last counts as its first when faces are gathered; 0 where the cross-section is open.
-pub fn ring_width(block: &[u8], h: Header) -> usize
-    requires { Given block.now h }
-    ensures { result ≡ ring_of (section_of block.now h) }
-{
-    let section = section_of(block, h);
-    if closes(&section) {
-        return section.len();
-    }
-    0
 }
 
 // Before the first point.
@@ -76,10 +50,34 @@ fn section_fit(section: &Entries<Pair>) -> Fit
     }
 }
 
-// How the whole cross-section fits the texture of a cap.
-pub fn cap_fit(block: &[u8], h: Header) -> Fit
-    requires { Given block.now h }
-    ensures { result ≡ cap_fit (extrusion_of block.now).section }
-{
-    section_fit(&section_of(block, h))
+impl<'a> Extruded<'a> {
+    // How many corners a cap has: a closing point is left out.
+    pub fn cap_length(&self) -> usize
+        ensures { result ≡ cap_length (section_of self.now.block.now self.now.header) }
+    {
+        let section = self.section();
+        let m = section.len();
+        if closes(&section) {
+            return m - 1;
+        }
+        m
+    }
+
+    // How many points make a ring, whose last counts as its first when faces are gathered; 0 where the cross-section is open.
+    pub fn ring_width(&self) -> usize
+        ensures { result ≡ ring_of (section_of self.now.block.now self.now.header) }
+    {
+        let section = self.section();
+        if closes(&section) {
+            return section.len();
+        }
+        0
+    }
+
+    // How the whole cross-section fits the texture of a cap.
+    pub fn cap_fit(&self) -> Fit
+        ensures { result ≡ cap_fit (extrusion_of self.now.block.now).section }
+    {
+        section_fit(&self.section())
+    }
 }

@@ -11,10 +11,7 @@ mod points;
 mod reading;
 mod uv;
 
-pub use arcs::put_arcs;
-pub use caps::{cap_fit, cap_length, ring_width};
 pub use faces::cap_count;
 pub use listing::list_faces;
-pub use points::put_points;
-pub use reading::{section_count, spine_count};
-pub use uv::{corner_texture, put_textures};
+pub use reading::{Extruded, section_count, spine_count};
+pub use uv::Textured;

@@ -4,13 +4,12 @@ ghost use Rattle.mesh.specs.Words.{words3, bits};
 ghost use Rattle.mesh.specs.Extrusion as spec;
 ghost use Rattle.mesh.specs.Extrusion.{spine_count, section_count, scale_at, turn_at, row_words, extrusion_of, extrusion_points};
 ghost use Rattle.lists.specs.Parts.{spliced};
-ghost use Rattle.extrusion.specs.Given.{Given};
 ghost use Rattle.extrusion.specs.Rows.{axes_of, rows_by};
 
 use crate::axes::{PlaneAxes, axes_by, pick_z};
 use crate::frames::{first_y, first_z, y_own, z_own};
-use crate::reading::{Entries, scales_of, section_of, spine_of, turns_of};
-use block::{Header, Pair};
+use crate::reading::{Entries, Extruded};
+use block::Pair;
 use lists::put_all;
 use math::{Quat, V3};
 
@@ -128,17 +127,19 @@ fn put_rows(
     }
 }
 
-// The words of all points, into work from place `at`.
-pub fn put_points(block: &[u8], h: Header, work: &mut [u32], at: usize)
-    requires { Given block.now h × (at + 3 * (spine_count h * section_count h) ≤ length work.old) }
-    ensures { work.new ≡ spliced work.old at (extrusion_points (extrusion_of block.now)) }
-{
-    put_rows(
-        &spine_of(block, h),
-        &section_of(block, h),
-        &scales_of(block, h),
-        &turns_of(block, h),
-        work,
-        at,
-    );
+impl<'a> Extruded<'a> {
+    // The words of all points, into work from place `at`.
+    pub fn put_points(&self, work: &mut [u32], at: usize)
+        requires { (at + 3 * (spine_count self.now.header * section_count self.now.header) ≤ length work.old) }
+        ensures { work.new ≡ spliced work.old at (extrusion_points (extrusion_of self.now.block.now)) }
+    {
+        put_rows(
+            &self.spine(),
+            &self.section(),
+            &self.scales(),
+            &self.turns(),
+            work,
+            at,
+        );
+    }
 }

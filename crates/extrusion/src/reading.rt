@@ -163,38 +163,45 @@ fn vector_in(values: &[u8], k: usize) -> V3
     }
 }
 
-// List `k` of the block.
-fn list_of<V: Entry>(block: &[u8], h: Header, k: usize) -> Entries<V>
-    requires { (k < 8) × (V.width * get_or h.counts k 0 ≤ length (list_bytes block.now h k)) }
-    ensures { result ≡ tab (V.made (list_bytes block.now h k)) (get_or h.counts k 0) 0 }
-{
-    Entries::of(block::list_part(block, h, k), count_of(h, k))
+// The block of an extrusion that was not refused (FORMAT 3), and its header.
+#[derive(Clone, Copy)]
+pub struct Extruded<'a> {
+    pub block: &'a [u8],
+    pub header: Header,
+    ghost given: { Given block.now header },
 }
 
-pub fn spine_of(block: &[u8], h: Header) -> Entries<V3>
-    requires { Given block.now h }
-    ensures { result ≡ (extrusion_of block.now).spine }
-{
-    list_of(block, h, 0)
-}
+impl<'a> Extruded<'a> {
+    // List `k` of the block.
+    fn list_of<V: Entry>(&self, k: usize) -> Entries<'a, V>
+        requires { (k < 8) × (V.width * get_or self.now.header.counts k 0 ≤ length (list_bytes self.now.block.now self.now.header k)) }
+        ensures { result ≡ tab (V.made (list_bytes self.now.block.now self.now.header k)) (get_or self.now.header.counts k 0) 0 }
+    {
+        let h = self.header;
+        Entries::of(block::list_part(self.block, h, k), count_of(h, k))
+    }
 
-pub fn section_of(block: &[u8], h: Header) -> Entries<Pair>
-    requires { Given block.now h }
-    ensures { result ≡ (extrusion_of block.now).section }
-{
-    list_of(block, h, 1)
-}
+    pub(crate) fn spine(&self) -> Entries<'a, V3>
+        ensures { result ≡ (extrusion_of self.now.block.now).spine }
+    {
+        self.list_of(0)
+    }
 
-pub fn scales_of(block: &[u8], h: Header) -> Entries<Pair>
-    requires { Given block.now h }
-    ensures { result ≡ (extrusion_of block.now).scales }
-{
-    list_of(block, h, 2)
-}
+    pub(crate) fn section(&self) -> Entries<'a, Pair>
+        ensures { result ≡ (extrusion_of self.now.block.now).section }
+    {
+        self.list_of(1)
+    }
 
-pub fn turns_of(block: &[u8], h: Header) -> Entries<Quat>
-    requires { Given block.now h }
-    ensures { result ≡ (extrusion_of block.now).turns }
-{
-    list_of(block, h, 3)
+    pub(crate) fn scales(&self) -> Entries<'a, Pair>
+        ensures { result ≡ (extrusion_of self.now.block.now).scales }
+    {
+        self.list_of(2)
+    }
+
+    pub(crate) fn turns(&self) -> Entries<'a, Quat>
+        ensures { result ≡ (extrusion_of self.now.block.now).turns }
+    {
+        self.list_of(3)
+    }
 }

@@ -10,9 +10,9 @@ ghost use Rattle.lists.specs.Parts.{spliced};
 ghost use Rattle.texture.specs.Textured.{texture_words};
 ghost use Rattle.extrusion.specs.Corners.{texture_of, extrusion_corner, extrusion_texture, Measured, Cornered};
 
-use crate::reading::{section_count, section_of, spine_count};
+use crate::reading::{Extruded, section_count, spine_count};
 use bits::Words2;
-use block::{Header, Pair, PointNumber, Settings};
+use block::{Pair, PointNumber, Settings};
 use mesh::Fit;
 use texture::put2;
 
@@ -36,71 +36,64 @@ fn cap_texture(fit: Fit, p: Pair) -> Words2
     }
 }
 
-// Before the transform.
-fn plain_texture(
-    block: &[u8],
-    h: Header,
-    floats: &[f32],
-    at: usize,
-    fit: Fit,
-    number: usize,
-    point: PointNumber,
-) -> Words2
-    requires { Measured block.now h floats.now at fit × (point.0 < spine_count h * section_count h) }
-    ensures { result ≡ texture_of (extrusion_of block.now) number point.0 }
-{
-    let n = spine_count(h);
-    let m = section_count(h);
-    let col = point.0 % m;
-    if number < (n - 1) * (m - 1) {
-        return side_texture(floats, at + col, at + (m + point.0 / m));
-    }
-    cap_texture(fit, section_of(block, h).at(col))
+// An extrusion, what `put_arcs` left in floats from place `at` on, and how its cross-section fits the texture of a cap.
+#[derive(Clone, Copy)]
+pub struct Textured<'a> {
+    pub source: Extruded<'a>,
+    pub floats: &'a [f32],
+    pub at: usize,
+    pub fit: Fit,
+    ghost measured: { Measured source.block.now source.header floats.now at fit },
 }
 
-// The texture words of a corner, by its face's number and its point.
-pub fn corner_texture(
-    block: &[u8],
-    h: Header,
-    s: Settings,
-    floats: &[f32],
-    at: usize,
-    fit: Fit,
-    number: usize,
-    point: PointNumber,
-) -> Words2
-    requires { Measured block.now h floats.now at fit × (s ≡ settings_of block.now) × (point.0 < spine_count h * section_count h) }
-    ensures { result ≡ (extrusion_corner (extrusion_of block.now) number (use_of point.0)).texture }
-{
-    if h.need_uvs {
-        let w = plain_texture(block, h, floats, at, fit, number, point);
-        return block::uv(h.transformed.then_some(s.transform), w);
+impl<'a> Textured<'a> {
+    // Before the transform.
+    fn plain_texture(&self, number: usize, point: PointNumber) -> Words2
+        requires { point.0 < spine_count self.now.source.header * section_count self.now.source.header }
+        ensures { result ≡ texture_of (extrusion_of self.now.source.block.now) number point.0 }
+    {
+        let at = self.at;
+        let n = spine_count(self.source.header);
+        let m = section_count(self.source.header);
+        let col = point.0 % m;
+        if number < (n - 1) * (m - 1) {
+            return side_texture(self.floats, at + col, at + (m + point.0 / m));
+        }
+        cap_texture(self.fit, self.source.section().at(col))
     }
-    Words2 { s: 0, t: 0 }
-}
 
-// The texture words of each corner, two words a corner from place `textures` on.
-pub fn put_textures(
-    block: &[u8],
-    h: Header,
-    s: Settings,
-    floats: &[f32],
-    at: usize,
-    fit: Fit,
-    work: &mut [u32],
-    corners: usize,
-    numbers: usize,
-    textures: usize,
-    count: usize,
-)
-    requires { Measured block.now h floats.now at fit × (s ≡ settings_of block.now) × Cornered h corners numbers textures count work.old }
-    ensures { work.new ≡ spliced work.old textures (texture_words (extrusion_texture (extrusion_of block.now) work.old corners numbers) count) }
-{
-    // A loop of its own, as in texture and grid: each reads other tables of `work`, and a shared one would take this body back as a closure.
-    for c in 0..count {
-        let p = PointNumber(tables::wide(work[corners + c]));
-        let f = tables::wide(work[numbers + c]);
-        let w = corner_texture(block, h, s, floats, at, fit, f, p);
-        put2(work, textures + 2 * c, w);
+    // The texture words of a corner, by its face's number and its point.
+    fn corner_texture(&self, s: Settings, number: usize, point: PointNumber) -> Words2
+        requires { (s ≡ settings_of self.now.source.block.now) × (point.0 < spine_count self.now.source.header * section_count self.now.source.header) }
+        ensures { result ≡ (extrusion_corner (extrusion_of self.now.source.block.now) number (use_of point.0)).texture }
+    {
+        let h = self.source.header;
+        if h.need_uvs {
+            let w = self.plain_texture(number, point);
+            return block::uv(h.transformed.then_some(s.transform), w);
+        }
+        Words2 { s: 0, t: 0 }
+    }
+
+    // The texture words of each corner, two words a corner from place `textures` on.
+    pub fn put_textures(
+        &self,
+        s: Settings,
+        work: &mut [u32],
+        corners: usize,
+        numbers: usize,
+        textures: usize,
+        count: usize,
+    )
+        requires { (s ≡ settings_of self.now.source.block.now) × Cornered self.now.source.header corners numbers textures count work.old }
+        ensures { work.new ≡ spliced work.old textures (texture_words (extrusion_texture (extrusion_of self.now.source.block.now) work.old corners numbers) count) }
+    {
+        // A loop of its own, as in texture and grid: each reads other tables of `work`, and a shared one would take this body back as a closure.
+        for c in 0..count {
+            let p = PointNumber(tables::wide(work[corners + c]));
+            let f = tables::wide(work[numbers + c]);
+            let w = self.corner_texture(s, f, p);
+            put2(work, textures + 2 * c, w);
+        }
     }
 }

@@ -2,33 +2,31 @@
 ghost use Rattle.std.specs.Prelude.{◌≡◌, ◌+◌, ◌*◌, ◌≤◌, length, take};
 ghost use Rattle.block.specs.Settings.{settings_of};
 ghost use Rattle.mesh.specs.Extrusion.{spine_count, section_count, extrusion_of, extrusion_points};
-ghost use Rattle.extrusion.specs.Given.{Given};
 ghost use Rattle.extrusion.specs.Listings.{Planned};
 ghost use Rattle.extrusion.specs.Corners.{Cornered};
 ghost use Rattle.shaping.specs.Shared.{plain_widths};
 ghost use Rattle.shaping.specs.Tabled.{Tabled, TexturesAt};
 ghost use Rattle.extrusionshape.specs.Shape.{listings_for, ArcsAt, texture_of};
 
-use block::{Header, Settings};
+use block::Settings;
 use build::Shared;
-use extrusion::{cap_fit, list_faces, put_arcs, put_points, put_textures};
+use extrusion::{Extruded, Textured, list_faces};
 use soups::prepare;
 use tables::Plan;
 
 // The parameters of the cross-section and the spine, where texture is wanted, behind the normals.
-fn arcs_where(block: &[u8], h: Header, t: Plan, floats: &mut [f32])
-    requires { Given block.now h × (3 * t.count + (section_count h + spine_count h) ≤ length floats.old) }
-    ensures { ArcsAt block.now h floats.new (3 * t.count) × (take (3 * t.count) floats.new ≡ take (3 * t.count) floats.old) }
+fn arcs_where(x: &Extruded<'_>, t: Plan, floats: &mut [f32])
+    requires { 3 * t.count + (section_count x.now.header + spine_count x.now.header) ≤ length floats.old }
+    ensures { ArcsAt x.now.block.now x.now.header floats.new (3 * t.count) × (take (3 * t.count) floats.new ≡ take (3 * t.count) floats.old) }
 {
-    if h.need_uvs {
-        put_arcs(block, h, floats, 3 * t.count);
+    if x.header.need_uvs {
+        x.put_arcs(floats, 3 * t.count);
     }
 }
 
 // All tables but that of texture. The floats behind the normals are free once these are made.
 pub fn put_tables(
-    block: &[u8],
-    h: Header,
+    x: &Extruded<'_>,
     s: Settings,
     cap: usize,
     shared: Shared,
@@ -36,14 +34,14 @@ pub fn put_tables(
     work: &mut [u32],
     floats: &mut [f32],
 )
-    requires { Given block.now h × Planned h cap (length work.old) t × (3 * t.count + (section_count h + spine_count h) ≤ length floats.old)
+    requires { Planned x.now.header cap (length work.old) t × (3 * t.count + (section_count x.now.header + spine_count x.now.header) ≤ length floats.old)
         × (3 * t.count + 6 * t.faces ≤ length floats.old) }
-    ensures { Tabled (extrusion_points (extrusion_of block.now)) (listings_for h cap) shared s.crease t
+    ensures { Tabled (extrusion_points (extrusion_of x.now.block.now)) (listings_for x.now.header cap) shared s.crease t
         work.old work.new floats.old floats.new
-        × ArcsAt block.now h floats.new (3 * t.count) }
+        × ArcsAt x.now.block.now x.now.header floats.new (3 * t.count) }
 {
-    put_points(block, h, work, t.points);
-    list_faces(h, cap, work, t);
+    x.put_points(work, t.points);
+    list_faces(x.header, cap, work, t);
     let rule = s.crease;
     let attributes = shared.attributes;
     prepare(
@@ -54,37 +52,29 @@ pub fn put_tables(
         rule,
         floats,
     );
-    arcs_where(block, h, t, floats);
+    arcs_where(x, t, floats);
 }
 
 // The table of texture, where texture is wanted.
 pub fn texture_where(
-    block: &[u8],
-    h: Header,
+    x: &Extruded<'_>,
     s: Settings,
     shared: Shared,
     t: Plan,
     floats: &[f32],
     work: &mut [u32],
 )
-    requires { Given block.now h × (s ≡ settings_of block.now) × (shared.widths ≡ plain_widths h) × ArcsAt block.now h floats.now (3 * t.count)
-        × (3 * t.count ≤ length floats.now) × Cornered h t.corners t.owners (t.owners + t.count) t.count work.old }
-    ensures { TexturesAt shared (texture_of block.now) t work.old work.new }
+    requires { (s ≡ settings_of x.now.block.now) × (shared.widths ≡ plain_widths x.now.header) × ArcsAt x.now.block.now x.now.header floats.now (3 * t.count)
+        × (3 * t.count ≤ length floats.now) × Cornered x.now.header t.corners t.owners (t.owners + t.count) t.count work.old }
+    ensures { TexturesAt shared (texture_of x.now.block.now) t work.old work.new }
 {
-    if h.need_uvs {
-        let fit = cap_fit(block, h);
-        put_textures(
-            block,
-            h,
-            s,
+    if x.header.need_uvs {
+        let source = Textured {
+            source: *x,
             floats,
-            3 * t.count,
-            fit,
-            work,
-            t.corners,
-            t.owners,
-            t.owners + t.count,
-            t.count,
-        );
+            at: 3 * t.count,
+            fit: x.cap_fit(),
+        };
+        source.put_textures(s, work, t.corners, t.owners, t.owners + t.count, t.count);
     }
 }

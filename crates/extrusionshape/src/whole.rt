@@ -8,7 +8,7 @@ use crate::filling::{put_tables, texture_where};
 use crate::planning::plan_extrusion;
 use block::{Header, Settings};
 use build::build;
-use extrusion::{cap_length, ring_width};
+use extrusion::Extruded;
 use lent::Counts;
 use shaping::plain_shared;
 
@@ -34,13 +34,14 @@ pub fn make_extrusion(
         (record { sources = sources.new; positions = positions.new; normals = normals.new; colours = colours.new; textures = textures.new; indices = indices.new })
         result × Cleared work.old work.new floats.old floats.new }
 {
-    let cap = cap_length(block, h);
-    let ring = ring_width(block, h);
+    let x = Extruded { block, header: h };
+    let cap = x.cap_length();
+    let ring = x.ring_width();
     let t = plan_extrusion(h, cap, ring);
     let shared = plain_shared(h, h.convex);
     let coord = bits::part(block, 0, 0);
-    put_tables(block, h, s, cap, shared, t, work, floats);
-    texture_where(block, h, s, shared, t, floats, work);
+    put_tables(&x, s, cap, shared, t, work, floats);
+    texture_where(&x, s, shared, t, floats, work);
     build(
         block, coord, shared, t, sources, positions, normals, colours, textures, indices, work,
         floats,

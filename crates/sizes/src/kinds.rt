@@ -6,6 +6,7 @@ ghost use Rattle.tables.specs.Layout.{most};
 ghost use Rattle.sizes.specs.Known.{Sides, Known, set_faces, primitive_faces, Are, Counted};
 
 use block::{Header, Kind, Topology};
+use extrusion::Extruded;
 use tables::wide;
 
 // They are counted once a call, and handed on: what the tables of listed faces are planned by is counted with them.
@@ -107,7 +108,7 @@ fn extrusion_sizes(block: &[u8], h: Header) -> Sizes
     requires { Given block.now h × Sides h }
     ensures { Are (spec.extrusion_sizes block.now h) 0 result }
 {
-    let k = extrusion::cap_length(block, h);
+    let k = Extruded { block, header: h }.cap_length();
     let n = extrusion::cap_count(h, k);
     let t = net_of(h);
     Sizes {

@@ -6,21 +6,21 @@ use Rattle.extrusionshape.proofs.Tabling.{points_there}
 use Rattle.extrusionshape.proofs.filling.put_tables.Goals as goal
 
 pub put_points-requires : goal.put_points-requires
-put_points-requires c = let P = c.requires.1 in let R = P.room in (c.requires.0, omega (arith, P.spots))
+put_points-requires c = let P = c.requires.0 in let R = P.room in omega (arith, P.spots)
 
 pub list_faces-requires : goal.list_faces-requires
 list_faces-requires c =
-    rw (points_there _ c.requires.0 c.requires.1 c.put_points.ensures).0 c.requires.1
+    rw (points_there _ c.args.x.now.given c.requires.0 c.put_points.ensures).0 c.requires.0
 
 pub prepare-requires : goal.prepare-requires
-prepare-requires c = (listed_sound c.list_faces.ensures.1, c.requires.3)
+prepare-requires c = (listed_sound c.list_faces.ensures.1, c.requires.2)
 
 pub arcs_where-requires : goal.arcs_where-requires
 arcs_where-requires c =
-    (c.requires.0, omega (arith, c.requires.2, c.prepare.auto.floats))
+    omega (arith, c.requires.1, c.prepare.auto.floats)
 
 pub returns : goal.returns
 returns c = (
-  tabled c.requires.1.room (points_there _ c.requires.0 c.requires.1 c.put_points.ensures) c.list_faces.ensures.0 c.list_faces.ensures.1 (prepared_front (rw c.is_some.ensures at c.prepare.ensures) c.arcs_where.ensures.1) (c.arcs_where.auto.floats ∙ c.prepare.auto.floats),
+  tabled c.requires.0.room (points_there _ c.args.x.now.given c.requires.0 c.put_points.ensures) c.list_faces.ensures.0 c.list_faces.ensures.1 (prepared_front (rw c.is_some.ensures at c.prepare.ensures) c.arcs_where.ensures.1) (c.arcs_where.auto.floats ∙ c.prepare.auto.floats),
   c.arcs_where.ensures.0,
 )

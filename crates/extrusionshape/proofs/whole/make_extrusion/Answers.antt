@@ -9,25 +9,22 @@ use Rattle.extrusionshape.proofs.Tabling.{textures_asked}
 use Rattle.extrusionshape.proofs.Shapes.{shape, mesh_is}
 use Rattle.extrusionshape.proofs.whole.make_extrusion.Goals as goal
 
-pub cap_length-cap-requires : goal.cap_length-cap-requires
-cap_length-cap-requires c = given c.requires
-
-pub ring_width-ring-requires : goal.ring_width-ring-requires
-ring_width-ring-requires c = given c.requires
+pub invariant_of-x : goal.invariant_of-x
+invariant_of-x c = record { given = given c.requires }
 
 pub plan_extrusion-t-requires : goal.plan_extrusion-t-requires
 plan_extrusion-t-requires c = sized c.requires c.cap_length-cap.ensures
 
 pub put_tables-requires : goal.put_tables-requires
 put_tables-requires c =
-    (given c.requires, planned_at c.requires c.cap_length-cap.ensures c.ring_width-ring.ensures c.plan_extrusion-t.ensures, arcs_room c.requires c.cap_length-cap.ensures c.ring_width-ring.ensures c.plan_extrusion-t.ensures, rows_room c.requires c.cap_length-cap.ensures c.ring_width-ring.ensures c.plan_extrusion-t.ensures)
+    (planned_at c.requires c.cap_length-cap.ensures c.ring_width-ring.ensures c.plan_extrusion-t.ensures, arcs_room c.requires c.cap_length-cap.ensures c.ring_width-ring.ensures c.plan_extrusion-t.ensures, rows_room c.requires c.cap_length-cap.ensures c.ring_width-ring.ensures c.plan_extrusion-t.ensures)
 
 pub texture_where-requires : goal.texture_where-requires
 unfolding plain_shared
 texture_where-requires c =
     let T = c.put_tables.ensures in
     let G = roomy c.requires c.cap_length-cap.ensures c.ring_width-ring.ensures c.plan_extrusion-t.ensures in
-    (given c.requires, c.requires.accepted.settings, ap (λ (x : Shared). x.widths) c.plain_shared-shared.ensures, T.1, omega (arith, G.floats, T.0.size), textures_asked (planned_at c.requires c.cap_length-cap.ensures c.ring_width-ring.ensures c.plan_extrusion-t.ensures) (omega (arith, G.textures, T.0.len)) (faces_held T.0))
+    (c.requires.accepted.settings, ap (λ (x : Shared). x.widths) c.plain_shared-shared.ensures, T.1, omega (arith, G.floats, T.0.size), textures_asked (planned_at c.requires c.cap_length-cap.ensures c.ring_width-ring.ensures c.plan_extrusion-t.ensures) (omega (arith, G.textures, T.0.len)) (faces_held T.0))
 
 pub build-requires : goal.build-requires
 build-requires c =

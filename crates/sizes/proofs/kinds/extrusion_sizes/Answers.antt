@@ -4,8 +4,8 @@ use lib.Dec.{lit<}
 use Rattle.sizes.proofs.ByKind.{cap_few, extrusion_are}
 use Rattle.sizes.proofs.kinds.extrusion_sizes.Goals as goal
 
-pub cap_length-k-requires : goal.cap_length-k-requires
-cap_length-k-requires c = c.requires.0
+pub invariant_of-cap_length : goal.invariant_of-cap_length
+invariant_of-cap_length c = record { given = c.requires.0 }
 
 pub net_of-t-requires : goal.net_of-t-requires
 net_of-t-requires c = c.requires.1

@@ -12,10 +12,11 @@ sizes_of-s-requires c = record { header = c.requires.0; taken = c.requires.1; sh
 pub returns-then-limit-s : goal.returns-then-limit-s
 returns-then-limit-s c =
     elim c.then-limit-s.branch [
-      then-limit-s-via-then-limit-s w ↦
-        refuse _ _ _ _ (row_points _ _ (sym c.is_no_shape.ensures ∙ c.if-is_no_shape.false) _ c.sizes_of-s.ensures _ (c.wide-limit.ensures ∙ c.limit_of.ensures) w.if-limit-s.true)
+      | then-limit-s-via-then-limit-s w ↦
+          refuse _ _ _ _ (row_points _ _ (sym c.is_no_shape.ensures ∙ c.if-is_no_shape.false) _ c.sizes_of-s.ensures _ (c.wide-limit.ensures ∙ c.limit_of.ensures) w.if-limit-s.true)
       | then-limit-s-via-else-limit-s+then-limit-s-2 w ↦
-        refuse _ _ _ _ (row_corners _ _ (sym c.is_no_shape.ensures ∙ c.if-is_no_shape.false) _ c.sizes_of-s.ensures _ (c.wide-limit.ensures ∙ c.limit_of.ensures) w.if-limit-s.false w.if-limit-s-2.true) ]
+          refuse _ _ _ _ (row_corners _ _ (sym c.is_no_shape.ensures ∙ c.if-is_no_shape.false) _ c.sizes_of-s.ensures _ (c.wide-limit.ensures ∙ c.limit_of.ensures) w.if-limit-s.false w.if-limit-s-2.true)
+    ]
 
 pub returns : goal.returns
 returns c =

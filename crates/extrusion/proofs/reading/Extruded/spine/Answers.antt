@@ -1,0 +1,10 @@
+use Rattle.extrusion.proofs.Blocks.{list_size_lem, spine_of}
+use mathlib.Core.Path.{◌∙◌}
+use native.Mathlib.Omega.{arith}
+use Rattle.extrusion.proofs.reading.Extruded.spine.Goals as goal
+
+pub list_of-requires : goal.list_of-requires
+list_of-requires c = (omega arith, omega (arith, list_size_lem c.args.self.now.given 0))
+
+pub returns : goal.returns
+returns c = c.list_of.ensures ∙ spine_of _ _ c.args.self.now.given.head

@@ -1,9 +1,0 @@
-use Prim.Native.Nat.{ℕ}
-use Rattle.extrusion.specs.Corners.{extrusion_texture}
-use Rattle.mesh.specs.Extrusion.{extrusion_of}
-use Rattle.lists.proofs.Pieces.{Pieces}
-use Rattle.mesh.specs.Words.{words2}
-use Rattle.extrusion.proofs.uv.put_textures.Given as goal
-
-abbrev pub invariant-loop-c : goal.invariant-loop-c
-invariant-loop-c l = Pieces (λ (j : ℕ). words2 (extrusion_texture (extrusion_of l.block) l.initial.work l.corners l.numbers j)) l.count l.initial.work l.textures l.c l.work
