@@ -1,17 +1,18 @@
 // FORMAT 9.2: the square root, as f32::sqrt rounds it: the nearest f32 to the exact root. It is worked out digit by digit, and
 // no number here is wider than 32 bits (tests/narrow.sh looks).
-ghost use Rattle.std.specs.Prelude.{◌≡◌, true, ◌+◌, ◌*◌, ◌%◌, ◌^◌, ◌≤◌, ◌<◌};
+ghost use Rattle.std.specs.Prelude.{◌≡◌, true, ◌+◌, ◌*◌, ◌/◌, ◌%◌, ◌^◌, ◌≤◌, ◌<◌};
 ghost use Rattle.std.specs.Float.{binary32};
 ghost use Rattle.std.specs.Float.Ieee.{to_bits};
 ghost use Rattle.math.specs.SquareRoot.{isqrt, joined, root_bits};
 ghost use Rattle.math.specs.Digit.{Digit, Bit, Plain, tall, plain};
 ghost use Rattle.math.specs.Nearest.{Rooted};
 
-// A root so far, and what its square leaves of the number so far.
+// A root so far, what its square leaves of the number so far, and the other digits of the number, at the top of a word.
 #[derive(Clone, Copy)]
 struct Partial {
     q: u32,
     r: u32,
+    rest: u32,
 }
 
 // Whether the trial can be taken off, as a digit: a number, so that taking it off is no branch.
@@ -24,17 +25,29 @@ fn not_below(rest: u32, trial: u32) -> u32
     1
 }
 
-// One binary digit more of a root, from the next two of the number. The remainder is at most twice the root, before and after.
-fn next_digit(q: u32, r: u32, two: u32) -> Partial
-    requires { (q < 2 ^ 24) × (r ≤ 2 * q) × (two < 4) }
-    ensures { Digit q r two result.q result.r }
+// Before the first digit.
+fn begun(s: u32) -> Partial
+    ensures { result ≡ record { q = 0; r = 0; rest = s } }
 {
-    let rest = r * 4 + two;
-    let trial = q * 4 + 1;
+    Partial {
+        q: 0,
+        r: 0,
+        rest: s,
+    }
+}
+
+// One binary digit more of a root, from the next two of the number. The remainder is at most twice the root, before and after.
+fn next_digit(p: Partial) -> Partial
+    requires { (p.q < 2 ^ 24) × (p.r ≤ 2 * p.q) }
+    ensures { Digit p.q p.r (p.rest / 2 ^ 30) result.q result.r × (result.rest ≡ p.rest % 2 ^ 30 * 4) }
+{
+    let rest = p.r * 4 + p.rest / 1073741824;
+    let trial = p.q * 4 + 1;
     let bit = not_below(rest, trial);
     Partial {
-        q: q * 2 + bit,
+        q: p.q * 2 + bit,
         r: rest - trial * bit,
+        rest: p.rest % 1073741824 * 4,
     }
 }
 
@@ -42,16 +55,11 @@ fn next_digit(q: u32, r: u32, two: u32) -> Partial
 fn int_root(s: u32) -> u32
     ensures { result ≡ isqrt 25 (s * 2 ^ 18) }
 {
-    let mut q: u32 = 0;
-    let mut r: u32 = 0;
-    let mut rest = s;
+    let mut p = begun(s);
     for done in 0..25u32 {
-        let d = next_digit(q, r, rest / 1073741824);
-        q = d.q;
-        r = d.r;
-        rest = rest % 1073741824 * 4;
+        p = next_digit(p);
     }
-    q
+    p.q
 }
 
 // A significand with the digits that the root is taken of at the top of a word: 25 or 26 places up, less 18. A product, so that four are found together
@@ -118,42 +126,30 @@ pub struct Four<T> {
 }
 
 // The whole parts of four roots, as `int_root` finds one. A digit waits for the one before; those of four numbers do not wait for each other.
+// Four fields, and one number beside them, for a list of any length has an index of 64 bits, and nothing here may (tests/narrow.sh).
 fn int_roots(s: Four<u32>) -> Four<u32>
     ensures { (result.a ≡ isqrt 25 (s.a * 2 ^ 18)) × (result.b ≡ isqrt 25 (s.b * 2 ^ 18)) × (result.c ≡ isqrt 25 (s.c * 2 ^ 18)) × (result.d ≡ isqrt 25 (s.d * 2 ^ 18)) }
 {
-    let mut q = Four {
-        a: 0,
-        b: 0,
-        c: 0,
-        d: 0,
+    let mut p = Four {
+        a: begun(s.a),
+        b: begun(s.b),
+        c: begun(s.c),
+        d: begun(s.d),
     };
-    let mut r = q;
-    let mut rest = s;
     for turns in 0..25u32 {
-        let a = next_digit(q.a, r.a, rest.a / 1073741824);
-        let b = next_digit(q.b, r.b, rest.b / 1073741824);
-        let c = next_digit(q.c, r.c, rest.c / 1073741824);
-        let d = next_digit(q.d, r.d, rest.d / 1073741824);
-        q = Four {
-            a: a.q,
-            b: b.q,
-            c: c.q,
-            d: d.q,
-        };
-        r = Four {
-            a: a.r,
-            b: b.r,
-            c: c.r,
-            d: d.r,
-        };
-        rest = Four {
-            a: rest.a % 1073741824 * 4,
-            b: rest.b % 1073741824 * 4,
-            c: rest.c % 1073741824 * 4,
-            d: rest.d % 1073741824 * 4,
+        p = Four {
+            a: next_digit(p.a),
+            b: next_digit(p.b),
+            c: next_digit(p.c),
+            d: next_digit(p.d),
         };
     }
-    q
+    Four {
+        a: p.a.q,
+        b: p.b.q,
+        c: p.c.q,
+        d: p.d.q,
+    }
 }
 
 // The digits that the root of the f32 with the bits b is taken of.

@@ -1,3 +1,4 @@
+use mathlib.Core.Path.{refl}
 use native.Mathlib.Omega.{arith}
 use Rattle.math.proofs.Digits.{taken_off, bit_small, digit}
 use Rattle.math.proofs.square_root.next_digit.Goals as goal
@@ -12,4 +13,4 @@ pub overflow_sub-result : goal.overflow_sub-result
 overflow_sub-result c = omega (arith, taken_off _ _ _ c.not_below-bit.ensures)
 
 pub returns : goal.returns
-returns c = digit _ _ _ _ c.requires.1 c.requires.2 c.not_below-bit.ensures
+returns c = (digit _ _ _ _ c.requires.1 (omega arith) c.not_below-bit.ensures, refl)
