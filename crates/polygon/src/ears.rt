@@ -30,6 +30,8 @@ fn take_out(idx: &mut [u32], i: usize)
     idx.copy_within(i + 1.., i);
 }
 
+// `rev` says that the corners go round clockwise, which is found once of each polygon, and no step to run: the order and the triangles of such a
+// polygon are its own turned back, and a closure for each of both would say that twice.
 fn place_of(rev: bool, n: usize, i: usize) -> u32
     requires { (n ≤ 2 ^ 31) × (i < n) }
     ensures { result ≡ place rev n i }

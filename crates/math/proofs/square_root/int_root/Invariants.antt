@@ -3,4 +3,4 @@ use Rattle.math.proofs.square_root.int_root.Given as goal
 
 -- After each digit `SoFar` holds, the bound of the remainder in it.
 abbrev pub invariant-loop-done : goal.invariant-loop-done
-invariant-loop-done l = SoFar l.s l.done l.p.q l.p.r l.p.rest
+invariant-loop-done l = SoFar l.s l.done l.q l.r l.rest
