@@ -33,7 +33,7 @@ for name in root roots; do
 done
 
 # A function with an index of 64 bits, so that the look is seen to see one.
-[ -n "$(code_under lists lists::get | wider)" ]
+[ -n "$(code_under lists lists::put | wider)" ]
 tally 'a wider value is seen where there is one' $?
 
 tell_tally

@@ -6,7 +6,8 @@ ghost use Rattle.bits.specs.Bits.{field, word_at, entries};
 
 use lists::get_or;
 
-// The bits of two, three and four f32: a texture point, a point or a normal, a colour.
+// The bits of two, three and four f32: a texture point, a point or a normal, a colour. Three structs and no list of N words: their fields have
+// the names that FORMAT and every contract say them by, where a list would say 0, 1, 2.
 #[derive(Clone, Copy)]
 pub struct Words2 {
     pub s: u32,

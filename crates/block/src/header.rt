@@ -9,6 +9,8 @@ use crate::kind::{Kind, kind_of};
 
 #[derive(Clone, Copy)]
 pub struct Header {
+    // The number that stands in the block, and no Option of an Edition: a block of an edition that is not known is read as one of edition 1 before it
+    // is refused (FORMAT 2.2), so that whoever reads would have to say edition 1 for none once more.
     pub edition: u32,
     pub kind: Kind,
     pub ccw: bool,

@@ -4,7 +4,7 @@ use mathlib.Core.Bool.{Bool, false}
 use mathlib.Core.List.{List, [], ◌∷◌, map}
 use Prim.Native.Nat.{ℕ, zero, suc, ◌+◌, ◌-◌, ◌*◌}
 use native.Mathlib.Omega.{arith}
-use lib.ListN.{length, get_or, take}
+use lib.ListN.{length, get_or}
 use lib.Seq.{sets}
 use lib.Ieee.{Float, nan}
 use Rattle.polygon.specs.Ears.{Pt, Tri, flat, turn, clip, order, is_reversed, ear_clip, ear_clip_by}
@@ -45,11 +45,11 @@ length_flat (t ∷ ts) = let h : length (flat ts) ≡ length ts * 3 = length_fla
 
 -- ---- the whole
 
-pub whole : (p : List Float) (n : ℕ) (idx o : List ℕ) (rev : Bool) → rev ≡ is_reversed (xy p) n → take n idx ≡ order rev n
-    → sets o 0 (flat (map (turn rev) (clip (xy p) (n * n) (take n idx)))) ≡ sets o 0 (flat (ear_clip_by (xy p) n))
+pub whole : (p : List Float) (n k : ℕ) (l o : List ℕ) (rev : Bool) → rev ≡ is_reversed (xy p) n → k ≡ n → l ≡ order rev n
+    → sets o 0 (flat (map (turn rev) (clip (xy p) (k * k) l))) ≡ sets o 0 (flat (ear_clip_by (xy p) n))
 unfolding ear_clip_by
-whole p n idx o rev r q =
-    ap (λ (l : List ℕ). sets o 0 (flat (map (turn rev) (clip (xy p) (n * n) l)))) q
+whole p n k l o rev r e q =
+    (λ i. sets o 0 (flat (map (turn rev) (clip (xy p) (e i * e i) (q i)))))
     ∙ ap (λ (b : Bool). sets o 0 (flat (map (turn b) (clip (xy p) (n * n) (order b n))))) r
 
 pub map_same : (ts : List Tri) → map (turn false) ts ≡ ts

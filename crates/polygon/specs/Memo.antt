@@ -1,10 +1,9 @@
 -- FORMAT 12.3, how the code clips ears: the tables of its working slice, what it keeps of earlier searches, and what each thing that it keeps says.
-use Rattle.std.specs.Prelude.{ℕ, ◌+◌, ◌-◌, ◌*◌, ◌≤◌, ◌<◌, ◌≡◌, Bool, true, false, not, ◌&&◌, List, [], ◌∷◌, length, get_or, take, drop, set, ltb, eqb, Option, Some, None, Float}
+use Rattle.std.specs.Prelude.{ℕ, ◌+◌, ◌-◌, ◌*◌, ◌≤◌, ◌<◌, ◌≡◌, Bool, true, false, not, ◌&&◌, List, [], ◌∷◌, length, get_or, take, set, ltb, eqb, Option, Some, None, Float}
 use Rattle.std.specs.Float.{nan}
 use Rattle.std.specs.Float.Ieee.{le}
 use Rattle.lists.specs.Loops.{pick, any, first}
-use Rattle.lists.specs.Parts.{Full}
-use Rattle.polygon.specs.Ears.{Pt, +0, cross2, point_in_tri, blocks, order, remove}
+use Rattle.polygon.specs.Ears.{Pt, +0, cross2, point_in_tri, blocks, remove}
 use Rattle.polygon.specs.declared.memo.Dot.{Dot}
 
 -- the point of corner j in a list of coordinates
@@ -67,34 +66,20 @@ entry memo a b c = pick (eqb (get_or memo (b * 3) 0) a && eqb (get_or memo (b * 
 abbrev pub Clear : (ℕ → Pt) → List ℕ → ℕ → ℕ → ℕ → ℕ → Type 0
 Clear P left a b c k = (j : ℕ) → j < k → hits left (blocks P a b c) j ≡ false
 
--- ---- the working slice of n corners: the working order in front, a flag for each corner from n on, and what is kept from 2 n on
+-- ---- the tables: the working order, a flag for each corner, and what is kept
 
-unfoldable pub flags : ℕ → List ℕ → List ℕ
-flags n w = take n (drop n w)
+-- a search changes the flags f to f', and what is kept to memo': the flags stay, and what is kept is so
+pub record Searched (P : ℕ → Pt) (f f' memo' : List ℕ) : Type 0 where
+  pub left : f' ≡ f
+  pub sound : Sound P f memo'
 
-unfoldable pub kept : ℕ → List ℕ → List ℕ
-kept n w = drop n (drop n w)
+-- the corner in the place i of the m corners in the order l goes: l becomes l', and the flags f become f'
+pub record Gone (m i : ℕ) (l l' f f' : List ℕ) : Type 0 where
+  pub order : take (m - 1) l' ≡ remove i (take m l)
+  pub left : f' ≡ set f (get_or (take m l) i 0) 0
 
--- a search changes w to w': the order and the flags stay, and what is kept is so
-pub record Searched (P : ℕ → Pt) (n : ℕ) (w w' : List ℕ) : Type 0 where
-  pub order : take n w' ≡ take n w
-  pub left : flags n w' ≡ flags n w
-  pub sound : Sound P (flags n w) (kept n w')
-
--- the corner in the place i of the m corners that are left goes, and w becomes w'
-pub record Gone (n m i : ℕ) (w w' : List ℕ) : Type 0 where
-  pub order : take (m - 1) w' ≡ remove i (take m w)
-  pub left : flags n w' ≡ set (flags n w) (get_or (take m w) i 0) 0
-  pub same : kept n w' ≡ kept n w
-
--- m corners are left, and the flags and what is kept speak of them
-pub record Held (P : ℕ → Pt) (n m : ℕ) (w : List ℕ) : Type 0 where
-  pub tells : Tells (flags n w) (take m w)
-  pub once : Once (take m w)
-  pub sound : Sound P (flags n w) (kept n w)
-
--- all n corners are left, and nothing is known
-pub record Fresh (n : ℕ) (rev : Bool) (w : List ℕ) : Type 0 where
-  pub order : take n w ≡ order rev n
-  pub left : Full 1 n (flags n w)
-  pub none : Full 0 (length (kept n w)) (kept n w)
+-- the corners of the order l are left, and the flags and what is kept speak of them
+pub record Held (P : ℕ → Pt) (l left memo : List ℕ) : Type 0 where
+  pub tells : Tells left l
+  pub once : Once l
+  pub sound : Sound P left memo

@@ -2,9 +2,9 @@
 ghost use Rattle.std.specs.Prelude.{◌≡◌, [], ◌∷◌, map, ◌+◌, ◌-◌, ◌*◌, ◌^◌, ◌≤◌, ◌<◌, length, take};
 ghost use Rattle.std.proofs.lemmas.List.Edits.{sets};
 ghost use Rattle.polygon.specs.Ears.{triple, remove, corner, fan, clip, area_term, area, place, order, turn, ear_clip_by, flat};
-ghost use Rattle.polygon.specs.Memo.{xy, Gone, Held, Fresh};
+ghost use Rattle.polygon.specs.Memo.{xy, Gone, Held};
 
-use crate::memo::{clear_flag, corner_at, dot_at, first_ear};
+use crate::memo::{Search, corner_at, dot_at};
 use lists::{get, put};
 
 // One triangle, at the t'th place of `out`.
@@ -30,6 +30,8 @@ fn take_out(idx: &mut [u32], i: usize)
     idx.copy_within(i + 1.., i);
 }
 
+// `rev` says that the corners go round clockwise, which is found once of each polygon, and no step to run: the order and the triangles of such a
+// polygon are its own turned back, and a closure for each of both would say that twice.
 fn place_of(rev: bool, n: usize, i: usize) -> u32
     requires { (n ≤ 2 ^ 31) × (i < n) }
     ensures { result ≡ place rev n i }
@@ -40,25 +42,15 @@ fn place_of(rev: bool, n: usize, i: usize) -> u32
     i as u32
 }
 
-// The working order of n corners.
-fn set_order(w: &mut [u32], n: usize, rev: bool)
-    requires { (n ≤ 2 ^ 31) × (n ≤ length w.old) }
-    ensures { take n w.new ≡ order rev n }
+// The working order of all corners.
+fn set_order(idx: &mut [u32], rev: bool)
+    requires { length idx.old ≤ 2 ^ 31 }
+    ensures { idx.new ≡ order rev (length idx.old) }
 {
+    let n = idx.len();
     for i in 0..n {
-        put(w, i, place_of(rev, n, i));
+        put(idx, i, place_of(rev, n, i));
     }
-}
-
-// The tables before the first ear: all corners are left, and nothing is known.
-fn start(w: &mut [u32], n: usize, rev: bool)
-    requires { (n ≤ 2 ^ 31) × (n * 2 ≤ length w.old) }
-    ensures { Fresh n rev w.new }
-{
-    let e = n * 2;
-    set_order(w, n, rev);
-    w[n..e].fill(1);
-    w[e..].fill(0);
 }
 
 fn area_of(p: &[f32], n: usize) -> f32
@@ -92,42 +84,48 @@ fn put_fan(idx: &[u32], out: &mut [u32], t: usize, rev: bool)
     }
 }
 
-// One ear: its triangle is written, and it is taken out of the order and is no longer left.
-fn cut(w: &mut [u32], n: usize, m: usize, i: usize, out: &mut [u32], t: usize, rev: bool)
-    requires { (i < m) × (m ≤ n) × (n ≤ 2 ^ 31) × (n * 2 ≤ length w.old) × (t < 2 ^ 31) }
-    ensures { Gone n m i w.old w.new
-        × (out.new ≡ sets out.old (t * 3) (flat (turn rev (corner (take m w.old) i) ∷ []))) }
+// One ear of the m corners in the order: its triangle is written, and it is taken out of the order and is no longer left.
+fn cut(s: &mut Search, order: &mut [u32], m: usize, i: usize, out: &mut [u32], t: usize, rev: bool)
+    requires { (i < m) × (m ≤ length order.old) × (t < 2 ^ 31) }
+    ensures { Gone m i order.old order.new s.old.left.now s.new.left.now × (s.new.memo.now ≡ s.old.memo.now) × (s.new.p ≡ s.old.p)
+        × (out.new ≡ sets out.old (t * 3) (flat (turn rev (corner (take m order.old) i) ∷ []))) }
 {
-    let q = corner_at(w, m, i);
+    let q = corner_at(&order[..m], i);
     put_tri(out, t, rev, q.a, q.b, q.c);
-    clear_flag(w, n, q.b);
-    take_out(&mut w[..m], i);
+    s.clear_flag(q.b);
+    take_out(&mut order[..m], i);
 }
 
-fn clip_all(p: &[f32], w: &mut [u32], n: usize, out: &mut [u32], rev: bool)
-    requires { (n ≤ 2 ^ 31) × (n * 2 ≤ length w.old) × Held (xy p.now) n n w.old }
-    ensures { out.new ≡ sets out.old 0 (flat (map (turn rev) (clip (xy p.now) (n * n) (take n w.old)))) }
+fn clip_all(s: &mut Search, order: &mut [u32], out: &mut [u32], rev: bool)
+    requires { (length order.old ≤ 2 ^ 31) × (length s.old.left.now ≤ 2 ^ 31) × Held (xy s.old.p.now) order.old s.old.left.now s.old.memo.now }
+    ensures { out.new ≡ sets out.old 0 (flat (map (turn rev) (clip (xy s.old.p.now) (length order.old * length order.old) order.old))) }
 {
+    let n = order.len();
     let mut m = n;
     for t in 0..n * n {
         if m <= 3 {
             break;
         }
-        let Some(i) = first_ear(p, w, n, m) else {
+        let Some(i) = s.first_ear(&order[..m]) else {
             break;
         };
-        cut(w, n, m, i, out, t, rev);
+        cut(s, order, m, i, out, t, rev);
         m -= 1;
     }
-    put_fan(&w[..m], out, n - m, rev);
+    put_fan(&order[..m], out, n - m, rev);
 }
 
-// The n - 2 triangles of the polygon whose coordinates are `p`, to the front of `out`. `w` is room to work in, five words a corner. (Fewer would do, and be slower.)
+// The n - 2 triangles of the polygon whose coordinates are `p`, to the front of `out`. `w` is room to work in, five words a corner: the working
+// order, and the two tables of the search. (Fewer would do, and be slower.)
 pub fn ear_clip(p: &[f32], n: usize, w: &mut [u32], out: &mut [u32])
     requires { (n ≤ 2 ^ 31) × (n * 2 ≤ length w.old) }
     ensures { out.new ≡ sets out.old 0 (flat (ear_clip_by (xy p.now) n)) }
 {
     let rev = area_of(p, n) < 0.0;
-    start(w, n, rev);
-    clip_all(p, w, n, out, rev);
+    let (order, rest) = w.split_at_mut(n);
+    let (left, memo) = rest.split_at_mut(n);
+    set_order(order, rev);
+    left.fill(1);
+    memo.fill(0);
+    clip_all(&mut Search { p, left, memo }, order, out, rev);
 }

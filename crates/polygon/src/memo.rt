@@ -1,10 +1,10 @@
 // FORMAT 12.3, ear_clip: whether a corner is an ear. What an earlier search found is kept, so that a corner is looked at anew only where its neighbours changed.
-ghost use Rattle.std.specs.Prelude.{◌≡◌, false, ◌&&◌, [], ◌∷◌, ℕ, ◌+◌, ◌-◌, ◌*◌, ◌%◌, ◌^◌, ◌≤◌, ◌<◌, eqb, length, get_or, take, set};
+ghost use Rattle.std.specs.Prelude.{◌≡◌, false, ◌&&◌, [], ◌∷◌, ℕ, ◌+◌, ◌-◌, ◌*◌, ◌%◌, ◌^◌, ◌≤◌, ◌<◌, eqb, length, get_or, set};
 ghost use Rattle.std.proofs.lemmas.List.Edits.{sets};
 ghost use Rattle.std.specs.Float.Ieee.{le};
 ghost use Rattle.lists.specs.Loops.{pick, first};
 ghost use Rattle.polygon.specs.Ears.{+0, triple, corner, cross2, point_in_tri, blocks, is_ear, first_ear};
-ghost use Rattle.polygon.specs.Memo.{xy, dot_of, spot_of, in_way, hits, Clear, Tells, ear_of, Known, Sound, entry, found, flags, kept, Searched};
+ghost use Rattle.polygon.specs.Memo.{xy, dot_of, spot_of, in_way, hits, Clear, Tells, ear_of, Known, Sound, entry, found, Searched};
 
 use lists::{get, get_or, put};
 
@@ -87,7 +87,7 @@ fn is_in_way(k: Dot, t: Triangle) -> bool
     in_tri(k, t)
 }
 
-// ---- what is kept of earlier searches: the working slice `w` holds the working order, then a word for each corner, 1 while it is left, then three words for each
+// ---- the corners that are left: a word for each, 1 while it is
 
 fn is_hit(p: &[f32], left: &[u32], k: usize, t: Triangle) -> bool
     requires { k < 2 ^ 31 }
@@ -217,66 +217,6 @@ fn other_hit(p: &[f32], left: &mut [u32], from: usize, q: Corner) -> Option<usiz
     k
 }
 
-// A word, not an enum: it is kept in the lent words.
-fn look(w: &[u32], n: usize, q: Corner) -> u32
-    requires { n ≤ 2 ^ 31 }
-    ensures { result ≡ entry (kept n w.now) q.a q.b q.c }
-{
-    let k = n * 2 + q.b as usize * 3;
-    if get(w, k) != q.a {
-        return 0;
-    }
-    if get(w, k + 1) != q.c {
-        return 0;
-    }
-    get(w, k + 2)
-}
-
-fn store(w: &mut [u32], n: usize, q: Corner, s: u32)
-    requires { n ≤ 2 ^ 31 }
-    ensures { w.new ≡ sets w.old (n + (n + q.b * 3)) (q.a ∷ q.c ∷ s ∷ []) }
-{
-    let k = n * 2 + q.b as usize * 3;
-    put(w, k, q.a);
-    put(w, k + 1, q.c);
-    put(w, k + 2, s);
-}
-
-// Whether q, which is convex, is an ear; no corner before `from` that is left lies in it.
-fn search(p: &[f32], w: &mut [u32], n: usize, q: Corner, from: usize) -> bool
-    requires { (n ≤ 2 ^ 31) × (n * 2 ≤ length w.old) × (from ≤ n) × (le (cross2 (xy p.now q.a) (xy p.now q.b) (xy p.now q.c)) +0 ≡ false)
-        × Clear (xy p.now) (flags n w.old) q.a q.b q.c from × Sound (xy p.now) (flags n w.old) (kept n w.old) }
-    ensures { (result ≡ ear_of (xy p.now) (flags n w.old) q.a q.b q.c) × Searched (xy p.now) n w.old w.new }
-{
-    let e = n * 2;
-    let Some(k) = other_hit(p, &mut w[n..e], from, q) else {
-        return true;
-    };
-    store(w, n, q, k as u32 + 2);
-    false
-}
-
-// Whether q, of which s is known, is an ear.
-fn decide(p: &[f32], w: &mut [u32], n: usize, q: Corner, s: u32) -> bool
-    requires { (n ≤ 2 ^ 31) × (n * 2 ≤ length w.old) × Known (xy p.now) (flags n w.old) q.a q.b q.c s × Sound (xy p.now) (flags n w.old) (kept n w.old) }
-    ensures { (result ≡ ear_of (xy p.now) (flags n w.old) q.a q.b q.c) × Searched (xy p.now) n w.old w.new }
-{
-    if s == 1 {
-        return false;
-    }
-    if s == 0 {
-        if is_bent(p, q) {
-            store(w, n, q, 1);
-            return false;
-        }
-        return search(p, w, n, q, 0);
-    }
-    if get(w, n + (s as usize - 2)) == 1 {
-        return false;
-    }
-    search(p, w, n, q, s as usize - 1)
-}
-
 fn place_before(m: usize, i: usize) -> usize
     requires { i < m }
     ensures { result ≡ (i + m - 1) % m }
@@ -297,46 +237,122 @@ fn place_after(m: usize, i: usize) -> usize
     i + 1
 }
 
-// The corner in the place i of the working order of m.
-pub fn corner_at(w: &[u32], m: usize, i: usize) -> Corner
-    requires { (i < m) × (m ≤ length w.now) }
-    ensures { triple result.a result.b result.c ≡ corner (take m w.now) i }
+// The corner in the place i of a working order.
+pub fn corner_at(order: &[u32], i: usize) -> Corner
+    requires { i < length order.now }
+    ensures { triple result.a result.b result.c ≡ corner order.now i }
 {
+    let m = order.len();
     Corner {
-        a: get(w, place_before(m, i)),
-        b: get(w, i),
-        c: get(w, place_after(m, i)),
+        a: get(order, place_before(m, i)),
+        b: get(order, i),
+        c: get(order, place_after(m, i)),
     }
 }
 
-fn is_ear(p: &[f32], w: &mut [u32], n: usize, m: usize, i: usize) -> bool
-    requires { (i < m) × (m ≤ n) × (n ≤ 2 ^ 31) × (n * 2 ≤ length w.old) × Tells (flags n w.old) (take m w.old) × Sound (xy p.now) (flags n w.old) (kept n w.old) }
-    ensures { (result ≡ is_ear (xy p.now) (take m w.old) i) × Searched (xy p.now) n w.old w.new }
-{
-    let q = corner_at(w, m, i);
-    let s = look(w, n, q);
-    decide(p, w, n, q, s)
+// What ears are looked for in: the coordinates of a polygon; a word for each corner, 1 while it is left; and three words for each of what an
+// earlier search found.
+#[derive(Drop)]
+pub struct Search<'p, 'w> {
+    pub p: &'p [f32],
+    pub left: &'w mut [u32],
+    pub memo: &'w mut [u32],
 }
 
-pub fn first_ear(p: &[f32], w: &mut [u32], n: usize, m: usize) -> Option<usize>
-    requires { (m ≤ n) × (n ≤ 2 ^ 31) × (n * 2 ≤ length w.old) × Tells (flags n w.old) (take m w.old) × Sound (xy p.now) (flags n w.old) (kept n w.old) }
-    ensures { (result ≡ found m (first_ear (xy p.now) (take m w.old))) × Searched (xy p.now) n w.old w.new }
-{
-    for i in 0..m {
-        if is_ear(p, w, n, m, i) {
-            return Some(i);
+impl<'p, 'w> Search<'p, 'w> {
+    // A word, not an enum: it is kept in the lent words.
+    fn look(&self, q: Corner) -> u32
+        ensures { result ≡ entry self.now.memo.now q.a q.b q.c }
+    {
+        let k = q.b as usize * 3;
+        if get(self.memo, k) != q.a {
+            return 0;
         }
+        if get(self.memo, k + 1) != q.c {
+            return 0;
+        }
+        get(self.memo, k + 2)
     }
-    None
-}
 
-// The corner b is no longer left.
-pub fn clear_flag(w: &mut [u32], n: usize, b: u32)
-    requires { n ≤ 2 ^ 31 }
-    ensures { (take n w.new ≡ take n w.old) × (flags n w.new ≡ set (flags n w.old) b 0) × (kept n w.new ≡ kept n w.old) }
-{
-    let j = b as usize;
-    if j < n {
-        put(w, n + j, 0);
+    fn flag_of(&self, k: usize) -> u32
+        ensures { result ≡ get_or self.now.left.now k 0 }
+    {
+        get(self.left, k)
+    }
+
+    fn store(&mut self, q: Corner, s: u32)
+        ensures { (self.new.memo.now ≡ sets self.old.memo.now (q.b * 3) (q.a ∷ q.c ∷ s ∷ [])) × (self.new.left.now ≡ self.old.left.now) × (self.new.p ≡ self.old.p) }
+    {
+        let k = q.b as usize * 3;
+        put(self.memo, k, q.a);
+        put(self.memo, k + 1, q.c);
+        put(self.memo, k + 2, s);
+    }
+
+    // Whether q, which is convex, is an ear; no corner before `from` that is left lies in it.
+    fn search(&mut self, q: Corner, from: usize) -> bool
+        requires { (length self.old.left.now ≤ 2 ^ 31) × (from ≤ length self.old.left.now) × (le (cross2 (xy self.old.p.now q.a) (xy self.old.p.now q.b) (xy self.old.p.now q.c)) +0 ≡ false)
+            × Clear (xy self.old.p.now) self.old.left.now q.a q.b q.c from × Sound (xy self.old.p.now) self.old.left.now self.old.memo.now }
+        ensures { (result ≡ ear_of (xy self.old.p.now) self.old.left.now q.a q.b q.c)
+            × Searched (xy self.old.p.now) self.old.left.now self.new.left.now self.new.memo.now × (self.new.p ≡ self.old.p) }
+    {
+        let Some(k) = other_hit(self.p, self.left, from, q) else {
+            return true;
+        };
+        self.store(q, k as u32 + 2);
+        false
+    }
+
+    // Whether q, of which s is known, is an ear.
+    fn decide(&mut self, q: Corner, s: u32) -> bool
+        requires { (length self.old.left.now ≤ 2 ^ 31) × Known (xy self.old.p.now) self.old.left.now q.a q.b q.c s × Sound (xy self.old.p.now) self.old.left.now self.old.memo.now }
+        ensures { (result ≡ ear_of (xy self.old.p.now) self.old.left.now q.a q.b q.c)
+            × Searched (xy self.old.p.now) self.old.left.now self.new.left.now self.new.memo.now × (self.new.p ≡ self.old.p) }
+    {
+        if s == 1 {
+            return false;
+        }
+        if s == 0 {
+            if is_bent(self.p, q) {
+                self.store(q, 1);
+                return false;
+            }
+            return self.search(q, 0);
+        }
+        if self.flag_of(s as usize - 2) == 1 {
+            return false;
+        }
+        self.search(q, s as usize - 1)
+    }
+
+    fn is_ear(&mut self, order: &[u32], i: usize) -> bool
+        requires { (i < length order.now) × (length self.old.left.now ≤ 2 ^ 31) × Tells self.old.left.now order.now × Sound (xy self.old.p.now) self.old.left.now self.old.memo.now }
+        ensures { (result ≡ is_ear (xy self.old.p.now) order.now i)
+            × Searched (xy self.old.p.now) self.old.left.now self.new.left.now self.new.memo.now × (self.new.p ≡ self.old.p) }
+    {
+        let q = corner_at(order, i);
+        let s = self.look(q);
+        self.decide(q, s)
+    }
+
+    // The place of the first ear in a working order.
+    pub fn first_ear(&mut self, order: &[u32]) -> Option<usize>
+        requires { (length self.old.left.now ≤ 2 ^ 31) × Tells self.old.left.now order.now × Sound (xy self.old.p.now) self.old.left.now self.old.memo.now }
+        ensures { (result ≡ found (length order.now) (first_ear (xy self.old.p.now) order.now))
+            × Searched (xy self.old.p.now) self.old.left.now self.new.left.now self.new.memo.now × (self.new.p ≡ self.old.p) }
+    {
+        for i in 0..order.len() {
+            if self.is_ear(order, i) {
+                return Some(i);
+            }
+        }
+        None
+    }
+
+    // The corner b is no longer left.
+    pub fn clear_flag(&mut self, b: u32)
+        ensures { (self.new.left.now ≡ set self.old.left.now b 0) × (self.new.memo.now ≡ self.old.memo.now) × (self.new.p ≡ self.old.p) }
+    {
+        put(self.left, b as usize, 0);
     }
 }

@@ -51,6 +51,7 @@ impl<'a> Iterator for Stretches<'a> {
 
     ghost remaining = { λ s. at_most (length s.list.now / 4 - s.start) };
 
+    // As of block::Runs: one iterator over both would have the part as a closure, with its own clause for each of these, to share seven lines.
     fn next(&mut self) -> Option<(usize, &'a [u8])> {
         let start = self.start;
         if start < self.list.len() / 4 {

@@ -1,10 +1,7 @@
 use Prim.Native.Nat.{◌^◌, ◌<◌}
 use native.Mathlib.Omega.{arith}
-use Rattle.math.proofs.Digits.{so_far_start, so_far_room, so_far_step, so_far_end}
+use Rattle.math.proofs.Digits.{so_far_room, so_far_step, so_far_end}
 use Rattle.math.proofs.square_root.int_root.Goals as goal
-
-pub loop-done-init : goal.loop-done-init
-loop-done-init c = so_far_start c.args.s (omega arith)
 
 pub next_digit-d-requires : goal.next_digit-d-requires
 next_digit-d-requires c = let h = so_far_room _ _ _ _ _ c.loop-done.invariant (omega (arith, c.loop-done-test.true)) in omega (arith, h)

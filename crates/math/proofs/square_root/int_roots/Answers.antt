@@ -1,11 +1,7 @@
 use Prim.Native.Nat.{◌^◌, ◌≤◌, ◌<◌}
 use native.Mathlib.Omega.{arith}
-use Rattle.math.proofs.Digits.{so_far_start, so_far_room, so_far_step, so_far_end}
+use Rattle.math.proofs.Digits.{so_far_room, so_far_step, so_far_end}
 use Rattle.math.proofs.square_root.int_roots.Goals as goal
-
-pub loop-turns-init : goal.loop-turns-init
-loop-turns-init c =
-    (so_far_start c.args.s.a (omega arith), so_far_start c.args.s.b (omega arith), so_far_start c.args.s.c (omega arith), so_far_start c.args.s.d (omega arith))
 
 pub next_digit-a-requires : goal.next_digit-a-requires
 next_digit-a-requires c = let h = so_far_room _ _ _ _ _ c.loop-turns.invariant.0 (omega (arith, c.loop-turns-test.true)) in omega (arith, h, c.loop-turns.invariant.0.small)
@@ -18,18 +14,6 @@ next_digit-c-requires c = let h = so_far_room _ _ _ _ _ c.loop-turns.invariant.2
 
 pub next_digit-d-requires : goal.next_digit-d-requires
 next_digit-d-requires c = let h = so_far_room _ _ _ _ _ c.loop-turns.invariant.3 (omega (arith, c.loop-turns-test.true)) in omega (arith, h, c.loop-turns.invariant.3.small)
-
-pub overflow_mul-rest : goal.overflow_mul-rest
-overflow_mul-rest c = omega arith
-
-pub overflow_mul-rest-in-loop-turns : goal.overflow_mul-rest-in-loop-turns
-overflow_mul-rest-in-loop-turns c = omega arith
-
-pub overflow_mul-rest-in-loop-turns-2 : goal.overflow_mul-rest-in-loop-turns-2
-overflow_mul-rest-in-loop-turns-2 c = omega arith
-
-pub overflow_mul-rest-in-loop-turns-3 : goal.overflow_mul-rest-in-loop-turns-3
-overflow_mul-rest-in-loop-turns-3 c = omega arith
 
 pub loop-turns-preserved : goal.loop-turns-preserved
 loop-turns-preserved c =

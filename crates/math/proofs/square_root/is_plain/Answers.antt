@@ -1,11 +1,7 @@
 use Rattle.math.specs.Digit.{plain}
-use Rattle.math.proofs.Sorts.{above_finite, positive_no_nan}
 use Rattle.math.proofs.square_root.is_plain.Goals as goal
 
 -- Each return is what `plain` is after the tests on its way.
-pub float_to_bits-result : goal.float_to_bits-result
-float_to_bits-result c = positive_no_nan c.args.x (above_finite c.args.x c.if-x.true c.if-x-2.true)
-
 pub returns-then-x-2 : goal.returns-then-x-2
 unfolding plain
 returns-then-x-2 c = rw (c.if-x.true, c.if-x-2.true)

@@ -14,9 +14,6 @@ small c = root_small c.args.g c.args.m c.requires.1 c.requires.2
 pub overflow_add-result-2 : goal.overflow_add-result-2
 overflow_add-result-2 c = omega (arith, root c, small c)
 
-pub overflow_add-result-3 : goal.overflow_add-result-3
-overflow_add-result-3 c = omega (arith, root c, small c)
-
 pub returns : goal.returns
 unfolding joined
 returns c = ap (λ (q : ℕ). (c.args.g / 2 + 51) * 2 ^ 23 + (q + 1) / 2) (root c)

@@ -4,13 +4,10 @@ use borrow.Author.Rules.{rules}
 use lib.Ieee.{binary32, of_bits, to_bits, div}
 use Rattle.math.proofs.Near.{rooted}
 use Rattle.math.proofs.Place.{root_bits_lt}
-use Rattle.math.proofs.Sorts.{above_finite, above_infinite, below_zero, neither, positive_no_nan, positive_in, positive_root, plain_pattern}
+use Rattle.math.proofs.Sorts.{above_finite, above_infinite, below_zero, neither, positive_in, positive_root, plain_pattern}
 use Rattle.math.proofs.square_root.root.Goals as goal
 
 -- The tests tell which case of `root_of` it is; a positive finite argument has bits that `root_bits` takes.
-pub float_to_bits-x : goal.float_to_bits-x
-float_to_bits-x c = positive_no_nan c.args.x (above_finite c.args.x c.if-x.true c.if-x-2.true)
-
 pub root_bits-requires : goal.root_bits-requires
 root_bits-requires c = positive_in c.args.x (above_finite c.args.x c.if-x.true c.if-x-2.true) (search rules)
 

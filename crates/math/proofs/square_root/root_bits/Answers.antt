@@ -1,34 +1,16 @@
 use mathlib.Core.Path.{◌∙◌}
 use native.Mathlib.Omega.{arith}
-use Rattle.math.proofs.Place.{lifted_small, lifted_pos, lifted_start, lifted_step, bits_low, bits_high}
+use Rattle.math.proofs.Place.{lifted_small, lifted_start, lifted_step, bits_low, bits_high}
 use Rattle.math.proofs.square_root.root_bits.Goals as goal
 
 pub loop-m-init : goal.loop-m-init
 loop-m-init c = lifted_start c.args.b c.requires.0 c.if-b-lt8388608.true
-
-pub overflow_mul-m : goal.overflow_mul-m
-overflow_mul-m c = omega arith
-
-pub overflow_sub-g : goal.overflow_sub-g
-overflow_sub-g c = omega (arith, lifted_pos _ _ _ c.loop-m.invariant c.loop-m-test.true)
-
-pub loop-m-smaller : goal.loop-m-smaller
-loop-m-smaller c = omega (arith, lifted_pos _ _ _ c.loop-m.invariant c.loop-m-test.true)
 
 pub loop-m-preserved : goal.loop-m-preserved
 loop-m-preserved c = lifted_step _ _ _ c.loop-m.invariant c.loop-m-test.true
 
 pub join_root-requires : goal.join_root-requires
 join_root-requires c = omega (arith, lifted_small _ _ _ c.loop-m.invariant)
-
-pub overflow_add-b : goal.overflow_add-b
-overflow_add-b c = omega arith
-
-pub overflow_add-b-else-b-lt8388608 : goal.overflow_add-b-else-b-lt8388608
-overflow_add-b-else-b-lt8388608 c = omega arith
-
-pub join_root-requires-else-b-lt8388608 : goal.join_root-requires-else-b-lt8388608
-join_root-requires-else-b-lt8388608 c = omega arith
 
 pub returns-after-loop-m : goal.returns-after-loop-m
 returns-after-loop-m c = c.join_root.ensures ∙ bits_low _ _ _ c.if-b-lt8388608.true c.loop-m.invariant c.loop-m-test.false

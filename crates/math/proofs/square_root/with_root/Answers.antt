@@ -10,20 +10,8 @@ use Rattle.math.proofs.square_root.with_root.Goals as goal
 small : (b : ℕ) → isqrt 25 (tall b) ≤ 33554430
 small b = root_small (b / 2 ^ 23 + 23) (b % 2 ^ 23 + 2 ^ 23) (omega arith) (omega arith)
 
-pub overflow_add-result : goal.overflow_add-result
-overflow_add-result c = omega arith
-
-pub overflow_add-result-2 : goal.overflow_add-result-2
-overflow_add-result-2 c = omega arith
-
-pub overflow_mul-result : goal.overflow_mul-result
-overflow_mul-result c = omega arith
-
 pub overflow_add-result-3 : goal.overflow_add-result-3
 overflow_add-result-3 c = omega (arith, small c.args.b, c.requires.1)
-
-pub overflow_add-result-4 : goal.overflow_add-result-4
-overflow_add-result-4 c = omega (arith, small c.args.b, c.requires.1)
 
 pub returns : goal.returns
 unfolding joined

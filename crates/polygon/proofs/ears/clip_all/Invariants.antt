@@ -1,13 +1,14 @@
 use mathlib.Core.List.{map}
 use mathlib.Core.Path.{◌≡◌}
-use Prim.Native.Nat.{◌+◌, ◌-◌, ◌*◌}
-use lib.ListN.{take}
+use Prim.Native.Nat.{◌+◌, ◌-◌, ◌*◌, ◌^◌, ◌≤◌}
+use lib.ListN.{length, take}
 use lib.Seq.{sets}
 use Rattle.polygon.specs.Ears.{flat, turn, clip}
 use Rattle.polygon.specs.Memo.{xy, Held}
 use Rattle.polygon.proofs.ears.clip_all.Given as goal
 
 abbrev pub invariant-loop-t : goal.invariant-loop-t
-invariant-loop-t l = (l.t + l.m ≡ l.n)
-    × (sets l.out (l.t * 3) (flat (map (turn l.rev) (clip (xy l.p) (l.n * l.n - l.t) (take l.m l.w)))) ≡ sets l.initial.out 0 (flat (map (turn l.rev) (clip (xy l.p) (l.n * l.n) (take l.n l.initial.w)))))
-    × Held (xy l.p) l.n l.m l.w
+invariant-loop-t l = (l.t + l.m ≡ length l.initial.order)
+    × (sets l.out (l.t * 3) (flat (map (turn l.rev) (clip (xy l.initial.s.p.now) (length l.initial.order * length l.initial.order - l.t) (take l.m l.order))))
+    ≡ sets l.initial.out 0 (flat (map (turn l.rev) (clip (xy l.initial.s.p.now) (length l.initial.order * length l.initial.order) l.initial.order))))
+    × Held (xy l.initial.s.p.now) (take l.m l.order) l.s.left.now l.s.memo.now × (l.s.p ≡ l.initial.s.p) × (length l.s.left.now ≤ 2 ^ 31)

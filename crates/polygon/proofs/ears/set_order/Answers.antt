@@ -1,9 +1,8 @@
-use mathlib.Core.List.{List}
 use mathlib.Core.Path.{sym, ap, ◌∙◌}
-use Prim.Native.Nat.{ℕ}
 use native.Mathlib.Nat.{sub-zero}
 use native.Mathlib.Omega.{arith}
-use lib.ListN.{take}
+use lib.ListN.{length, take}
+use lib.Seq.{take_all}
 use Rattle.polygon.specs.Ears.{order}
 use Rattle.polygon.proofs.Count.{length_order}
 use Rattle.lists.proofs.Loops.{tab_go, tab_end}
@@ -19,4 +18,6 @@ loop-i-preserved c =
     rw (c.put.ensures, c.place_of.ensures) (sym (tab_go _ _ _ _ c.loop-i-test.true) ∙ c.loop-i.invariant)
 
 pub returns : goal.returns
-returns c = ap (λ (l : List ℕ). take c.args.n l) (sym (tab_end _ _ _ _ c.loop-i-test.false) ∙ c.loop-i.invariant) ∙ take_sets c.args.w.now _ c.args.n (length_order _ _) (omega arith)
+returns c =
+    let n = length c.args.idx.now in
+    sym (take_all n c.loop-i.idx (omega arith)) ∙ ap (take n) (sym (tab_end _ _ _ _ c.loop-i-test.false) ∙ c.loop-i.invariant) ∙ take_sets c.args.idx.now _ n (length_order _ _) (omega arith)
