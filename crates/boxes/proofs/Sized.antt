@@ -12,8 +12,8 @@ use Rattle.lists.proofs.Lists.{All_by, All_flat}
 use Rattle.math.specs.declared.vector.V3.{V3}
 use Rattle.parts.specs.declared.builder.Builder.{Builder}
 use Rattle.parts.specs.declared.vert.Vert.{Vert}
-use Rattle.parts.specs.Building.{Room, Pushes, Roomy, Writes}
-use Rattle.parts.specs.Written.{Sized}
+use Rattle.parts.specs.Building.{Room, Pushes}
+use Rattle.parts.specs.Written.{Sized, Written, Roomy}
 use Rattle.parts.proofs.Pushing.{room_less}
 use Rattle.parts.proofs.Building.{writes_both}
 use Rattle.boxes.specs.Box.{half_size, box_face, box_tris, box_part, box_of}
@@ -58,6 +58,6 @@ module _ (size : V3) {b : Builder} where
 
   -- with h as half the size
   pub box_written : {h : V3} {b' : Builder} {l : List ℕ} → h ≡ half_size size → Pushes 0 (flat (tab (box_face h) 6 0)) b b' → l ≡ spliced b'.indices.now 0 (flat (tab box_tris 6 0))
-      → Writes (box_of size) 0 0 b (record b' { indices = set_vals l b'.indices })
+      → Written (box_of size) 0 0 b (record b' { indices = set_vals l b'.indices })
   unfolding box_of box_part
   box_written {b' = b'} eh P el = writes_both (subst (λ (h : V3). Pushes 0 (flat (tab (box_face h) 6 0)) b b') eh P) el

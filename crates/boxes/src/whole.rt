@@ -39,6 +39,7 @@ fn half_size(size: V3) -> V3
 }
 
 // The mesh of a box, into the lent slices; or a refusal, and every lent element as it was.
+// The slices one by one, as C hands them.
 pub fn box_prim(
     size: V3,
     ctx: GeomCtx,

@@ -16,8 +16,7 @@ use Rattle.parts.specs.Ring.{share_of}
 use Rattle.parts.specs.Sizes.{dim_of, held_to, sum_of, sizes_where}
 use Rattle.parts.specs.Part.{Part}
 use Rattle.parts.specs.Cap.{cap_at, cap_part, cap_sizes, Numbered}
-use Rattle.parts.specs.Written.{Sized}
-use Rattle.parts.specs.Building.{Roomy, Writes}
+use Rattle.parts.specs.Written.{Sized, Written, Roomy}
 use Rattle.parts.proofs.Capping.{cap_sized}
 use Rattle.parts.proofs.Holding.{held_between}
 use Rattle.parts.proofs.Parting.{where_sized, room_there, Small, where_small, cap_small, sized_followed, roomy_first, roomy_next, written_followed}
@@ -104,12 +103,12 @@ module _ (ps : List Float) (r h : Float) (n : ℕ) (side bottom : Bool) {m : Con
     unfolding cone_part cone_side_at
     side_room = room_there (cone_side ps r h n) (roomy_first D Z₁ R)
 
-    module _ {b₁ : Builder} (W₁ : Writes S 0 0 b₀ b₁) where
+    module _ {b₁ : Builder} (W₁ : Written S 0 0 b₀ b₁) where
       pub lower_room : bottom ≡ true → Roomy (cap_part ps lower) lower.first m.bottom.indices b₁
       unfolding cone_part cap_at
       lower_room = room_there (cap_part ps lower) (roomy_next D Z₁ R W₁)
 
-      pub all_written : {b₂ : Builder} → Writes (D m.bottom.vertices m.bottom.pairs) m.bottom.vertices m.bottom.indices b₁ b₂ → Writes (cone_part ps r h n side bottom) 0 0 b₀ b₂
+      pub all_written : {b₂ : Builder} → Written (D m.bottom.vertices m.bottom.pairs) m.bottom.vertices m.bottom.indices b₁ b₂ → Written (cone_part ps r h n side bottom) 0 0 b₀ b₂
       unfolding cone_part
       all_written W = written_followed D Z₁ R W₁ W
 

@@ -2,7 +2,7 @@
 ghost use Rattle.std.specs.Prelude.{◌≡◌, List, ℕ, ◌+◌, ◌*◌, ◌≤◌, ◌<◌, IfSome, MatchOption, Float};
 ghost use Rattle.math.specs.Vector.{y_axis, unit_of};
 ghost use Rattle.mesh.specs.Normals.{or_else};
-ghost use Rattle.parts.specs.Building.{Roomy, Writes};
+ghost use Rattle.parts.specs.Written.{Roomy, Written};
 ghost use Rattle.cone.specs.Roots.{Roots};
 ghost use Rattle.cone.specs.Cone.{cone_normal, cone_foot, cone_apex, cone_verts, cone_tri, cone_side};
 
@@ -168,7 +168,7 @@ fn cone_tri(i: usize) -> [u32; 3]
 // The whole side.
 fn put_side(pairs: &[f32], k: Side, b: &mut Builder<'_>)
     requires { (k.n ≤ 1024) × Roomy (cone_side pairs.now k.r k.height k.n) 0 0 b.old }
-    ensures { Writes (cone_side pairs.now k.r k.height k.n) 0 0 b.old b.new }
+    ensures { Written (cone_side pairs.now k.r k.height k.n) 0 0 b.old b.new }
 {
     let known = lengths_near(k.r, k.height);
     b.put_verts(
@@ -182,10 +182,10 @@ fn put_side(pairs: &[f32], k: Side, b: &mut Builder<'_>)
     put_words(b.indices, 0, k.n, cone_tri);
 }
 
-// The side, if there is one.
+// The side, if there is one. As in cylinder: one function of both would take the vertices, the triangles and their numbers as closures.
 pub fn put_side_at(pairs: &[f32], side: Option<Side>, b: &mut Builder<'_>)
     requires { IfSome side (λ k. (k.n ≤ 1024) × Roomy (cone_side pairs.now k.r k.height k.n) 0 0 b.old) }
-    ensures { MatchOption side (b.new ≡ b.old) (λ k. Writes (cone_side pairs.now k.r k.height k.n) 0 0 b.old b.new) }
+    ensures { MatchOption side (b.new ≡ b.old) (λ k. Written (cone_side pairs.now k.r k.height k.n) 0 0 b.old b.new) }
 {
     if let Some(k) = side {
         put_side(pairs, k, b);

@@ -1,7 +1,7 @@
 // FORMAT 17.9, 17.10: the call of a cone.
 ghost use Rattle.std.specs.Prelude.{◌≤◌, ◌≡◌};
 ghost use Rattle.parts.specs.Parted.{Parted, lent_to};
-ghost use Rattle.parts.specs.Building.{Roomy, Writes};
+ghost use Rattle.parts.specs.Written.{Roomy, Written};
 ghost use Rattle.cone.specs.Cone.{cone_side_sizes, cone_marks_of, cone_part, cone_of};
 
 use crate::side::{Side, put_side_at};
@@ -30,6 +30,7 @@ pub struct ConeMarks {
     pub all: PartSizes,
 }
 
+// The flags are the fields of the node, as the call has them; below each becomes an Option with its value.
 fn marks_of(n: usize, side: bool, bottom: bool) -> ConeMarks
     requires { n ≤ 1024 }
     ensures { result ≡ cone_marks_of n side bottom }
@@ -42,7 +43,7 @@ fn marks_of(n: usize, side: bool, bottom: bool) -> ConeMarks
 // The side and the bottom, each where it is there, one after the other.
 fn put_cone(pairs: &[f32], k: Side, side: bool, bottom: bool, m: ConeMarks, b: &mut Builder<'_>)
     requires { (k.n ≤ 1024) × (m ≡ cone_marks_of k.n side bottom) × Roomy (cone_part pairs.now k.r k.height k.n side bottom) 0 0 b.old }
-    ensures { Writes (cone_part pairs.now k.r k.height k.n side bottom) 0 0 b.old b.new }
+    ensures { Written (cone_part pairs.now k.r k.height k.n side bottom) 0 0 b.old b.new }
 {
     put_side_at(pairs, side.then_some(k), b);
     let lower = Cap {
@@ -57,6 +58,7 @@ fn put_cone(pairs: &[f32], k: Side, side: bool, bottom: bool, m: ConeMarks, b: &
 }
 
 // The mesh of a cone, into the lent slices; or a refusal, and every lent element as it was.
+// The slices one by one, as C hands them.
 pub fn cone(
     radius: f32,
     height: f32,

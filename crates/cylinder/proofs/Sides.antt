@@ -14,8 +14,7 @@ use Rattle.parts.specs.declared.builder.Builder.{Builder}
 use Rattle.parts.specs.Sizes.{dim_of, held_to, sum_of, sizes_where}
 use Rattle.parts.specs.Part.{Part, followed}
 use Rattle.parts.specs.Cap.{cap_at, cap_part, cap_sizes, Numbered}
-use Rattle.parts.specs.Written.{Sized}
-use Rattle.parts.specs.Building.{Roomy, Writes}
+use Rattle.parts.specs.Written.{Sized, Written, Roomy}
 use Rattle.parts.proofs.Capping.{cap_sized}
 use Rattle.parts.proofs.Holding.{held_between}
 use Rattle.parts.proofs.Parting.{where_sized, room_there, Small, where_small, cap_small, sum_small, sized_followed, roomy_first, roomy_next, written_followed}
@@ -128,20 +127,20 @@ module _ (ps : List Float) (r h : Float) (n : ℕ) where
       unfolding side_at
       side_room = room_there (side_part ps r h n) (roomy_first (U top) Z₀ R₂)
 
-      module _ {b₁ : Builder} (W₁ : Writes (S side) 0 0 b₀ b₁) where
+      module _ {b₁ : Builder} (W₁ : Written (S side) 0 0 b₀ b₁) where
         pub upper_room : top ≡ true → Roomy (cap_part ps upper) upper.first m.top.indices b₁
         unfolding cap_at
         upper_room = room_there (cap_part ps upper) (roomy_next (U top) Z₀ R₂ W₁)
 
-        module _ {b₂ : Builder} (W₂ : Writes (U top m.top.vertices m.top.pairs) m.top.vertices m.top.indices b₁ b₂) where
-          W₃ : Writes (followed (S side) (U top)) 0 0 b₀ b₂
+        module _ {b₂ : Builder} (W₂ : Written (U top m.top.vertices m.top.pairs) m.top.vertices m.top.indices b₁ b₂) where
+          W₃ : Written (followed (S side) (U top)) 0 0 b₀ b₂
           W₃ = written_followed (U top) Z₀ R₂ W₁ W₂
 
           pub lower_room : bottom ≡ true → Roomy (cap_part ps lower) lower.first m.bottom.indices b₂
           unfolding cylinder_part cap_at
           lower_room = room_there (cap_part ps lower) (roomy_next (D bottom) Z₂ R W₃)
 
-          pub all_written : {b₃ : Builder} → Writes (D bottom m.bottom.vertices m.bottom.pairs) m.bottom.vertices m.bottom.indices b₂ b₃ → Writes (cylinder_part ps r h n side top bottom) 0 0 b₀ b₃
+          pub all_written : {b₃ : Builder} → Written (D bottom m.bottom.vertices m.bottom.pairs) m.bottom.vertices m.bottom.indices b₂ b₃ → Written (cylinder_part ps r h n side top bottom) 0 0 b₀ b₃
           unfolding cylinder_part
           all_written W = written_followed (D bottom) Z₂ R W₃ W
 

@@ -1,6 +1,6 @@
 // FORMAT 17.8, cylinder (side): two vertices at each pair, two triangles a slice.
 ghost use Rattle.std.specs.Prelude.{◌≡◌, ◌+◌, ◌*◌, ◌≤◌, ◌<◌, IfSome, MatchOption};
-ghost use Rattle.parts.specs.Building.{Roomy, Writes};
+ghost use Rattle.parts.specs.Written.{Roomy, Written};
 ghost use Rattle.cylinder.specs.Cylinder.{side_vert, side_verts, side_tris, side_part};
 
 use block::Pair;
@@ -65,7 +65,7 @@ fn side_tris(i: usize) -> [u32; 6]
 // The whole side.
 fn put_side(pairs: &[f32], k: Side, b: &mut Builder<'_>)
     requires { (k.n ≤ 1024) × Roomy (side_part pairs.now k.r k.h k.n) 0 0 b.old }
-    ensures { Writes (side_part pairs.now k.r k.h k.n) 0 0 b.old b.new }
+    ensures { Written (side_part pairs.now k.r k.h k.n) 0 0 b.old b.new }
 {
     b.put_verts(
         0,
@@ -78,10 +78,10 @@ fn put_side(pairs: &[f32], k: Side, b: &mut Builder<'_>)
     put_words(b.indices, 0, k.n, side_tris);
 }
 
-// The side, if there is one.
+// The side, if there is one. As in cone: one function of both would take the vertices, the triangles and their numbers as closures.
 pub fn put_side_at(pairs: &[f32], side: Option<Side>, b: &mut Builder<'_>)
     requires { IfSome side (λ k. (k.n ≤ 1024) × Roomy (side_part pairs.now k.r k.h k.n) 0 0 b.old) }
-    ensures { MatchOption side (b.new ≡ b.old) (λ k. Writes (side_part pairs.now k.r k.h k.n) 0 0 b.old b.new) }
+    ensures { MatchOption side (b.new ≡ b.old) (λ k. Written (side_part pairs.now k.r k.h k.n) 0 0 b.old b.new) }
 {
     if let Some(k) = side {
         put_side(pairs, k, b);

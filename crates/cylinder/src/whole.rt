@@ -1,7 +1,7 @@
 // FORMAT 17.8, 17.10: the call of a cylinder.
 ghost use Rattle.std.specs.Prelude.{◌≤◌, ◌≡◌};
 ghost use Rattle.parts.specs.Parted.{Parted, lent_to};
-ghost use Rattle.parts.specs.Building.{Roomy, Writes};
+ghost use Rattle.parts.specs.Written.{Roomy, Written};
 ghost use Rattle.cylinder.specs.Cylinder.{side_sizes, marks_of, cylinder_part, cylinder_of};
 
 use crate::side::{Side, put_side_at};
@@ -31,6 +31,7 @@ pub struct Marks {
     pub all: PartSizes,
 }
 
+// The flags are the fields of the node, as the call has them; below each becomes an Option with its value.
 fn marks_of(n: usize, side: bool, top: bool, bottom: bool) -> Marks
     requires { n ≤ 1024 }
     ensures { result ≡ marks_of n side top bottom }
@@ -56,7 +57,7 @@ fn put_cylinder(
     b: &mut Builder<'_>,
 )
     requires { (k.n ≤ 1024) × (m ≡ marks_of k.n side top bottom) × Roomy (cylinder_part pairs.now k.r k.h k.n side top bottom) 0 0 b.old }
-    ensures { Writes (cylinder_part pairs.now k.r k.h k.n side top bottom) 0 0 b.old b.new }
+    ensures { Written (cylinder_part pairs.now k.r k.h k.n side top bottom) 0 0 b.old b.new }
 {
     put_side_at(pairs, side.then_some(k), b);
     let upper = Cap {
@@ -80,6 +81,7 @@ fn put_cylinder(
 }
 
 // The mesh of a cylinder, into the lent slices; or a refusal, and every lent element as it was.
+// The slices one by one, as C hands them.
 pub fn cylinder(
     radius: f32,
     height: f32,

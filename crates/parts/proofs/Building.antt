@@ -11,7 +11,8 @@ use Rattle.lists.proofs.Pieces.{flat_more, length_pieces}
 use borrow.Rule.Slice.Mut.{set_vals}
 use Rattle.parts.specs.declared.builder.Builder.{Builder}
 use Rattle.parts.specs.declared.vert.Vert.{Vert}
-use Rattle.parts.specs.Building.{streams_in, Kept, Room, Pushes, Writes}
+use Rattle.parts.specs.Building.{streams_in, Kept, Room, Pushes}
+use Rattle.parts.specs.Written.{Written}
 use Rattle.lists.specs.Parts.{spliced}
 use Rattle.lists.proofs.Splices.{splice_start}
 use Rattle.parts.specs.Part.{Part, no_part}
@@ -72,11 +73,11 @@ module _ {k n w i a : ℕ} (F : ℕ → List Vert) (wide : (t : ℕ) → length 
 
 -- ---- parts
 
-pub writes_none : (k a : ℕ) (b : Builder) → Writes no_part k a b b
+pub writes_none : (k a : ℕ) (b : Builder) → Written no_part k a b b
 writes_none k a b = record { kept = kept_same; streams = pushed_none b.ctx k (streams_in b); places = splice_start b.indices.now a }
 
 -- its vertices, and then its indices
-pub writes_both : {p : Part} {k a : ℕ} {b b' : Builder} {i : List ℕ} → Pushes k p.verts b b' → i ≡ spliced b'.indices.now a p.indices → Writes p k a b (record b' { indices = set_vals i b'.indices })
+pub writes_both : {p : Part} {k a : ℕ} {b b' : Builder} {i : List ℕ} → Pushes k p.verts b b' → i ≡ spliced b'.indices.now a p.indices → Written p k a b (record b' { indices = set_vals i b'.indices })
 writes_both {p} {k} {a} {b} {b'} P e = record {
   kept = record { ctx = P.kept.ctx; positions = P.kept.positions; normals = P.kept.normals; textures = P.kept.textures; indices = P.kept.indices };
   streams = P.streams;

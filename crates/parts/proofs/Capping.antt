@@ -12,13 +12,12 @@ use Rattle.lists.proofs.Tabs.{length_tab}
 use Rattle.parts.specs.declared.builder.Builder.{Builder}
 use Rattle.parts.specs.declared.cap.Cap.{Cap}
 use Rattle.parts.specs.declared.vert.Vert.{Vert}
-use Rattle.parts.specs.Building.{Room, Pushes, Roomy, Writes}
+use Rattle.parts.specs.Building.{Room, Pushes}
 use Rattle.parts.specs.Sizes.{sizes_where}
-use Rattle.parts.specs.Part.{Part, no_part}
 use Rattle.parts.specs.Cap.{cap_centre, cap_vert, cap_verts, cap_tri, cap_indices, cap_part, cap_at, cap_sizes}
-use Rattle.parts.specs.Written.{Sized}
+use Rattle.parts.specs.Written.{Sized, Roomy}
 use Rattle.parts.proofs.Pushing.{room_less}
-use Rattle.parts.proofs.Building.{room_after, pushes_on, writes_none}
+use Rattle.parts.proofs.Building.{room_after, pushes_on}
 
 either : (b : Bool) (x y : List ℕ) → length x ≡ length y → length (cond b x y) ≡ length x
 either true x y e = refl

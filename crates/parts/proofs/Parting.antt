@@ -29,8 +29,8 @@ use Rattle.parts.specs.Sizes.{is_short_texture, is_short_part, report_of, sum_of
 use Rattle.parts.specs.Part.{Part, no_part, followed, finite_ctx, textures_of, part_mesh}
 use Rattle.parts.specs.Pushed.{position_words, normal_words, texture_words, texture_width, pushed, RoomFor}
 use Rattle.parts.specs.Cap.{cap_sizes}
-use Rattle.parts.specs.Written.{Sized}
-use Rattle.parts.specs.Building.{streams_in, Roomy, Writes}
+use Rattle.parts.specs.Building.{streams_in}
+use Rattle.parts.specs.Written.{Sized, Written, Roomy}
 use Rattle.parts.specs.Parted.{is_short_for, made_for, part_rows, part_number, part_result, Parted, lent_to}
 use Rattle.parts.proofs.Pushing.{positions_length, normals_length, textures_length, room_less, pushed_more, next_room}
 use Rattle.parts.proofs.Building.{kept_on, writes_none}
@@ -58,12 +58,12 @@ module _ {T : Type 0} (w : Bool) (x : T) {o : Option T} (e : o ≡ then_some w x
       go true f = f refl
       go false f = tt
 
-  pub written_there : (P : T → Part) (K : T → ℕ) {a : ℕ} {b b' : Builder} → MatchOption o (b' ≡ b) (λ y. Writes (P y) (K y) a b b') → Writes (cond w (P x) no_part) (K x) a b b'
+  pub written_there : (P : T → Part) (K : T → ℕ) {a : ℕ} {b b' : Builder} → MatchOption o (b' ≡ b) (λ y. Written (P y) (K y) a b b') → Written (cond w (P x) no_part) (K x) a b b'
   written_there P K {a} {b} {b'} W = go w (rw e at W)
     where
-      go : (w : Bool) → MatchOption (then_some w x) (b' ≡ b) (λ y. Writes (P y) (K y) a b b') → Writes (cond w (P x) no_part) (K x) a b b'
+      go : (w : Bool) → MatchOption (then_some w x) (b' ≡ b) (λ y. Written (P y) (K y) a b b') → Written (cond w (P x) no_part) (K x) a b b'
       go true W = W
-      go false q = subst (λ (d : Builder). Writes no_part (K x) a b d) (sym q) (writes_none (K x) a b)
+      go false q = subst (λ (d : Builder). Written no_part (K x) a b d) (sym q) (writes_none (K x) a b)
 
 pub room_there : (p : Part) {w : Bool} {k a : ℕ} {b : Builder} → Roomy (cond w p no_part) k a b → w ≡ true → Roomy p k a b
 room_there p R e = rw e at R
@@ -111,8 +111,8 @@ module _ {p q : Part} (e : p ≡ q) where
     pub roomy_as : Roomy q k a b → Roomy p k a b
     roomy_as R = subst (λ (x : Part). Roomy x k a b) (sym e) R
 
-    pub written_as : {b' : Builder} → Writes p k a b b' → Writes q k a b b'
-    written_as {b'} W = subst (λ (x : Part). Writes x k a b b') e W
+    pub written_as : {b' : Builder} → Written p k a b b' → Written q k a b b'
+    written_as {b'} W = subst (λ (x : Part). Written x k a b b') e W
 
 -- ---- a part and the next
 
@@ -145,7 +145,7 @@ module _ {p : Part} (f : ℕ → ℕ → Part) {a : PartSizes} (Z : Sized p a) w
     pub roomy_first : Roomy p 0 0 b
     roomy_first = record { vertices = room_less b.ctx (omega (arith, total_verts)) R.vertices; places = omega (arith, total_indices, R.places) }
 
-    module _ {b' : Builder} (W : Writes p 0 0 b b') where
+    module _ {b' : Builder} (W : Written p 0 0 b b') where
       same_places : length b'.indices.now ≡ length b.indices.now
       same_places = put_size b.indices.now 0 p.indices W.places refl (omega (arith, roomy_first.places))
 
@@ -155,10 +155,10 @@ module _ {p : Part} (f : ℕ → ℕ → Part) {a : PartSizes} (Z : Sized p a) w
           let q : Roomy next (length p.verts) (length p.indices) b' = record { vertices = rw W.kept.ctx r; places = omega (arith, total_indices, same_places, R.places) } in
           rw (at_sizes, Z.vertices, Z.indices) q
 
-      pub written_followed : {b'' : Builder} → Writes (f a.vertices a.pairs) a.vertices a.indices b' b'' → Writes (followed p f) 0 0 b b''
+      pub written_followed : {b'' : Builder} → Written (f a.vertices a.pairs) a.vertices a.indices b' b'' → Written (followed p f) 0 0 b b''
       unfolding followed
       written_followed {b''} X =
-          let U : Writes next (length p.verts) (length p.indices) b' b'' = rw (at_sizes, Z.vertices, Z.indices) at X in
+          let U : Written next (length p.verts) (length p.indices) b' b'' = rw (at_sizes, Z.vertices, Z.indices) at X in
           let r : RoomFor b.ctx (0 + length p.verts + length next.verts) (streams_in b) = room_less b.ctx (omega (arith, total_verts)) R.vertices in
           record {
             kept = kept_on W.kept U.kept;
@@ -252,7 +252,7 @@ module _ (c : GeomCtx) (ps : List Float) (p : Part) (b : Builder) {z : PartSizes
     unfolding spliced
     over_is l m a x e q = q ∙ (λ j. take (e j) l ++ x ++ drop (e j + length x) l) ∙ ap (λ (k : ℕ). x ++ drop k l) (zero-add (length x))
 
-    made_parted : {b' : Builder} → Writes p 0 0 b b' → Parted c ps p lent (lent_to b'.positions.now b'.normals.now b'.textures.now b'.indices.now) (Ok (report_of z))
+    made_parted : {b' : Builder} → Written p 0 0 b b' → Parted c ps p lent (lent_to b'.positions.now b'.normals.now b'.textures.now b'.indices.now) (Ok (report_of z))
     unfolding part_result report_of made_for slices_of part_mesh pushed flat
     made_parted {b'} W =
         let s : streams_in b' ≡ pushed (finite_ctx c) 0 p.verts (streams_in b) = W.streams ∙ ap (λ (x : GeomCtx). pushed x 0 p.verts (streams_in b)) ec in
@@ -269,6 +269,6 @@ module _ (c : GeomCtx) (ps : List Float) (p : Part) (b : Builder) {z : PartSizes
         }
 
     -- the caller's slices hold what b' held at the end
-    pub call_made : {b' : Builder} {x y t i : List ℕ} {r : Report} → Writes p 0 0 b b' → r ≡ report_of z → x ≡ b'.positions.now → y ≡ b'.normals.now → t ≡ b'.textures.now → i ≡ b'.indices.now
+    pub call_made : {b' : Builder} {x y t i : List ℕ} {r : Report} → Written p 0 0 b b' → r ≡ report_of z → x ≡ b'.positions.now → y ≡ b'.normals.now → t ≡ b'.textures.now → i ≡ b'.indices.now
         → Parted c ps p lent (lent_to x y t i) (Ok r)
     call_made W er ex ey et ei = rw (er, ex, ey, et, ei) (made_parted W)

@@ -2,16 +2,14 @@
 use mathlib.Core.Path.{◌≡◌, refl, sym, ap, ◌∙◌}
 use mathlib.Core.Bool.{Bool, true, false, cond}
 use mathlib.Core.List.{List, [], ◌∷◌, ◌++◌, map, map-append}
-use Prim.Native.Nat.{ℕ, ◌+◌, ◌*◌, ◌≤◌, ◌<◌}
+use Prim.Native.Nat.{ℕ, ◌+◌, ◌*◌, ◌≤◌}
 use native.Mathlib.Nat.{mul-add, mul-le-mul_left, zero-mul}
 use native.Mathlib.Omega.{arith}
 use lib.ListN.{length, length-map}
 use Rattle.lists.specs.Lists.{flat}
-use Rattle.lists.specs.Loops.{tab}
 use Rattle.lists.specs.Parts.{spliced}
-use Rattle.lists.proofs.Numbers.{piece_room}
 use Rattle.lists.proofs.Lists.{length_words}
-use Rattle.lists.proofs.Pieces.{flat_append, flat_more, length_pieces}
+use Rattle.lists.proofs.Pieces.{flat_append}
 use Rattle.lists.proofs.Splices.{splice_start, splice_more, put_size}
 use Rattle.bits.specs.declared.Words2.{Words2}
 use Rattle.mesh.specs.Words.{words2, words3, bits}

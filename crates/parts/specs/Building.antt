@@ -1,9 +1,7 @@
--- FORMAT 17.4, Builder: the lent slices of a part as they are written. A `&mut` to a builder keeps the caller's slices in it, which their ghost names say.
-use Rattle.std.specs.Prelude.{◌≡◌, List, ℕ, ◌+◌, ◌≤◌, length}
-use Rattle.lists.specs.Parts.{spliced}
+-- FORMAT 17.4, Builder: the vertices that it writes, and that it keeps the slices of its caller, which their ghost names say. For the proofs of the parts.
+use Rattle.std.specs.Prelude.{◌≡◌, List, ℕ}
 use Rattle.parts.specs.declared.builder.Builder.{Builder}
 use Rattle.parts.specs.declared.vert.Vert.{Vert}
-use Rattle.parts.specs.Part.{Part}
 use Rattle.parts.specs.Pushed.{Streams, streams_of, pushed, RoomFor}
 
 -- what its slices hold
@@ -27,14 +25,3 @@ pub record Pushes (k : ℕ) (vs : List Vert) (b₀ b : Builder) : Type 0 where
   pub kept : Kept b₀ b
   pub streams : streams_in b ≡ pushed b₀.ctx k vs (streams_in b₀)
   pub indices : b.indices.now ≡ b₀.indices.now
-
--- there is room for p from vertex k and place a on
-pub record Roomy (p : Part) (k a : ℕ) (b : Builder) : Type 0 where
-  pub vertices : Room (k + length p.verts) b
-  pub places : a + length p.indices ≤ length b.indices.now
-
--- p stands there: b, which was b₀, holds its vertices from k and its indices from a on, and else what it held
-pub record Writes (p : Part) (k a : ℕ) (b₀ b : Builder) : Type 0 where
-  pub kept : Kept b₀ b
-  pub streams : streams_in b ≡ pushed b₀.ctx k p.verts (streams_in b₀)
-  pub places : b.indices.now ≡ spliced b₀.indices.now a p.indices

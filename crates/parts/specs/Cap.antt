@@ -9,11 +9,9 @@ use Rattle.lists.specs.Lists.{flat}
 use Rattle.lists.specs.Loops.{tab}
 use Rattle.parts.specs.declared.cap.Cap.{Cap}
 use Rattle.parts.specs.declared.sizes.PartSizes.{PartSizes}
-use Rattle.parts.specs.declared.vert.GeomCtx.{GeomCtx}
 use Rattle.parts.specs.declared.vert.Vert.{Vert}
 use Rattle.parts.specs.Ring.{ring_at}
 use Rattle.parts.specs.Part.{Part, no_part}
-use Rattle.parts.specs.Pushed.{Streams, RoomFor}
 
 -- f32 constants, by their bits: 0.5 and -1
 abbrev pub half_f : Float
@@ -74,9 +72,3 @@ pub record Numbered (k : Cap) : Type 0 where
   pub few : k.slices ≤ 1024
   pub first_low : k.first < 2 ^ 24
   pub pair_low : k.pair < 2 ^ 24
-
--- and of the slices
-pub record Capped (c : GeomCtx) (k : Cap) (at : ℕ) (s : Streams) (len : ℕ) : Type 0 where
-  pub numbers : Numbered k
-  pub room : RoomFor c (k.first + 1 + k.slices) s
-  pub room_indices : at + 3 * k.slices ≤ len

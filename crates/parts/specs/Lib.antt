@@ -4,8 +4,8 @@ pub mod Ring
 pub mod Part
 pub mod Pushed
 pub mod Cap
+pub mod Building
 pub mod Written
 pub mod Parted
 pub mod Edges
 pub mod Turns
-pub mod Building

@@ -8,7 +8,7 @@ use crate::vert::{GeomCtx, Vert, uv_of};
 use lists::put_all;
 use math::V3;
 
-// The slices that it is written to, of the caller.
+// The slices that it is written to, of the caller. A call takes them one by one, as C hands them, and makes this of them.
 #[derive(Drop)]
 pub struct Builder<'a> {
     pub ctx: GeomCtx,

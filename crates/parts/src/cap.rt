@@ -1,7 +1,7 @@
 // FORMAT 17.4, cap: the flat end of a cylinder or a cone.
 ghost use Rattle.std.specs.Prelude.{◌≡◌, [], ◌∷◌, ◌+◌, ◌*◌, ◌≤◌, ◌<◌, ◌^◌, IfSome, MatchOption};
 ghost use Rattle.parts.specs.Cap.{cap_normal, cap_texture, cap_centre, cap_vert, cap_tri, cap_sizes, cap_part, Numbered};
-ghost use Rattle.parts.specs.Building.{Roomy, Writes};
+ghost use Rattle.parts.specs.Written.{Roomy, Written};
 
 use crate::builder::Builder;
 use crate::ring::ring_at;
@@ -11,7 +11,8 @@ use crate::vert::{Vert, index_of};
 use block::Pair;
 use math::V3;
 
-// Height, radius and slices, top or bottom; the numbers of its first vertex and of its first pair.
+// Height, radius and slices, top or bottom; the numbers of its first vertex and of its first pair. `top` is a bool, as FORMAT has it:
+// three functions choose a value by it, and an enum of two would say no more.
 #[derive(Clone, Copy)]
 pub struct Cap {
     pub y: f32,
@@ -123,7 +124,7 @@ impl Builder<'_> {
     // The centre, the ring, and a triangle for each slice, from place `at` of the indices on.
     fn put_cap(&mut self, pairs: &[f32], k: Cap, at: usize)
         requires { Numbered k × Roomy (cap_part pairs.now k) k.first at self.old }
-        ensures { Writes (cap_part pairs.now k) k.first at self.old self.new }
+        ensures { Written (cap_part pairs.now k) k.first at self.old self.new }
     {
         self.put_vert(k.first, cap_centre(k));
         self.put_verts(
@@ -148,7 +149,7 @@ impl Builder<'_> {
     // A cap, if there is one.
     pub fn put_cap_at(&mut self, pairs: &[f32], cap: Option<Cap>, at: usize)
         requires { IfSome cap (λ k. Numbered k × Roomy (cap_part pairs.now k) k.first at self.old) }
-        ensures { MatchOption cap (self.new ≡ self.old) (λ k. Writes (cap_part pairs.now k) k.first at self.old self.new) }
+        ensures { MatchOption cap (self.new ≡ self.old) (λ k. Written (cap_part pairs.now k) k.first at self.old self.new) }
     {
         if let Some(k) = cap {
             self.put_cap(pairs, k, at);

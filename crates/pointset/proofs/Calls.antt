@@ -22,7 +22,10 @@ use Rattle.block.specs.Refusal.{row, first_of, number_of}
 use Rattle.lists.proofs.Tests.{or_none}
 use Rattle.mesh.specs.Words.{words3, words4, point_words}
 use Rattle.mesh.specs.Mesh.{Slices, slices_of, over}
-use Rattle.std.specs.Prelude.{Err, Ok}
+use Rattle.std.specs.Prelude.{Option, Err, Ok, MatchOption}
+use Rattle.std.specs.Bool.{then_some}
+use Rattle.lists.proofs.Splices.{splice_start}
+use Rattle.pointset.specs.declared.copies.Listed.{Listed}
 use Rattle.lent.specs.Answer.{refused}
 use Rattle.pointset.specs.declared.refusals.Lengths.{Lengths}
 use Rattle.parts.specs.Parted.{is_short_for}
@@ -41,6 +44,16 @@ unfolding first_of
 no_rows true d e = absurd (let y : 7 ≡ 0 = e in omega arith)
 no_rows false true e = absurd (let y : 8 ≡ 0 = e in omega arith)
 no_rows false false e = (refl, refl)
+
+-- colours as they are put: of a list that is there, or of none
+pub colours_put : (n : ℕ) (b : Bool) (l : Listed) (c : List ℕ) {o : Option Listed} {c' : List ℕ} → o ≡ then_some b l → MatchOption o (c' ≡ c) (λ y. c' ≡ spliced c 0 (flat (map words4 (tab (colour_at y.alpha y.words.now) n 0))))
+    → c' ≡ spliced c 0 (flat (map words4 (cond b (tab (colour_at l.alpha l.words.now) n 0) [])))
+unfolding flat
+colours_put n b l c {o} {c'} e p = go b (rw e at p)
+  where
+    go : (b : Bool) → MatchOption (then_some b l) (c' ≡ c) (λ y. c' ≡ spliced c 0 (flat (map words4 (tab (colour_at y.alpha y.words.now) n 0)))) → c' ≡ spliced c 0 (flat (map words4 (cond b (tab (colour_at l.alpha l.words.now) n 0) [])))
+    go true q = q
+    go false q = q ∙ splice_start c 0
 
 -- what there is room for, where b says whether colours are made
 pub record Roomy (points : List ℕ) (alpha : Bool) (listed p c s : List ℕ) (b : Bool) : Type 0 where

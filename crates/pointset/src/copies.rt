@@ -1,5 +1,5 @@
 // FORMAT 17.5: what is written for a PointSet. Words are the bits of f32, and are copied.
-ghost use Rattle.std.specs.Prelude.{◌≡◌, true, cond, [], ◌∷◌, map, ◌+◌, ◌*◌, ◌≤◌, ◌<◌, ◌^◌, length, take};
+ghost use Rattle.std.specs.Prelude.{◌≡◌, map, ◌+◌, ◌*◌, ◌≤◌, ◌<◌, ◌^◌, length, take, IfSome, MatchOption};
 ghost use Rattle.lists.specs.Lists.{flat};
 ghost use Rattle.lists.specs.Loops.{tab};
 ghost use Rattle.lists.specs.Parts.{spliced};
@@ -54,17 +54,24 @@ fn put_opaques(listed: &[u32], colours: &mut [u32], n: usize)
     );
 }
 
-// The first n colours, where they are made.
-pub fn put_colours(made: bool, alpha: bool, listed: &[u32], colours: &mut [u32], n: usize)
-    requires { (n < 2 ^ 32) × (made ≡ true → (n ≤ colours_in alpha listed.now) × (4 * n ≤ length colours.old)) }
-    ensures { colours.new ≡ spliced colours.old 0 (flat (map words4 (cond made (tab (colour_at alpha listed.now) n 0) []))) }
+// Colours as they are listed: of four words where they have alpha, else of three.
+#[derive(Clone, Copy)]
+pub struct Listed<'a> {
+    pub words: &'a [u32],
+    pub alpha: bool,
+}
+
+// The first n of those that are made, if any are.
+pub fn put_colours(listed: Option<Listed<'_>>, colours: &mut [u32], n: usize)
+    requires { (n < 2 ^ 32) × IfSome listed (λ l. (n ≤ colours_in l.alpha l.words.now) × (4 * n ≤ length colours.old)) }
+    ensures { MatchOption listed.entry (colours.new ≡ colours.old)
+        (λ l. colours.new ≡ spliced colours.old 0 (flat (map words4 (tab (colour_at l.alpha l.words.now) n 0)))) }
 {
-    if made {} else {
-        return;
+    if let Some(l) = listed {
+        if l.alpha {
+            copy_words(l.words, colours, 4 * n);
+        } else {
+            put_opaques(l.words, colours, n);
+        }
     }
-    if alpha {
-        copy_words(listed, colours, 4 * n);
-        return;
-    }
-    put_opaques(listed, colours, n);
 }

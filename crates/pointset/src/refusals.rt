@@ -47,7 +47,7 @@ fn colour_words(n: usize, made: bool) -> usize
     0
 }
 
-// 8.
+// 8. `made` is a bool: the list of colours is not read here, and the report says no more of it.
 fn is_short(n: usize, made: bool, l: Lengths) -> bool
     requires { n ≤ edition1.limit }
     ensures { result ≡ is_short n made l }

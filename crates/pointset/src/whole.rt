@@ -1,11 +1,12 @@
 // FORMAT 17.5, 17.10: the call of a PointSet.
 ghost use Rattle.pointset.specs.PointSet.{PointSetCall, lent_to};
 
-use crate::copies::{copy_words, put_colours, put_sources};
+use crate::copies::{Listed, copy_words, put_colours, put_sources};
 use crate::refusals::{Lengths, makes_colours, refusal_of};
 use lent::{Answer, Report};
 
 // The mesh of a PointSet, into the lent slices; or a refusal, and every lent element as it was.
+// The slices one by one, as C hands them; each is written by one call, so a struct of them would have one use.
 pub fn point_set(
     points: &[u32],
     has_colors: bool,
@@ -31,7 +32,11 @@ pub fn point_set(
         },
     )?;
     copy_words(points, positions, 3 * n);
-    put_colours(made, alpha, listed, colours, n);
+    let given = Listed {
+        words: listed,
+        alpha,
+    };
+    put_colours(made.then_some(given), colours, n);
     put_sources(sources, n);
     Ok(Report {
         vertices: n,

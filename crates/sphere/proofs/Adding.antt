@@ -1,5 +1,5 @@
 -- The numbers of a sphere, and its triangles one after the other.
-use mathlib.Core.Path.{◌≡◌, refl, ap, subst}
+use mathlib.Core.Path.{◌≡◌, refl, sym, ap, ◌∙◌, subst}
 use mathlib.Core.Bool.{Bool, true, false, not, cond}
 use mathlib.Core.List.{List, [], ◌∷◌}
 use Prim.Native.Nat.{ℕ, ◌+◌, ◌*◌, ◌≤◌}
@@ -7,6 +7,8 @@ use native.Mathlib.Nat.{mul-le-mul}
 use native.Mathlib.Omega.{arith}
 use lib.Dec.{eqb}
 use lib.ListN.{length, length-append}
+use Rattle.std.specs.Prelude.{Option, unwrap_or}
+use Rattle.std.specs.Bool.{then_some}
 use Rattle.lists.specs.Parts.{Added, spliced}
 use Rattle.lists.proofs.Pieces.{added_both}
 use Rattle.lists.proofs.Splices.{splice_start}
@@ -17,17 +19,20 @@ use Rattle.sphere.specs.Sphere.{sphere_quad}
 pub row_low : (j n b : ℕ) → j ≤ 1024 → n + b ≤ 1026 → j * (n + b) ≤ 1050624
 row_low j n b h g = mul-le-mul h g
 
--- ---- a triangle where it is wanted
+-- ---- a triangle, if there is one
 
-module _ (a b c : ℕ) (l : List ℕ) (at : ℕ) where
-  pub wanted_room : (w : Bool) → w ≡ true → at + length (cond w (a ∷ b ∷ c ∷ []) []) ≤ length l → at + 3 ≤ length l
-  wanted_room w e h = let q : at + 3 ≤ length l = rw e at h in q
+pub tri_added : (t l : List ℕ) (at : ℕ) {l' : List ℕ} → length t ≡ 3 → l' ≡ spliced l at t → Added spliced t at l (at + 3) l'
+tri_added t l at e p = record { next = ap (λ (k : ℕ). at + k) (sym e); made = p }
 
-  pub wanted_added : (w : Bool) {l' : List ℕ} → w ≡ true → l' ≡ spliced l at (a ∷ b ∷ c ∷ []) → Added spliced (cond w (a ∷ b ∷ c ∷ []) []) at l (at + 3) l'
-  wanted_added w e p = rw e (record { next = refl; made = p })
+pub none_added : (l : List ℕ) (at : ℕ) → Added spliced [] at l at l
+none_added l at = record { next = omega arith; made = splice_start l at }
 
-  pub unwanted_added : (w : Bool) → w ≡ false → Added spliced (cond w (a ∷ b ∷ c ∷ []) []) at l at l
-  unwanted_added w e = rw e (record { next = omega arith; made = splice_start l at })
+pub tri_given : (w : Bool) (t : List ℕ) {o : Option (List ℕ)} → o ≡ then_some w t → unwrap_or o [] ≡ cond w t []
+tri_given w t e = ap (λ (o : Option (List ℕ)). unwrap_or o []) e ∙ go w
+  where
+    go : (w : Bool) → unwrap_or (then_some w t) [] ≡ cond w t []
+    go true = refl
+    go false = refl
 
 -- ---- the two triangles of a quad
 

@@ -16,8 +16,8 @@ use Rattle.parts.specs.declared.builder.Builder.{Builder}
 use Rattle.parts.specs.declared.vert.Vert.{Vert}
 use Rattle.parts.specs.Sizes.{dim_of, held_to}
 use Rattle.parts.specs.Part.{Part}
-use Rattle.parts.specs.Building.{Room, Pushes, Roomy, Writes}
-use Rattle.parts.specs.Written.{Sized}
+use Rattle.parts.specs.Building.{Room, Pushes}
+use Rattle.parts.specs.Written.{Sized, Written, Roomy}
 use Rattle.parts.proofs.Pushing.{room_less}
 use Rattle.parts.proofs.Building.{writes_both}
 use Rattle.parts.proofs.Holding.{held_between}
@@ -51,6 +51,6 @@ module _ (radius : Float) (slices stacks : ℕ) (ps : List Float) {r : Float} {n
     bands_room P = omega (arith, Q.places, ap length P.indices)
 
   pub written_call : {b b' : Builder} {l : List ℕ} → Pushes 0 (flat (tab (sphere_row r n k ps) (k + 1) 0)) b b' → l ≡ spliced b'.indices.now 0 (flat (tab (sphere_band n k) k 0))
-      → Writes (sphere_of radius slices stacks ps) 0 0 b (record b' { indices = set_vals l b'.indices })
+      → Written (sphere_of radius slices stacks ps) 0 0 b (record b' { indices = set_vals l b'.indices })
   unfolding sphere_part
-  written_call {b} {b'} {l} P e = subst (λ (p : Part). Writes p 0 0 b (record b' { indices = set_vals l b'.indices })) read (writes_both P e)
+  written_call {b} {b'} {l} P e = subst (λ (p : Part). Written p 0 0 b (record b' { indices = set_vals l b'.indices })) read (writes_both P e)

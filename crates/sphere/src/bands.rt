@@ -1,5 +1,5 @@
 // FORMAT 17.7, sphere (tri): the triangles, band by band.
-ghost use Rattle.std.specs.Prelude.{◌≡◌, cond, [], ◌∷◌, ◌+◌, ◌*◌, ◌≤◌, ◌<◌, ◌^◌, length};
+ghost use Rattle.std.specs.Prelude.{◌≡◌, [], unwrap_or, ◌+◌, ◌*◌, ◌≤◌, ◌<◌, ◌^◌, length};
 ghost use Rattle.lists.specs.Lists.{flat};
 ghost use Rattle.lists.specs.Loops.{tab};
 ghost use Rattle.lists.specs.Parts.{Added, spliced};
@@ -8,16 +8,18 @@ ghost use Rattle.sphere.specs.Sphere.{sphere_quad, sphere_band};
 use lists::put_all;
 use parts::index_of;
 
-// A triangle where it is wanted, and the next place.
-fn put_where(indices: &mut [u32], at: usize, wanted: bool, a: u32, b: u32, c: u32) -> usize
-    requires { at + length (cond wanted (a ∷ b ∷ c ∷ []) []) ≤ length indices.old }
-    ensures { Added spliced (cond wanted (a ∷ b ∷ c ∷ []) []) at indices.old result indices.new }
+// A triangle, if there is one, and the next place.
+fn put_tri(indices: &mut [u32], at: usize, tri: Option<[u32; 3]>) -> usize
+    requires { at + length (unwrap_or tri []) ≤ length indices.old }
+    ensures { Added spliced (unwrap_or tri []) at indices.old result indices.new }
 {
-    if wanted {
-        put_all(indices, at, &[a, b, c]);
-        return at + 3;
+    match tri {
+        Some(t) => {
+            put_all(indices, at, &t);
+            at + 3
+        }
+        None => at,
     }
-    at
 }
 
 // Those between rows j and j + 1 at slice i, and the next place.
@@ -30,10 +32,11 @@ fn put_quad(indices: &mut [u32], at: usize, n: usize, k: usize, j: usize, i: usi
     let b = index_of(first + 1);
     let c = index_of(first + (n + 1) + 1);
     let d = index_of(first + (n + 1));
-    let next = put_where(indices, at, j != 0, a, b, c);
-    put_where(indices, next, j + 1 != k, a, c, d)
+    let next = put_tri(indices, at, (j != 0).then_some([a, b, c]));
+    put_tri(indices, next, (j + 1 != k).then_some([a, c, d]))
 }
 
+// A loop, not put_words: a quad has one triangle or two, and a row of words one length.
 fn put_band(indices: &mut [u32], at: usize, n: usize, k: usize, j: usize) -> usize
     requires { (n ≤ 1024) × (k ≤ 1024) × (j < k) × (at + length (sphere_band n k j) ≤ length indices.old) }
     ensures { Added spliced (sphere_band n k j) at indices.old result indices.new }

@@ -34,6 +34,7 @@ fn sphere_vert(r: f32, n: usize, k: usize, pairs: &[f32], j: usize, i: usize) ->
     }
 }
 
+// Row by row: with one closure for all rows each vertex would find its row by a division.
 fn put_row(r: f32, n: usize, k: usize, pairs: &[f32], j: usize, b: &mut Builder<'_>)
     requires { (n ≤ 1024) × (k ≤ 1024) × (j ≤ k) × Room (j * (n + 1) + (n + 1)) b.old }
     ensures { Pushes (j * (n + 1)) (sphere_row r n k pairs.now j) b.old b.new }

@@ -22,6 +22,7 @@ fn sphere_sizes(n: usize, k: usize) -> PartSizes
 }
 
 // The mesh of a sphere, into the lent slices; or a refusal, and every lent element as it was.
+// The slices one by one, as C hands them.
 pub fn sphere(
     radius: f32,
     slices: u32,
