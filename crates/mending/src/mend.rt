@@ -14,6 +14,7 @@ use bits::Words3;
 use block::VertexNumber;
 use lists::{get, put};
 use math::V3;
+use mesh::{floats_of, words_of};
 
 // ---- the words of a vertex
 
@@ -37,26 +38,6 @@ fn put_words(out: &mut [u32], v: VertexNumber, w: Words3)
     put(out, k, w.x);
     put(out, k + 1, w.y);
     put(out, k + 2, w.z);
-}
-
-fn floats_of(w: Words3) -> V3
-    ensures { result ≡ floats w }
-{
-    V3 {
-        x: math::of_bits(w.x),
-        y: math::of_bits(w.y),
-        z: math::of_bits(w.z),
-    }
-}
-
-fn words_of(v: V3) -> Words3
-    ensures { result ≡ bits v }
-{
-    Words3 {
-        x: math::bits_of(v.x),
-        y: math::bits_of(v.y),
-        z: math::bits_of(v.z),
-    }
 }
 
 // ---- what is lent

@@ -1,7 +1,5 @@
 // FORMAT 17.4, Builder::vert: a vertex of a part, and how it is written.
 ghost use Rattle.std.specs.Prelude.{◌≡◌, ◌+◌, ◌≤◌, ◌<◌, ◌^◌, [], ◌∷◌, length};
-ghost use Rattle.mesh.specs.Words.{words2, words3, bits};
-ghost use Rattle.lists.specs.Parts.{spliced};
 ghost use Rattle.parts.specs.Part.{finite_ctx, uv_of};
 ghost use Rattle.parts.specs.Pushed.{RoomFor, pushed, streams_of};
 
@@ -43,17 +41,6 @@ pub fn index_of(k: usize) -> u32
     k as u32
 }
 
-fn put_vector(words: &mut [u32], a: usize, v: V3)
-    requires { a + 3 ≤ length words.old }
-    ensures { words.new ≡ spliced words.old a (words3 (bits v)) }
-{
-    put_all(
-        words,
-        a,
-        &[math::bits_of(v.x), math::bits_of(v.y), math::bits_of(v.z)],
-    );
-}
-
 fn uv_of(c: GeomCtx, v: Vert) -> Words2
     ensures { result ≡ uv_of c v }
 {
@@ -78,8 +65,8 @@ pub fn put_vert(
     ensures { streams_of positions.new normals.new textures.new
         ≡ pushed c k (v ∷ []) (streams_of positions.old normals.old textures.old) }
 {
-    put_vector(positions, 3 * k, v.position);
-    put_vector(normals, 3 * k, v.normal);
+    mesh::put_vector(positions, 3 * k, v.position);
+    mesh::put_vector(normals, 3 * k, v.normal);
     if c.need_uvs {
         let w = uv_of(c, v);
         put_all(textures, 2 * k, &[w.s, w.t]);
