@@ -35,7 +35,7 @@ pub fn cap_length(block: &[u8], h: Header) -> usize
     m
 }
 
-// How many points make a ring, whose last counts as its first when faces are gathered; 0 where the cross-section is open.
+// How many points make a ring, whose last counts as its first when faces are gathered; 0 where the cross-section is open (`tables::Plan`).
 pub fn ring_width(block: &[u8], h: Header) -> usize
     requires { Given block.now h }
     ensures { result ≡ ring_of (section_of block.now h) }

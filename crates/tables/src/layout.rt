@@ -2,6 +2,8 @@
 ghost use Rattle.std.specs.Prelude.{◌≡◌, ◌≤◌};
 ghost use Rattle.tables.specs.Layout.{most, plan_of};
 
+// `ring` is 0 for none, and no Option: 0 is the one width by which no remainder is taken, so `gathered` would need the same test for a `Some` of 0, or each
+// plan a fact that there is none.
 #[derive(Clone, Copy)]
 pub struct Plan {
     pub spots: usize,
