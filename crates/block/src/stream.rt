@@ -130,7 +130,8 @@ fn found_at<'a>(
     )
 }
 
-// What an attribute has at a corner.
+// What an attribute has at a corner. `block` and `coord` are two slices here and above, and no struct: those who list faces, primitives and lines read
+// `coord` alone, and no clause says a fact of both that would go.
 pub fn get<'a, V: Value>(
     block: &'a [u8],
     coord: &'a [u8],

@@ -63,7 +63,7 @@ impl<'a> Extruded<'a> {
         m
     }
 
-    // How many points make a ring, whose last counts as its first when faces are gathered; 0 where the cross-section is open.
+    // How many points make a ring, whose last counts as its first when faces are gathered; 0 where the cross-section is open (`tables::Plan`).
     pub fn ring_width(&self) -> usize
         ensures { result ≡ ring_of (section_of self.now.block.now self.now.header) }
     {

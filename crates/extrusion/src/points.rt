@@ -1,6 +1,5 @@
 // FORMAT 8.4, extrusion (coords): the cross-section, scaled and turned, in the plane at each spine point.
 ghost use Rattle.std.specs.Prelude.{◌≡◌, ◌+◌, ◌*◌, ◌≤◌, length};
-ghost use Rattle.mesh.specs.Words.{words3, bits};
 ghost use Rattle.mesh.specs.Extrusion as spec;
 ghost use Rattle.mesh.specs.Extrusion.{spine_count, section_count, scale_at, turn_at, row_words, extrusion_of, extrusion_points};
 ghost use Rattle.lists.specs.Parts.{spliced};
@@ -10,7 +9,6 @@ use crate::axes::{PlaneAxes, axes_by, pick_z};
 use crate::frames::{first_y, first_z, y_own, z_own};
 use crate::reading::{Entries, Extruded};
 use block::Pair;
-use lists::put_all;
 use math::{Quat, V3};
 
 fn scale_at(scales: &Entries<Pair>, i: usize) -> Pair
@@ -63,17 +61,6 @@ fn placed(o: V3, f: PlaneAxes, l: V3) -> V3
     )
 }
 
-fn put_point(work: &mut [u32], k: usize, v: V3)
-    requires { k + 3 ≤ length work.old }
-    ensures { work.new ≡ spliced work.old k (words3 (bits v)) }
-{
-    put_all(
-        work,
-        k,
-        &[math::bits_of(v.x), math::bits_of(v.y), math::bits_of(v.z)],
-    );
-}
-
 // The points of one spine point o.
 fn put_row(
     section: &Entries<Pair>,
@@ -89,7 +76,7 @@ fn put_row(
 {
     for j in 0..section.len() {
         let p = placed(o, f, local(q, sc, section.at(j)));
-        put_point(work, k + j * 3, p);
+        mesh::put_vector(work, k + j * 3, p);
     }
 }
 

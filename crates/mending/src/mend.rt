@@ -14,6 +14,7 @@ use bits::Words3;
 use block::VertexNumber;
 use lists::{get, put};
 use math::V3;
+use mesh::{floats_of, words_of};
 
 // ---- the words of a vertex
 
@@ -37,26 +38,6 @@ fn put_words(out: &mut [u32], v: VertexNumber, w: Words3)
     put(out, k, w.x);
     put(out, k + 1, w.y);
     put(out, k + 2, w.z);
-}
-
-fn floats_of(w: Words3) -> V3
-    ensures { result ≡ floats w }
-{
-    V3 {
-        x: math::of_bits(w.x),
-        y: math::of_bits(w.y),
-        z: math::of_bits(w.z),
-    }
-}
-
-fn words_of(v: V3) -> Words3
-    ensures { result ≡ bits v }
-{
-    Words3 {
-        x: math::bits_of(v.x),
-        y: math::bits_of(v.y),
-        z: math::bits_of(v.z),
-    }
 }
 
 // ---- what is lent
@@ -168,7 +149,7 @@ impl<'a> Lent<'a> {
         self.triangle_normal(n).unwrap_or(straight_up())
     }
 
-    // The table is made when the first normal that cannot be scaled is met.
+    // The table is made when the first normal that cannot be scaled is met. `made` is a flag, as in `fix_zero_normals`.
     fn make_table(&self, made: bool, table: &mut [u32])
         requires { Served made self.now.positions.now self.now.indices.now self.now.count table.old }
         ensures { Firsts (lent_frame self.now.positions.now) (lent_keys [] self.now.count) self.now.indices.now table.new }
@@ -179,7 +160,7 @@ impl<'a> Lent<'a> {
         self.first_normals(table);
     }
 
-    // The normal of vertex v by its triangles. `made`: whether the table is made, which it is afterwards.
+    // The normal of vertex v by its triangles. `made`, a flag as in `fix_zero_normals`: whether the table is made, which it is afterwards.
     fn replaced(&self, v: VertexNumber, made: bool, table: &mut [u32]) -> V3
         requires { (v.0 < length table.old) × Served made self.now.positions.now self.now.indices.now self.now.count table.old }
         ensures { (result ≡ first_normal (lent_frame self.now.positions.now) (lent_keys [] self.now.count) v.0 self.now.indices.now)
@@ -246,7 +227,7 @@ pub fn fix_zero_normals(
         indices,
         count,
     };
-    // A flag, not an Option: the room for the table is lent, and stays.
+    // A flag, not an Option: the room for the table is lent and stays, so there is nothing that a `Some` would hold.
     let mut made = false;
     for v in 0..count {
         let w = words_at(normals, VertexNumber(v));

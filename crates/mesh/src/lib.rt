@@ -2,5 +2,7 @@
 #![tactic(auto)]
 
 pub mod texture;
+pub mod words;
 
 pub use texture::{Axis, Fit, Span};
+pub use words::{floats_of, put_vector, words_of};

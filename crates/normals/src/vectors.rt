@@ -34,11 +34,7 @@ pub fn store3(work: &mut [u32], a: usize, v: V3)
     requires { a + 3 ≤ length work.old }
     ensures { Kept a work.old work.new × (at3 work.new a ≡ v) }
 {
-    put_all(
-        work,
-        a,
-        &[math::bits_of(v.x), math::bits_of(v.y), math::bits_of(v.z)],
-    );
+    mesh::put_vector(work, a, v);
 }
 
 // As `load_unit` reads it.

@@ -1,12 +1,9 @@
 // FORMAT 17.4, Builder: what a part is written with.
-ghost use Rattle.std.specs.Prelude.{◌≡◌, ◌+◌, ◌≤◌, [], ◌∷◌, length};
-ghost use Rattle.mesh.specs.Words.{words3, bits};
-ghost use Rattle.lists.specs.Parts.{spliced};
+ghost use Rattle.std.specs.Prelude.{◌+◌, [], ◌∷◌};
 ghost use Rattle.parts.specs.Building.{Room, Pushes};
 
 use crate::vert::{GeomCtx, Vert, uv_of};
 use lists::put_all;
-use math::V3;
 
 // The slices that it is written to, of the caller. A call takes them one by one, as C hands them, and makes this of them.
 #[derive(Drop)]
@@ -18,25 +15,14 @@ pub struct Builder<'a> {
     pub indices: &'a mut [u32],
 }
 
-fn put_vector(words: &mut [u32], a: usize, v: V3)
-    requires { a + 3 ≤ length words.old }
-    ensures { words.new ≡ spliced words.old a (words3 (bits v)) }
-{
-    put_all(
-        words,
-        a,
-        &[math::bits_of(v.x), math::bits_of(v.y), math::bits_of(v.z)],
-    );
-}
-
 impl Builder<'_> {
     // Vertex k.
     pub fn put_vert(&mut self, k: usize, v: Vert)
         requires { Room (k + 1) self.old }
         ensures { Pushes k (v ∷ []) self.old self.new }
     {
-        put_vector(self.positions, 3 * k, v.position);
-        put_vector(self.normals, 3 * k, v.normal);
+        mesh::put_vector(self.positions, 3 * k, v.position);
+        mesh::put_vector(self.normals, 3 * k, v.normal);
         if self.ctx.need_uvs {
             let w = uv_of(self.ctx, v);
             put_all(self.textures, 2 * k, &[w.s, w.t]);

@@ -20,7 +20,6 @@ use Rattle.paths.specs.Intersect.{hits}
 use Rattle.paths.specs.Paths.{paths_in, ray_in, triangle_in, blocks, lowest, answer_of, answers_of, is_refused, paths_number, answers_after, PathsCall}
 use Rattle.paths.specs.Pass.{Loaded, next_answer, step_at, updated, turn_of}
 use Rattle.paths.proofs.Updates.{passes, updated_same, updated_tab}
-use Rattle.paths.proofs.Refusing.{accepted}
 
 -- ---- one path
 

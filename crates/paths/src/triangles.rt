@@ -7,7 +7,7 @@ use crate::intersect::Triangle;
 use block::VertexNumber;
 use math::{V3, sub};
 
-// Point p.
+// Point p. Not one with `polygon::spot`, which tests each index: here every index is known to be there, and the pass makes no test.
 pub fn point_at(words: &[u32], p: usize) -> V3
     requires { p < length words.now / 3 }
     ensures { result ≡ point_in words.now p }

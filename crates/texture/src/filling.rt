@@ -64,6 +64,7 @@ pub fn put_textures<'a>(
     requires { Fitted work.old fit points spots corners places textures count }
     ensures { work.new ≡ spliced work.old textures (texture_words (set_texture block.now coord.now h s fit work.old points spots corners places) count) }
 {
+    // A loop of its own, as in grid and extrusion: each reads other tables of `work`, and a shared one would take this body back as a closure.
     for c in 0..count {
         let p = PointNumber(wide(work[corners + c]));
         let place = wide(work[places + c]);

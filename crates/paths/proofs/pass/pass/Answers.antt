@@ -2,16 +2,10 @@ use lib.Dec.{eqb}
 use lib.ListN.{length}
 use Rattle.std.proofs.Common.{rules}
 use Rattle.paths.specs.Pass.{hit_count}
-use Rattle.paths.proofs.Updates.{running_none, running_more, running_all}
+use Rattle.paths.proofs.Updates.{running_more, running_all}
 use Rattle.paths.proofs.Passing.{turned}
 use Rattle.paths.proofs.Hitting.{turns_end}
 use Rattle.paths.proofs.pass.pass.Goals as goal
-
-pub loop-t-init : goal.loop-t-init
-loop-t-init c = running_none
-
-pub turn-requires : goal.turn-requires
-turn-requires c = (rw c.loop-t.invariant.size c.requires.1, c.requires.2)
 
 pub loop-t-preserved : goal.loop-t-preserved
 loop-t-preserved c =
