@@ -22,7 +22,7 @@ use Rattle.vertices.specs.Places.{Store}
 use Rattle.vertices.specs.Search.{corner_key}
 use Rattle.vertices.specs.Adding as adding
 use Rattle.vertices.specs.Adding.{points_in, Vertexed}
-use Rattle.vertices.proofs.Turns.{Made, Lengths, made_start, made_lengths, made_set, made_ready, vertex_number, vertex_turn}
+use Rattle.vertices.proofs.Turns.{Made, made_start, made_set, made_ready, vertex_number, vertex_turn}
 use Rattle.corners.specs.declared.attributes.Attributes.{Attributes}
 use Rattle.corners.specs.declared.laid.CornerTables.{CornerTables}
 use Rattle.corners.specs.Laid.{Laid, chains_of}
@@ -151,10 +151,6 @@ module _ {L : Lent} {a : Attributes} {widths : Widths} {t : CornerTables} {z : S
 
     pub turned_laid : Laid t (length m)
     turned_laid = rw U.made.len R.laid
-
-    -- the slices keep their lengths
-    pub turned_lengths : Lengths z x₀ s x
-    turned_lengths = made_lengths _ _ _ _ _ _ _ c n s x m U.made t.count R.roomy R.positions U.upto
 
     -- all corners are done
     pub turned_all : t.count ≤ c → Cornered L a widths t z x₀ w s x m n

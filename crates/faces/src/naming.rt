@@ -6,7 +6,7 @@ ghost use Rattle.faces.specs.Naming.{threes, numbered};
 
 use block::{CornerNumber, VertexNumber};
 use lists::{get, put_all};
-use tables::wide;
+use tables::{narrow, wide};
 
 // The corner that place k names before it is renamed, counted from the face's first corner.
 fn corner_at(s: &[u32], k: usize) -> CornerNumber
@@ -27,7 +27,7 @@ fn put_three(s: &mut [u32], k: usize, a: VertexNumber, b: VertexNumber, c: Verte
     requires { (k + 3 ≤ length s.old) × (a.0 < 2 ^ 32) × (b.0 < 2 ^ 32) × (c.0 < 2 ^ 32) }
     ensures { s.new ≡ spliced s.old k (a.0 ∷ b.0 ∷ c.0 ∷ []) }
 {
-    put_all(s, k, &[a.0 as u32, b.0 as u32, c.0 as u32]);
+    put_all(s, k, &[narrow(a.0), narrow(b.0), narrow(c.0)]);
 }
 
 // One triangle; b and c are exchanged where ccw is off.

@@ -3,7 +3,6 @@ use mathlib.Core.Path.{◌≡◌, refl, sym, ap, ◌∙◌}
 use mathlib.Core.Bool.{Bool, true, false, cond}
 use mathlib.Core.List.{List, [], ◌∷◌}
 use Prim.Native.Nat.{ℕ, suc, ◌+◌, ◌≤◌, ◌<◌}
-use native.Mathlib.Nat.{zero-add}
 use native.Mathlib.Omega.{arith}
 use lib.Dec.{ltb}
 use lib.ListN.{length, get_or, drop, drop_of_length-le}
@@ -20,9 +19,6 @@ pub record Counting (p : ℕ) (es : List ℕ) (k : ℕ) (after : Bool) (c n : �
   pub lines : n + lines_after p after (drop k es) ≡ lines_after p false es
 
 module _ {p : ℕ} {es : List ℕ} where
-  pub counting_start : Counting p es 0 false 0 0
-  counting_start = record { within = omega arith; few = (omega arith, omega arith); corners = zero-add _; lines = zero-add _ }
-
   module _ {k : ℕ} {after : Bool} {corners lines : ℕ} (C : Counting p es k after corners lines) where
     pub counting_next : (corners' lines' : ℕ) → k < length es → corners' ≡ cond (ltb (get_or es k 0) p) (suc corners) corners
         → lines' ≡ cond after (cond (ltb (get_or es k 0) p) (suc lines) lines) lines → Counting p es (k + 1) (ltb (get_or es k 0) p) corners' lines'

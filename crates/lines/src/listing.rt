@@ -10,7 +10,7 @@ ghost use Rattle.lines.specs.Uses.{use_of, run_uses, listed_at, listed, Listed};
 
 use block::{CornerNumber, PointNumber, point_at, runs_in};
 use corners::CornerTables;
-use tables::wide;
+use tables::{narrow, wide};
 
 // Corner c: its point, its place in coordIndex, and the number of its line.
 fn list_corner(
@@ -24,9 +24,9 @@ fn list_corner(
     requires { Laid t (length work.old) × (c.0 < t.count) × (e.0 < 2 ^ 32) × (k < 2 ^ 32) × (line < 2 ^ 32) }
     ensures { work.new ≡ listed_at t work.old c.0 (record { point = e.0; place = k; number = line }) }
 {
-    work[t.corners + c.0] = e.0 as u32;
-    work[t.places + c.0] = k as u32;
-    work[t.numbers + c.0] = line as u32;
+    work[t.corners + c.0] = narrow(e.0);
+    work[t.places + c.0] = narrow(k);
+    work[t.numbers + c.0] = narrow(line);
 }
 
 // The entry at place k: corner c, where it names a point. The next corner.

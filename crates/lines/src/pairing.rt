@@ -9,7 +9,7 @@ ghost use Rattle.lines.specs.Steps.{last_of, vertex_at, pairs, run_pairs, Steppe
 
 use block::{CornerNumber, PointNumber, VertexNumber, point_at, runs_in};
 use lists::put_all;
-use tables::wide;
+use tables::{narrow, wide};
 
 // How far the lines are put: the next place for an index, the next corner, and the vertex of the entry before, where that names a point.
 #[derive(Clone, Copy)]
@@ -26,7 +26,7 @@ fn put_line(indices: &mut [u32], at: usize, last: Option<VertexNumber>, next: Ve
 {
     match last {
         Some(v) => {
-            put_all(indices, at, &[v.0 as u32, next.0 as u32]);
+            put_all(indices, at, &[narrow(v.0), narrow(next.0)]);
             at + 2
         }
         None => at,

@@ -22,7 +22,7 @@ fn prepare(work: &mut [u32], t: Plan, ccw: bool)
 }
 
 // The normals of the corners of the soup that the tables hold. The tables below the owners are kept; the words above and the floats behind
-// the normals are used.
+// the normals are used. The room in the floats stays a clause here and below, for the reason in outputs.
 pub fn generate(work: &mut [u32], t: Plan, ccw: bool, rule: CreaseRule, floats: &mut [f32])
     requires { Sound work.old t × (3 * t.count + 6 * t.faces ≤ length floats.old) }
     ensures { Generated work.old work.new t ccw rule floats.new }

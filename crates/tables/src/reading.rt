@@ -35,7 +35,8 @@ fn gathered(ring: usize, p: PointNumber) -> PointNumber
     p
 }
 
-// The words of the tables, with where each table lies in them.
+// The words of the tables, with where each table lies in them. That they hold a soup (`Sound`) stays a clause of what reads a face: `gather_of` and `owner_of`
+// ask for less, and the type may not ask them for more.
 #[derive(Clone, Copy)]
 pub struct Tables<'a> {
     pub work: &'a [u32],

@@ -1,13 +1,12 @@
 // Tables filled.
-ghost use Rattle.std.specs.Prelude.{◌≡◌, ◌+◌, ◌≤◌, length, replicate};
+ghost use Rattle.std.specs.Prelude.{◌≡◌, ◌+◌, ◌^◌, ◌≤◌, ◌<◌, length, replicate};
 ghost use Rattle.std.specs.Float.{binary32};
 ghost use Rattle.std.specs.Float.Ieee.{of_bits};
-ghost use Rattle.tables.specs.Layout.{most};
 ghost use Rattle.lists.specs.Parts.{spliced};
 
 // A number as a word: kept, since it carries the bound under which the cast loses nothing.
 pub fn narrow(x: usize) -> u32
-    requires { x ≤ most }
+    requires { x < 2 ^ 32 }
     ensures { result ≡ x }
 {
     x as u32

@@ -1,13 +1,11 @@
 -- The hash of a corner's key, from its words, and its bucket.
 use mathlib.Core.Path.{◌≡◌, sym}
 use mathlib.Core.List.{List}
-use Prim.Native.Nat.{ℕ, ◌+◌, ◌*◌, ◌/◌, ◌%◌, ◌^◌, ◌≤◌, ◌<◌}
-use native.Mathlib.Nat.{mul-le-mul, mul-lt-mul_of_pos_right, div-lt_iff_lt-mul}
+use Prim.Native.Nat.{ℕ, ◌+◌, ◌*◌, ◌/◌, ◌^◌, ◌≤◌, ◌<◌}
+use native.Mathlib.Nat.{mul-lt-mul_of_pos_right, div-lt_iff_lt-mul}
 use native.Mathlib.Omega.{arith}
-use lib.Bits.{bit_xor, xor_lt}
 use lib.ListN.{get_or, take, drop, length-take, get_or-eq_default}
 use Rattle.lists.specs.Parts.{seg}
-use Rattle.tables.specs.Layout.{most}
 use Rattle.vertices.specs.declared.places.Widths.{Widths}
 use Rattle.vertices.specs.Hash.{normal_sum, colour_sum, texture_sum, spread_of, hash_of, bucket_of}
 use Rattle.vertices.specs.Search.{two, three, four, corner_key}
@@ -17,10 +15,6 @@ pub unmade_word : (l : List ℕ) (at n k : ℕ) → n ≤ k → 0 ≡ get_or (se
 unfolding seg
 unmade_word l at n k h = sym (get_or-eq_default (take n (drop at l)) 0 {n = k} (omega (arith, length-take n (drop at l))))
 
--- both halves of a sum of 64 bits together
-pub halves_fit : (s : ℕ) → s < 2 ^ 64 → bit_xor (s % 2 ^ 32) (s / 2 ^ 32) < 2 ^ 32
-halves_fit s h = xor_lt 32 (s % 2 ^ 32) (s / 2 ^ 32) (omega arith) (omega arith)
-
 module _ (w : Widths) (v : ℕ) (l : List ℕ) (n : ℕ) where
   pub corner_bucket : {a b c h : ℕ} → a ≡ normal_sum (three (seg l 0 w.normal)) → b ≡ colour_sum (four (seg l 3 w.colour))
       → c ≡ texture_sum (two (seg l 7 w.texture)) → h ≡ spread_of (v * 0x9e3779b + a + b + c) → h * n / 2 ^ 32 ≡ bucket_of n (corner_key w v l)
@@ -28,9 +22,6 @@ module _ (w : Widths) (v : ℕ) (l : List ℕ) (n : ℕ) where
   corner_bucket ea eb ec eh = rw (eh, ea, eb, ec)
 
 module _ (h b : ℕ) (l : h < 2 ^ 32) where
-  pub bucket_small : b ≤ 4 * most → h * b ≤ 2 ^ 32 * (4 * most)
-  bucket_small k = let a : h ≤ 2 ^ 32 = omega arith in mul-le-mul a k
-
   pub bucket_below : 0 < b → h * b / 2 ^ 32 < b
   bucket_below k =
       let q : h * b < 2 ^ 32 * b = mul-lt-mul_of_pos_right l k in

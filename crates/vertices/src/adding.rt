@@ -7,7 +7,7 @@ ghost use Rattle.vertices.specs.Adding.{linked, Appended, Ready, Vertexed, count
 
 use crate::parts::put_row;
 use crate::places::{Bucket, Chains, CornerKey, Widths};
-use crate::search::{find, word_of};
+use crate::search::{Made, word_of};
 use block::{PointNumber, VertexNumber};
 use tables::narrow;
 
@@ -73,10 +73,8 @@ pub fn vertex(
 {
     let asked = CornerKey { point, words: key };
     let bucket = asked.bucket_of(w, t.buckets);
-    let known = find(
-        sources, normals, colours, textures, w, n, bucket, &asked, work, t,
-    );
-    if let Some(i) = known {
+    let made = Made::of(sources, normals, colours, textures);
+    if let Some(i) = made.find(w, n, bucket, &asked, work, t) {
         return i;
     }
     append(

@@ -2,13 +2,14 @@
 ghost use Rattle.std.specs.Prelude.{◌≡◌, ◌+◌, ◌≤◌, ◌<◌, length};
 ghost use Rattle.mesh.specs.Vertices.{same_key};
 ghost use Rattle.tables.specs.Layout.{most};
-ghost use Rattle.vertices.specs.Places.{Roomy, Laid};
+ghost use Rattle.vertices.specs.Places.{Store, Roomy, Laid};
 ghost use Rattle.vertices.specs.Hash.{bucket_of};
 ghost use Rattle.vertices.specs.Search.{known_by, key_at, corner_key, place_of, bucket_at, Chained};
 
 use crate::parts::same_row;
 use crate::places::{Bucket, Chains, CornerKey, Widths};
 use block::VertexNumber;
+use std::marker::Model;
 use tables::{narrow, wide};
 
 // The vertex that a word of a chain names: the word is one more than its number, 0 for none.
@@ -29,61 +30,79 @@ pub fn word_of(i: VertexNumber) -> u32
     narrow(i.0 + 1)
 }
 
-// Whether vertex i has the point and the words of a corner (VertexKey).
-pub fn same_vertex(
-    sources: &[u32],
-    normals: &[u32],
-    colours: &[u32],
-    textures: &[u32],
-    w: Widths,
-    i: VertexNumber,
-    key: &CornerKey<'_>,
-) -> bool
-    requires { Roomy w (record { sources = sources.now; normals = normals.now; colours = colours.now; textures = textures.now }) (i.0 + 1) }
-    ensures { result ≡ same_key (corner_key w key.now.point.0 key.now.words.now)
-        (key_at w (record { sources = sources.now; normals = normals.now; colours = colours.now; textures = textures.now }) i.0) }
-{
-    let k = i.0;
-    if key.point.0 != wide(sources[k]) {
-        return false;
-    }
-    if !same_row(key.words, 0, normals, w.normal, k) {
-        return false;
-    }
-    if !same_row(key.words, 3, colours, w.colour, k) {
-        return false;
-    }
-    same_row(key.words, 7, textures, w.texture, k)
+// The vertices made so far, in the slices that hold them; a clause sees the four lists.
+#[derive(Drop)]
+pub struct Made<'a> {
+    sources: &'a [u32],
+    normals: &'a [u32],
+    colours: &'a [u32],
+    textures: &'a [u32],
 }
 
-// The vertex, if there is one, among the first n that has the point and the words of a corner. Only the chain of the vertices in the key's bucket is
-// looked at: the last of them is in its head, the one before vertex i in the next of i.
-pub fn find(
-    sources: &[u32],
-    normals: &[u32],
-    colours: &[u32],
-    textures: &[u32],
-    w: Widths,
-    n: VertexNumber,
-    bucket: Bucket,
-    key: &CornerKey<'_>,
-    work: &[u32],
-    t: Chains,
-) -> Option<VertexNumber>
-    requires { Roomy w (record { sources = sources.now; normals = normals.now; colours = colours.now; textures = textures.now }) n.0
-        × Laid t (length work.now) n.0
-        × Chained t (bucket_at w t (record { sources = sources.now; normals = normals.now; colours = colours.now; textures = textures.now })) work.now n.0
-        × (bucket.0 ≡ bucket_of t.buckets (corner_key w key.now.point.0 key.now.words.now)) × (bucket.0 < t.buckets) }
-    ensures { result ≡ place_of w (record { sources = sources.now; normals = normals.now; colours = colours.now; textures = textures.now }) n.0
-        (corner_key w key.now.point.0 key.now.words.now) }
-{
-    let mut x = known_by(work[t.heads + bucket.0]);
-    // A while: the next vertex is where the chain leads, so no range counts it.
-    while let Some(i) = x {
-        if same_vertex(sources, normals, colours, textures, w, i, key) {
-            return x;
+impl<'a> Model for Made<'a> {
+    ghost Value = { Store };
+
+    ghost view = { λ m. record { sources = m.sources.now; normals = m.normals.now; colours = m.colours.now; textures = m.textures.now } };
+}
+
+impl<'a> Made<'a> {
+    pub fn of(
+        sources: &'a [u32],
+        normals: &'a [u32],
+        colours: &'a [u32],
+        textures: &'a [u32],
+    ) -> Made<'a>
+        ensures { result ≡ record { sources = sources.now; normals = normals.now; colours = colours.now; textures = textures.now } }
+    {
+        Made {
+            sources,
+            normals,
+            colours,
+            textures,
         }
-        x = known_by(work[t.nexts + i.0]);
     }
-    None
+
+    // Whether vertex i has the point and the words of a corner (VertexKey).
+    pub fn same_vertex(&self, w: Widths, i: VertexNumber, key: &CornerKey<'_>) -> bool
+        requires { Roomy w self.now (i.0 + 1) }
+        ensures { result ≡ same_key (corner_key w key.now.point.0 key.now.words.now) (key_at w self.now i.0) }
+    {
+        let k = i.0;
+        if key.point.0 != wide(self.sources[k]) {
+            return false;
+        }
+        if !same_row(key.words, 0, self.normals, w.normal, k) {
+            return false;
+        }
+        if !same_row(key.words, 3, self.colours, w.colour, k) {
+            return false;
+        }
+        same_row(key.words, 7, self.textures, w.texture, k)
+    }
+
+    // The vertex, if there is one, among the first n that has the point and the words of a corner. Only the chain of the vertices in the key's bucket is
+    // looked at: the last of them is in its head, the one before vertex i in the next of i.
+    pub fn find(
+        &self,
+        w: Widths,
+        n: VertexNumber,
+        bucket: Bucket,
+        key: &CornerKey<'_>,
+        work: &[u32],
+        t: Chains,
+    ) -> Option<VertexNumber>
+        requires { Roomy w self.now n.0 × Laid t (length work.now) n.0 × Chained t (bucket_at w t self.now) work.now n.0
+            × (bucket.0 ≡ bucket_of t.buckets (corner_key w key.now.point.0 key.now.words.now)) × (bucket.0 < t.buckets) }
+        ensures { result ≡ place_of w self.now n.0 (corner_key w key.now.point.0 key.now.words.now) }
+    {
+        let mut x = known_by(work[t.heads + bucket.0]);
+        // A while: the next vertex is where the chain leads, so no range counts it.
+        while let Some(i) = x {
+            if self.same_vertex(w, i, key) {
+                return x;
+            }
+            x = known_by(work[t.nexts + i.0]);
+        }
+        None
+    }
 }

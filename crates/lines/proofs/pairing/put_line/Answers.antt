@@ -9,7 +9,7 @@ put_all-requires c = omega (arith, line_two _ c.args.next.0 c.in-Some.is, c.requ
 
 pub returns-in-Some : goal.returns-in-Some
 returns-in-Some c =
-    record { next = ap (λ (n : ℕ). c.args.at + n) (sym (line_two _ c.args.next.0 c.in-Some.is)); made = line_put _ _ c.in-Some.is _ _ c.put_all.ensures }
+    record { next = ap (λ (n : ℕ). c.args.at + n) (sym (line_two _ c.args.next.0 c.in-Some.is)); made = line_put _ _ c.in-Some.is _ _ (rw (c.narrow.ensures, c.narrow-in-Some.ensures) at c.put_all.ensures) }
 
 pub returns-in-None : goal.returns-in-None
 returns-in-None c = line_left _ c.in-None.is _ _
