@@ -119,7 +119,7 @@ pub struct Four<T> {
 
 // The whole parts of four roots, as `int_root` finds one. A digit waits for the one before; those of four numbers do not wait for each other.
 // No list of N numbers, of which one is the case of 1: a length and an index are of 64 bits, and nothing here may be (tests/narrow.sh). And no step
-// over q, r and rest in one struct, for one root and for each of four: then four took 198 ns in place of 76, as the machine no longer counts them at once.
+// over q, r and rest in one struct, for one root and for each of four: then four took 198 ns in place of 76.
 fn int_roots(s: Four<u32>) -> Four<u32>
     ensures { (result.a ≡ isqrt 25 (s.a * 2 ^ 18)) × (result.b ≡ isqrt 25 (s.b * 2 ^ 18)) × (result.c ≡ isqrt 25 (s.c * 2 ^ 18)) × (result.d ≡ isqrt 25 (s.d * 2 ^ 18)) }
 {
