@@ -31,18 +31,6 @@ last_step s f i y z r ey ez er = rw (er, ey, ez, add-one) (option_or_is (f i) (l
 
 -- ---- the ends
 
--- a point that is no end has two neighbours
-pub inner : (n i : ℕ) (t : Bool) → t ≡ is_end n i → t ≡ false → i < n → (0 < i) × (i + 1 < n)
-inner n i t e f h = go (eqb i 0) (eqb i (n - 1)) refl refl (sym e ∙ f)
-  where
-    go : (p q : Bool) → eqb i 0 ≡ p → eqb i (n - 1) ≡ q → (p || q) ≡ false → (0 < i) × (i + 1 < n)
-    go true q a b g = absurd (true≢false g)
-    go false true a b g = absurd (true≢false g)
-    go false false a b g =
-        let u = eqb-false i 0 a in
-        let v = eqb-false i (n - 1) b in
-        (omega arith, omega arith)
-
 pub closed_long : (sp : List V3) (n : ℕ) (p q : V3) (r : Bool) → n ≡ length sp → 2 < n → p ≡ at sp 0 → q ≡ at sp (n - 1) → r ≡ same3 p q → r ≡ closed sp
 unfolding closed
 closed_long sp n p q r en h ep eq er = rw (er, ep, eq, ← en, lt-ltb 2 n h) refl
