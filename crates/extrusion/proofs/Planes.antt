@@ -1,12 +1,10 @@
 -- FORMAT 8.4: laws of the axes, one for each way a function of the code returns.
-use mathlib.Core.Path.{◌≡◌, refl, sym, ◌∙◌}
-use mathlib.Core.Bool.{Bool, true, false, ◌||◌, true≢false}
+use mathlib.Core.Path.{◌≡◌, refl}
+use mathlib.Core.Bool.{Bool, true, false}
 use mathlib.Core.List.{List}
 use Prim.Native.Nat.{ℕ, ◌+◌, ◌-◌, ◌≤◌, ◌<◌}
-use native.Mathlib.Omega.{arith}
 use native.Mathlib.Numerals.{add-one}
-use borrow.Author.Tests.{lt-ltb, le-ltb, eq-eqb, ne_eqb, eqb-false}
-use lib.Dec.{eqb}
+use borrow.Author.Tests.{lt-ltb, le-ltb, eq-eqb, ne_eqb}
 use lib.ListN.{length}
 use lib.Ieee.{Float, lt, neg}
 use Rattle.math.specs.declared.vector.V3.{V3}
@@ -30,18 +28,6 @@ unfolding last_of
 last_step s f i y z r ey ez er = rw (er, ey, ez, add-one) (option_or_is (f i) (last_of s f i))
 
 -- ---- the ends
-
--- a point that is no end has two neighbours
-pub inner : (n i : ℕ) (t : Bool) → t ≡ is_end n i → t ≡ false → i < n → (0 < i) × (i + 1 < n)
-inner n i t e f h = go (eqb i 0) (eqb i (n - 1)) refl refl (sym e ∙ f)
-  where
-    go : (p q : Bool) → eqb i 0 ≡ p → eqb i (n - 1) ≡ q → (p || q) ≡ false → (0 < i) × (i + 1 < n)
-    go true q a b g = absurd (true≢false g)
-    go false true a b g = absurd (true≢false g)
-    go false false a b g =
-        let u = eqb-false i 0 a in
-        let v = eqb-false i (n - 1) b in
-        (omega arith, omega arith)
 
 pub closed_long : (sp : List V3) (n : ℕ) (p q : V3) (r : Bool) → n ≡ length sp → 2 < n → p ≡ at sp 0 → q ≡ at sp (n - 1) → r ≡ same3 p q → r ≡ closed sp
 unfolding closed

@@ -11,7 +11,7 @@ use lib.Ieee.{Float}
 use lib.ListN.{length, get_or, take}
 use lib.Seq.{take_all}
 use Rattle.std.specs.List.{list_any}
-use borrow.Author.Tests.{eq-eqb, ne_eqb, lt-ltb, le-ltb, ltb-false}
+use borrow.Author.Tests.{eq-eqb, lt-ltb, le-ltb, ltb-false}
 use Rattle.lists.specs.Loops.{pick, run, first}
 use Rattle.lists.proofs.Loops.{run_go, run_end}
 use Rattle.lists.proofs.Searches.{first_has}
@@ -134,9 +134,6 @@ module _ (rays : List Float) (tri : Triangle) (number m : ℕ) {count : ℕ} (e 
     none_hit rays tri number m l (sym e ∙ z),
     sym (ap (λ (b : Bool). b || any_clear l m) (eq-eqb (hit_count rays tri m) 0 (sym e ∙ z))),
   )
-
-  pub turn_hit : (l : List ℕ) {r : Bool} → (count ≡ 0 → ⊥) → r ≡ any_clear l m → r ≡ (eqb (hit_count rays tri m) 0 || any_clear l m)
-  turn_hit l z q = q ∙ sym (ap (λ (b : Bool). b || any_clear l m) (ne_eqb (hit_count rays tri m) 0 (λ (w : hit_count rays tri m ≡ 0). z (e ∙ w))))
 
 -- no path is left clear: the triangles that are left change nothing
 pub turns_end : (positions indices : List ℕ) (rays : List Float) (m : ℕ) {n t : ℕ} {l₀ l : List ℕ} (a : Bool) {r : Bool} → Running (turn_of positions indices rays m) n l₀ t l

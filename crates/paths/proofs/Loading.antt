@@ -1,5 +1,5 @@
 -- The rays of the paths, put one after the other. Assumes nothing.
-use mathlib.Core.Path.{◌≡◌, refl, sym, ap, ◌∙◌, subst}
+use mathlib.Core.Path.{◌≡◌, refl, sym, ap, ◌∙◌}
 use mathlib.Core.List.{List}
 use mathlib.Core.Logic.{⊎_elim}
 use Prim.Native.Nat.{ℕ, ◌+◌, ◌*◌, ◌≤◌, ◌<◌}
@@ -120,6 +120,3 @@ module _ {paths : List ℕ} {m : ℕ} {rays₀ : List Float} where
           ∙ ray_same rays j from dir (omega arith) (L.size ∙ s)
           ∙ (λ n. record { orig = ef n; dir = (ed ∙ (λ k. vsub (et k) (ef k))) n })
           ∙ ap (λ (k : ℕ). ray_in paths k) (sym q)
-
-  pub loading_all : {rays : List Float} {j : ℕ} → Loading paths m rays₀ j rays → m ≤ j → Loaded paths rays m
-  loading_all {rays} {j} L b = let e : j ≡ m = omega (arith, L.so_far) in subst (λ (k : ℕ). Loaded paths rays k) e L.loaded

@@ -1,18 +1,12 @@
 use Prim.Native.Nat.{◌*◌, ◌-◌}
 use Rattle.lists.proofs.Pieces.{pieces_all, pieces_more, pieces_none}
-use Rattle.extrusion.proofs.Sides.{row_width, rows_most, sides_are}
+use Rattle.extrusion.proofs.Sides.{row_width, sides_are}
 use Rattle.lists.specs.Parts.{spliced}
-use Rattle.lists.proofs.Numbers.{piece_room}
 use mathlib.Core.Path.{◌∙◌, ap, refl}
-use native.Mathlib.Omega.{arith}
 use Rattle.extrusion.proofs.faces.put_sides.Goals as goal
 
 pub loop-i-init : goal.loop-i-init
 loop-i-init c = pieces_none
-
-pub put_quad_row-requires : goal.put_quad_row-requires
-put_quad_row-requires c =
-    (c.requires.1, omega (arith, piece_room _ _ ((c.args.m - 1) * 4) _ _ c.requires.3 c.loop-i-test.true, c.loop-i.invariant.size), rows_most _ _ _ c.requires.2 c.loop-i-test.true)
 
 pub loop-i-preserved : goal.loop-i-preserved
 loop-i-preserved c =
