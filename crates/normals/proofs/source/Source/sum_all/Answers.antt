@@ -1,12 +1,7 @@
 use mathlib.Core.Path.{refl, ap, ◌∙◌}
-use Rattle.lists.proofs.Lists.{all_low}
 use Rattle.mesh.specs.Normals.{sum_all}
 use Rattle.normals.proofs.Walks.{left_step, left_end, all_one, all_none}
 use Rattle.normals.proofs.source.Source.sum_all.Goals as goal
-
-pub normal_of-requires : goal.normal_of-requires
-normal_of-requires c =
-    all_low c.args.self.now.plan.now.faces c.faces_at-faces.result.now c.faces_at-faces.ensures.low _ _ c.loop-g-test.true c.wide.ensures
 
 pub loop-g-preserved : goal.loop-g-preserved
 loop-g-preserved c =
