@@ -17,6 +17,7 @@ pub struct Side {
     pub r: f32,
     pub height: f32,
     pub n: usize,
+    ghost few: { n ≤ 1024 },
 }
 
 // What is scaled to length 1 for the normal at pair p.
@@ -143,7 +144,7 @@ fn cone_apex(height: f32, normal: V3, s: f32) -> Vert
 
 // The three vertices of slice i.
 fn cone_verts(pairs: &[f32], known: Lengths, k: Side, i: usize) -> [Vert; 3]
-    requires { (k.n ≤ 1024) × (i < k.n) × Roots known }
+    requires { (i < k.n) × Roots known }
     ensures { result ≡ cone_verts pairs.now k.r k.height k.n i }
 {
     let s0 = share(i, k.n);
@@ -167,7 +168,7 @@ fn cone_tri(i: usize) -> [u32; 3]
 
 // The whole side.
 fn put_side(pairs: &[f32], k: Side, b: &mut Builder<'_>)
-    requires { (k.n ≤ 1024) × Roomy (cone_side pairs.now k.r k.height k.n) 0 0 b.old }
+    requires { Roomy (cone_side pairs.now k.r k.height k.n) 0 0 b.old }
     ensures { Written (cone_side pairs.now k.r k.height k.n) 0 0 b.old b.new }
 {
     let known = lengths_near(k.r, k.height);
@@ -175,7 +176,7 @@ fn put_side(pairs: &[f32], k: Side, b: &mut Builder<'_>)
         0,
         k.n,
         |i|
-            requires { (k.n ≤ 1024) × (i < k.n) × Roots known }
+            requires { (i < k.n) × Roots known }
             ensures { result ≡ cone_verts pairs.exit.now k.r k.height k.n i }
         { cone_verts(pairs, known, k, i) },
     );
@@ -184,7 +185,7 @@ fn put_side(pairs: &[f32], k: Side, b: &mut Builder<'_>)
 
 // The side, if there is one. As in cylinder: one function of both would take the vertices, the triangles and their numbers as closures.
 pub fn put_side_at(pairs: &[f32], side: Option<Side>, b: &mut Builder<'_>)
-    requires { IfSome side (λ k. (k.n ≤ 1024) × Roomy (cone_side pairs.now k.r k.height k.n) 0 0 b.old) }
+    requires { IfSome side (λ k. Roomy (cone_side pairs.now k.r k.height k.n) 0 0 b.old) }
     ensures { MatchOption side (b.new ≡ b.old) (λ k. Written (cone_side pairs.now k.r k.height k.n) 0 0 b.old b.new) }
 {
     if let Some(k) = side {

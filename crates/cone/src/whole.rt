@@ -31,18 +31,17 @@ pub struct ConeMarks {
 }
 
 // The flags are the fields of the node, as the call has them; below each becomes an Option with its value.
-fn marks_of(n: usize, side: bool, bottom: bool) -> ConeMarks
-    requires { n ≤ 1024 }
-    ensures { result ≡ cone_marks_of n side bottom }
+fn marks_of(k: Side, side: bool, bottom: bool) -> ConeMarks
+    ensures { result ≡ cone_marks_of k.n side bottom }
 {
-    let a = side.then_some(side_sizes(n)).unwrap_or(NO_PART);
-    let all = sum_sizes(a, bottom.then_some(cap_sizes(n)).unwrap_or(NO_PART));
+    let a = side.then_some(side_sizes(k.n)).unwrap_or(NO_PART);
+    let all = sum_sizes(a, bottom.then_some(cap_sizes(k.n)).unwrap_or(NO_PART));
     ConeMarks { bottom: a, all }
 }
 
 // The side and the bottom, each where it is there, one after the other.
 fn put_cone(pairs: &[f32], k: Side, side: bool, bottom: bool, m: ConeMarks, b: &mut Builder<'_>)
-    requires { (k.n ≤ 1024) × (m ≡ cone_marks_of k.n side bottom) × Roomy (cone_part pairs.now k.r k.height k.n side bottom) 0 0 b.old }
+    requires { (m ≡ cone_marks_of k.n side bottom) × Roomy (cone_part pairs.now k.r k.height k.n side bottom) 0 0 b.old }
     ensures { Written (cone_part pairs.now k.r k.height k.n side bottom) 0 0 b.old b.new }
 {
     put_side_at(pairs, side.then_some(k), b);
@@ -88,7 +87,7 @@ pub fn cone(
         textures,
         indices,
     };
-    let m = marks_of(k.n, side, bottom);
+    let m = marks_of(k, side, bottom);
     b.refusal(m.all, pairs.len())?;
     put_cone(pairs, k, side, bottom, m, &mut b);
     Ok(part_report(m.all))

@@ -13,11 +13,12 @@ pub struct Side {
     pub r: f32,
     pub h: f32,
     pub n: usize,
+    ghost few: { n ≤ 1024 },
 }
 
 // The vertex at pair i, at height y, with t.
 fn side_vert(pairs: &[f32], k: Side, i: usize, y: f32, t: f32) -> Vert
-    requires { (k.n ≤ 1024) × (i ≤ k.n) }
+    requires { i ≤ k.n }
     ensures { result ≡ side_vert pairs.now k.r k.n i y t }
 {
     let q = ring_at(pairs, i);
@@ -42,7 +43,7 @@ fn side_vert(pairs: &[f32], k: Side, i: usize, y: f32, t: f32) -> Vert
 
 // The two at pair i.
 fn side_verts(pairs: &[f32], k: Side, i: usize) -> [Vert; 2]
-    requires { (k.n ≤ 1024) × (i ≤ k.n) }
+    requires { i ≤ k.n }
     ensures { result ≡ side_verts pairs.now k.r k.h k.n i }
 {
     let below = side_vert(pairs, k, i, -k.h, 0.0);
@@ -64,14 +65,14 @@ fn side_tris(i: usize) -> [u32; 6]
 
 // The whole side.
 fn put_side(pairs: &[f32], k: Side, b: &mut Builder<'_>)
-    requires { (k.n ≤ 1024) × Roomy (side_part pairs.now k.r k.h k.n) 0 0 b.old }
+    requires { Roomy (side_part pairs.now k.r k.h k.n) 0 0 b.old }
     ensures { Written (side_part pairs.now k.r k.h k.n) 0 0 b.old b.new }
 {
     b.put_verts(
         0,
         k.n + 1,
         |i|
-            requires { (k.n ≤ 1024) × (i ≤ k.n) }
+            requires { i ≤ k.n }
             ensures { result ≡ side_verts pairs.exit.now k.r k.h k.n i }
         { side_verts(pairs, k, i) },
     );
@@ -80,7 +81,7 @@ fn put_side(pairs: &[f32], k: Side, b: &mut Builder<'_>)
 
 // The side, if there is one. As in cone: one function of both would take the vertices, the triangles and their numbers as closures.
 pub fn put_side_at(pairs: &[f32], side: Option<Side>, b: &mut Builder<'_>)
-    requires { IfSome side (λ k. (k.n ≤ 1024) × Roomy (side_part pairs.now k.r k.h k.n) 0 0 b.old) }
+    requires { IfSome side (λ k. Roomy (side_part pairs.now k.r k.h k.n) 0 0 b.old) }
     ensures { MatchOption side (b.new ≡ b.old) (λ k. Written (side_part pairs.now k.r k.h k.n) 0 0 b.old b.new) }
 {
     if let Some(k) = side {

@@ -32,13 +32,12 @@ pub struct Marks {
 }
 
 // The flags are the fields of the node, as the call has them; below each becomes an Option with its value.
-fn marks_of(n: usize, side: bool, top: bool, bottom: bool) -> Marks
-    requires { n ≤ 1024 }
-    ensures { result ≡ marks_of n side top bottom }
+fn marks_of(k: Side, side: bool, top: bool, bottom: bool) -> Marks
+    ensures { result ≡ marks_of k.n side top bottom }
 {
-    let a = side.then_some(side_sizes(n)).unwrap_or(NO_PART);
-    let b = sum_sizes(a, top.then_some(cap_sizes(n)).unwrap_or(NO_PART));
-    let all = sum_sizes(b, bottom.then_some(cap_sizes(n)).unwrap_or(NO_PART));
+    let a = side.then_some(side_sizes(k.n)).unwrap_or(NO_PART);
+    let b = sum_sizes(a, top.then_some(cap_sizes(k.n)).unwrap_or(NO_PART));
+    let all = sum_sizes(b, bottom.then_some(cap_sizes(k.n)).unwrap_or(NO_PART));
     Marks {
         top: a,
         bottom: b,
@@ -56,7 +55,7 @@ fn put_cylinder(
     m: Marks,
     b: &mut Builder<'_>,
 )
-    requires { (k.n ≤ 1024) × (m ≡ marks_of k.n side top bottom) × Roomy (cylinder_part pairs.now k.r k.h k.n side top bottom) 0 0 b.old }
+    requires { (m ≡ marks_of k.n side top bottom) × Roomy (cylinder_part pairs.now k.r k.h k.n side top bottom) 0 0 b.old }
     ensures { Written (cylinder_part pairs.now k.r k.h k.n side top bottom) 0 0 b.old b.new }
 {
     put_side_at(pairs, side.then_some(k), b);
@@ -112,7 +111,7 @@ pub fn cylinder(
         textures,
         indices,
     };
-    let m = marks_of(k.n, side, top, bottom);
+    let m = marks_of(k, side, top, bottom);
     b.refusal(m.all, pairs.len())?;
     put_cylinder(pairs, k, side, top, bottom, m, &mut b);
     Ok(part_report(m.all))

@@ -5,6 +5,7 @@ ghost use Rattle.lists.specs.Loops.{tab};
 ghost use Rattle.lists.specs.Parts.{Added, spliced};
 ghost use Rattle.sphere.specs.Sphere.{sphere_quad, sphere_band};
 
+use crate::ball::Ball;
 use lists::put_all;
 use parts::index_of;
 
@@ -23,38 +24,38 @@ fn put_tri(indices: &mut [u32], at: usize, tri: Option<[u32; 3]>) -> usize
 }
 
 // Those between rows j and j + 1 at slice i, and the next place.
-fn put_quad(indices: &mut [u32], at: usize, n: usize, k: usize, j: usize, i: usize) -> usize
-    requires { (n ≤ 1024) × (k ≤ 1024) × (j < k) × (i < n) × (at + length (sphere_quad n k j i) ≤ length indices.old) }
-    ensures { Added spliced (sphere_quad n k j i) at indices.old result indices.new }
+fn put_quad(indices: &mut [u32], at: usize, o: Ball, j: usize, i: usize) -> usize
+    requires { (j < o.k) × (i < o.n) × (at + length (sphere_quad o.n o.k j i) ≤ length indices.old) }
+    ensures { Added spliced (sphere_quad o.n o.k j i) at indices.old result indices.new }
 {
-    let first = j * (n + 1) + i;
+    let first = j * (o.n + 1) + i;
     let a = index_of(first);
     let b = index_of(first + 1);
-    let c = index_of(first + (n + 1) + 1);
-    let d = index_of(first + (n + 1));
+    let c = index_of(first + (o.n + 1) + 1);
+    let d = index_of(first + (o.n + 1));
     let next = put_tri(indices, at, (j != 0).then_some([a, b, c]));
-    put_tri(indices, next, (j + 1 != k).then_some([a, c, d]))
+    put_tri(indices, next, (j + 1 != o.k).then_some([a, c, d]))
 }
 
 // A loop, not put_words: a quad has one triangle or two, and a row of words one length.
-fn put_band(indices: &mut [u32], at: usize, n: usize, k: usize, j: usize) -> usize
-    requires { (n ≤ 1024) × (k ≤ 1024) × (j < k) × (at + length (sphere_band n k j) ≤ length indices.old) }
-    ensures { Added spliced (sphere_band n k j) at indices.old result indices.new }
+fn put_band(indices: &mut [u32], at: usize, o: Ball, j: usize) -> usize
+    requires { (j < o.k) × (at + length (sphere_band o.n o.k j) ≤ length indices.old) }
+    ensures { Added spliced (sphere_band o.n o.k j) at indices.old result indices.new }
 {
     let mut at = at;
-    for i in 0..n {
-        at = put_quad(indices, at, n, k, j, i);
+    for i in 0..o.n {
+        at = put_quad(indices, at, o, j, i);
     }
     at
 }
 
 // All bands.
-pub fn put_bands(indices: &mut [u32], n: usize, k: usize)
-    requires { (n ≤ 1024) × (k ≤ 1024) × (length (flat (tab (sphere_band n k) k 0)) ≤ length indices.old) }
-    ensures { indices.new ≡ spliced indices.old 0 (flat (tab (sphere_band n k) k 0)) }
+pub fn put_bands(indices: &mut [u32], o: Ball)
+    requires { length (flat (tab (sphere_band o.n o.k) o.k 0)) ≤ length indices.old }
+    ensures { indices.new ≡ spliced indices.old 0 (flat (tab (sphere_band o.n o.k) o.k 0)) }
 {
     let mut at = 0;
-    for j in 0..k {
-        at = put_band(indices, at, n, k, j);
+    for j in 0..o.k {
+        at = put_band(indices, at, o, j);
     }
 }

@@ -1,6 +1,7 @@
 // FORMAT 17.7, sphere.
 #![tactic(auto)]
 
+mod ball;
 mod bands;
 mod rows;
 mod whole;

@@ -5,16 +5,17 @@ ghost use Rattle.lists.specs.Loops.{tab};
 ghost use Rattle.parts.specs.Building.{Room, Pushes};
 ghost use Rattle.sphere.specs.Sphere.{sphere_vert, sphere_row};
 
+use crate::ball::Ball;
 use block::Pair;
 use math::V3;
 use parts::{Builder, Vert, cosine_at, ring_at, share, sine_at};
 
 // Vertex i of row j.
-fn sphere_vert(r: f32, n: usize, k: usize, pairs: &[f32], j: usize, i: usize) -> Vert
-    requires { (n ≤ 1024) × (k ≤ 1024) × (j ≤ k) × (i ≤ n) }
-    ensures { result ≡ sphere_vert r n k pairs.now j i }
+fn sphere_vert(o: Ball, pairs: &[f32], j: usize, i: usize) -> Vert
+    requires { (j ≤ o.k) × (i ≤ o.n) }
+    ensures { result ≡ sphere_vert o.r o.n o.k pairs.now j i }
 {
-    let phi = j * (n + 2);
+    let phi = j * (o.n + 2);
     let sine = sine_at(pairs, phi);
     let q = ring_at(pairs, phi + 1 + i);
     let normal = V3 {
@@ -22,10 +23,10 @@ fn sphere_vert(r: f32, n: usize, k: usize, pairs: &[f32], j: usize, i: usize) ->
         y: -cosine_at(pairs, phi),
         z: q.z * sine,
     };
-    let position = math::scale(normal, r);
+    let position = math::scale(normal, o.r);
     let st = Pair {
-        s: share(i, n),
-        t: share(j, k),
+        s: share(i, o.n),
+        t: share(j, o.k),
     };
     Vert {
         position,
@@ -35,26 +36,26 @@ fn sphere_vert(r: f32, n: usize, k: usize, pairs: &[f32], j: usize, i: usize) ->
 }
 
 // Row by row: with one closure for all rows each vertex would find its row by a division.
-fn put_row(r: f32, n: usize, k: usize, pairs: &[f32], j: usize, b: &mut Builder<'_>)
-    requires { (n ≤ 1024) × (k ≤ 1024) × (j ≤ k) × Room (j * (n + 1) + (n + 1)) b.old }
-    ensures { Pushes (j * (n + 1)) (sphere_row r n k pairs.now j) b.old b.new }
+fn put_row(o: Ball, pairs: &[f32], j: usize, b: &mut Builder<'_>)
+    requires { (j ≤ o.k) × Room (j * (o.n + 1) + (o.n + 1)) b.old }
+    ensures { Pushes (j * (o.n + 1)) (sphere_row o.r o.n o.k pairs.now j) b.old b.new }
 {
     b.put_verts(
-        j * (n + 1),
-        n + 1,
+        j * (o.n + 1),
+        o.n + 1,
         |i|
-            requires { (n ≤ 1024) × (k ≤ 1024) × (j ≤ k) × (i ≤ n) }
-            ensures { result ≡ sphere_vert r n k pairs.exit.now j i ∷ [] }
-        { [sphere_vert(r, n, k, pairs, j, i)] },
+            requires { (j ≤ o.k) × (i ≤ o.n) }
+            ensures { result ≡ sphere_vert o.r o.n o.k pairs.exit.now j i ∷ [] }
+        { [sphere_vert(o, pairs, j, i)] },
     );
 }
 
 // All rows.
-pub fn put_rows(r: f32, n: usize, k: usize, pairs: &[f32], b: &mut Builder<'_>)
-    requires { (n ≤ 1024) × (k ≤ 1024) × Room (0 + (k + 1) * (n + 1)) b.old }
-    ensures { Pushes 0 (flat (tab (sphere_row r n k pairs.now) (k + 1) 0)) b.old b.new }
+pub fn put_rows(o: Ball, pairs: &[f32], b: &mut Builder<'_>)
+    requires { Room (0 + (o.k + 1) * (o.n + 1)) b.old }
+    ensures { Pushes 0 (flat (tab (sphere_row o.r o.n o.k pairs.now) (o.k + 1) 0)) b.old b.new }
 {
-    for j in 0..k + 1 {
-        put_row(r, n, k, pairs, j, b);
+    for j in 0..o.k + 1 {
+        put_row(o, pairs, j, b);
     }
 }

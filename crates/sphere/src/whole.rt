@@ -1,23 +1,22 @@
 // FORMAT 17.7, 17.10: the call of a sphere.
-ghost use Rattle.std.specs.Prelude.{◌≤◌, ◌<◌, ◌^◌, ◌≡◌, List, Float};
+ghost use Rattle.std.specs.Prelude.{◌<◌, ◌^◌, ◌≡◌, List, Float};
 ghost use Rattle.parts.specs.Parted.{Parted, lent_to};
 ghost use Rattle.parts.specs.Written.{Sized};
 ghost use Rattle.sphere.specs.Sphere.{sphere_part, sphere_of};
 
+use crate::ball::Ball;
 use crate::bands::put_bands;
 use crate::rows::put_rows;
 use lent::Answer;
 use parts::{Builder, GeomCtx, PartSizes, dim, finite_ctx, held, part_report};
 
-// Of n slices and k stacks.
-fn sphere_sizes(n: usize, k: usize) -> PartSizes
-    requires { (n ≤ 1024) × (2 ≤ k) × (k ≤ 1024) }
-    ensures { (result.vertices < 2 ^ 32) × ((r : Float) (ps : List Float) → Sized (sphere_part r n k ps) result) }
+fn sphere_sizes(o: Ball) -> PartSizes
+    ensures { (result.vertices < 2 ^ 32) × ((r : Float) (ps : List Float) → Sized (sphere_part r o.n o.k ps) result) }
 {
     PartSizes {
-        vertices: (k + 1) * (n + 1),
-        indices: 6 * n * (k - 1),
-        pairs: (k + 1) * (n + 2),
+        vertices: (o.k + 1) * (o.n + 1),
+        indices: 6 * o.n * (o.k - 1),
+        pairs: (o.k + 1) * (o.n + 2),
     }
 }
 
@@ -38,9 +37,11 @@ pub fn sphere(
         (lent_to positions.old normals.old textures.old indices.old)
         (lent_to positions.new normals.new textures.new indices.new) result }
 {
-    let r = dim(radius, 1.0);
-    let n = held(slices, 3);
-    let k = held(stacks, 2);
+    let o = Ball {
+        r: dim(radius, 1.0),
+        n: held(slices, 3),
+        k: held(stacks, 2),
+    };
     let mut b = Builder {
         ctx: finite_ctx(ctx),
         positions,
@@ -48,9 +49,9 @@ pub fn sphere(
         textures,
         indices,
     };
-    let z = sphere_sizes(n, k);
+    let z = sphere_sizes(o);
     b.refusal(z, pairs.len())?;
-    put_rows(r, n, k, pairs, &mut b);
-    put_bands(b.indices, n, k);
+    put_rows(o, pairs, &mut b);
+    put_bands(b.indices, o);
     Ok(part_report(z))
 }

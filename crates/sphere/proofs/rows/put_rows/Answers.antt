@@ -12,8 +12,8 @@ loop-j-init c = pushes_none _ _
 
 pub put_row-requires : goal.put_row-requires
 put_row-requires c =
-    (c.requires.0, c.requires.1, omega (arith, c.loop-j-test.true), list_room (sphere_row c.args.r c.args.n c.args.k c.args.pairs.now) (row_length c.args.r c.args.n c.args.k c.args.pairs.now) c.requires.2 c.loop-j.invariant c.loop-j-test.true (omega arith))
+    (omega (arith, c.loop-j-test.true), list_room (sphere_row c.args.o.r c.args.o.n c.args.o.k c.args.pairs.now) (row_length c.args.o.r c.args.o.n c.args.o.k c.args.pairs.now) c.requires c.loop-j.invariant c.loop-j-test.true (omega arith))
 
 pub loop-j-preserved : goal.loop-j-preserved
 loop-j-preserved c =
-    list_more (sphere_row c.args.r c.args.n c.args.k c.args.pairs.now) (row_length c.args.r c.args.n c.args.k c.args.pairs.now) c.requires.2 c.loop-j.invariant c.loop-j-test.true (omega arith) c.put_row.ensures
+    list_more (sphere_row c.args.o.r c.args.o.n c.args.o.k c.args.pairs.now) (row_length c.args.o.r c.args.o.n c.args.o.k c.args.pairs.now) c.requires c.loop-j.invariant c.loop-j-test.true (omega arith) c.put_row.ensures

@@ -4,4 +4,4 @@ use Rattle.sphere.proofs.Adding.{rows_low}
 use Rattle.sphere.proofs.whole.sphere_sizes.Goals as goal
 
 pub returns : goal.returns
-returns c = (omega (arith, rows_low c.args.k c.args.n 1 c.requires.2 (omega (arith, c.requires.0))), sphere_sized c.args.n c.args.k c.requires.1)
+returns c = (omega (arith, rows_low c.args.o.k c.args.o.n 1 c.args.o.few_stacks (omega (arith, c.args.o.few_slices))), sphere_sized c.args.o.n c.args.o.k c.args.o.two_stacks)
