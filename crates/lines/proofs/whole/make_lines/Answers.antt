@@ -9,6 +9,6 @@ pub put_lines-made-requires : goal.put_lines-made-requires
 put_lines-made-requires c =
     let R = c.requires in let Q = R.corners.laid in let l = c.all_vertices-n.ensures.kept.len in (omega (arith, Q.named, Q.places, Q.numbers, Q.textures, Q.heads, Q.nexts, l), told_count R.told, R.room)
 
-pub returns : goal.returns
-returns c =
+pub returns-clause-done : goal.returns-clause-done
+returns-clause-done c =
     let R = c.requires in let C = c.all_vertices-n.ensures in record { lined = λ missing rest T. lined_all T R.corners.laid C R.normal R.texture _ _ _ c.put_lines-made.ensures; words = c.clear_words.ensures ∙ ap (λ (n : ℕ). replicate n 0) C.kept.len; floats = c.clear_floats.ensures }
