@@ -7,22 +7,13 @@ use lib.ListN.{length}
 use Rattle.block.specs.Header.{header_of}
 use Rattle.lent.specs.Answer.{Answer}
 use Rattle.lent.specs.Answer.{saying}
-use Rattle.geometry.specs.Converted.{Lending, Converted}
 use Rattle.text.specs.declared.lines.Parts.{Parts}
 use Rattle.text.specs.Answer.{long_text}
 use Rattle.text.specs.Wrote.{Printed}
 use Rattle.answer.specs.declared.lending.Conversion.{Conversion}
-use Rattle.answer.specs.Lending.{passed, fresh, left, slices_in, Left}
+use Rattle.answer.specs.Lending.{slices_in, Left}
 use Rattle.answer.specs.Text.{longest, parts_of, text_of, block_text, answer_text}
 use Rattle.answer.proofs.Counts.{Few, said_few}
-
-pub left_of : (bs : List ℕ) (m : Lending) (r : Answer) → Converted passed bs fresh m r
-    → Left bs (record { answer = r; positions = m.slices.positions; normals = m.slices.normals; colours = m.slices.colours; textures = m.slices.textures; sources = m.slices.sources; indices = m.slices.indices })
-unfolding left
-left_of bs m r k = record {
-  answer = k.answer;
-  slices = k.slices;
-}
 
 -- the text of what c says
 pub said_printed : (bs : List ℕ) (c : Conversion) (r : Answer) (parts : Parts) (l m : List ℕ) (k : ℕ) → Left bs c → c.answer ≡ r → parts ≡ parts_of (header_of bs)

@@ -2,7 +2,7 @@
 ghost use Rattle.answer.specs.Lending.{Left};
 
 use geometry::Call;
-use lent::Answer;
+use lent::{Answer, Buffers};
 
 // The answer of a call, and what it left in the six slices of the mesh.
 #[derive(Clone, Copy)]
@@ -33,14 +33,16 @@ pub fn lend_and_convert(block: &[u8]) -> Conversion
             colour: geometry::WHITE,
         },
         block,
-        &mut positions,
-        &mut normals,
-        &mut colours,
-        &mut textures,
-        &mut sources,
-        &mut indices,
-        &mut words,
-        &mut floats,
+        &mut Buffers {
+            sources: &mut sources,
+            positions: &mut positions,
+            normals: &mut normals,
+            colours: &mut colours,
+            textures: &mut textures,
+            indices: &mut indices,
+            words: &mut words,
+            floats: &mut floats,
+        },
     );
     Conversion {
         answer,

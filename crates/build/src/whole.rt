@@ -1,10 +1,11 @@
 // FORMAT 5, 10.3, 11, 12, PolyMesh::build and then fix_zero_normals: all of it.
+ghost use Rattle.lent.specs.Buffers.{slices_in, Same};
 ghost use Rattle.build.specs.Built.{Ready, Built};
 
 use crate::shared::Shared;
 use corners::{all_vertices, corner_tables};
 use faces::all_faces;
-use lent::Counts;
+use lent::{Buffers, Counts};
 use mending::fix_zero_normals;
 use tables::{Plan, clear_floats, clear_words};
 
@@ -14,34 +15,32 @@ pub fn build<'a>(
     coord: &'a [u8],
     s: Shared,
     t: Plan,
-    sources: &mut [u32],
-    positions: &mut [u32],
-    normals: &mut [u32],
-    colours: &mut [u32],
-    textures: &mut [u32],
-    indices: &mut [u32],
-    work: &mut [u32],
-    floats: &mut [f32],
+    b: &mut Buffers<'_>,
 ) -> Counts
-    requires { Ready (record { block = block.now; coord = coord.now; floats = floats.old }) s t work.old
-        (record { sources = sources.old; positions = positions.old; normals = normals.old; colours = colours.old; textures = textures.old; indices = indices.old }) }
-    ensures { Built (record { block = block.now; coord = coord.now; floats = floats.old }) s t work.old
-        (record { sources = sources.old; positions = positions.old; normals = normals.old; colours = colours.old; textures = textures.old; indices = indices.old })
-        (record { sources = sources.new; positions = positions.new; normals = normals.new; colours = colours.new; textures = textures.new; indices = indices.new })
-        work.new floats.new result }
+    requires { Ready (record { block = block.now; coord = coord.now; floats = b.old.floats.now }) s t b.old.words.now (slices_in b.old) }
+    ensures same { Same b.old b.new }
+    ensures built { Built (record { block = block.now; coord = coord.now; floats = b.old.floats.now }) s t b.old.words.now
+        (slices_in b.old) (slices_in b.new) b.new.words.now b.new.floats.now result }
 {
     let w = s.widths;
     let a = s.attributes;
     let tables = corner_tables(
         t.count, t.points, t.spots, t.corners, t.named, t.places, t.owners,
     );
+    // What two calls are lent goes under a name of its own: the check of borrows takes no field that is read while another is lent.
+    let words = &mut *b.words;
+    let floats = &mut *b.floats;
+    let positions = &mut *b.positions;
+    let indices = &mut *b.indices;
     let n = all_vertices(
-        block, coord, a, floats, sources, positions, normals, colours, textures, work, w, tables,
+        block, coord, a, floats, b.sources, positions, b.normals, b.colours, b.textures, words, w,
+        tables,
     );
     let vertices = n.0;
-    let k = all_faces(work, t, s.ccw, s.convex, floats, indices);
-    fix_zero_normals(positions, &indices[0..k], vertices, normals, work);
-    clear_words(work);
+    let k = all_faces(words, t, s.ccw, s.convex, floats, indices);
+    let triangles = &*indices;
+    fix_zero_normals(positions, &triangles[0..k], vertices, b.normals, words);
+    clear_words(words);
     clear_floats(floats);
     Counts {
         vertices,

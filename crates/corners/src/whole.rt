@@ -50,6 +50,7 @@ fn number_corner(
 }
 
 // All corners in order. How many vertices there are.
+// Not over `lent::Buffers`: this takes seven of its eight slices one by one at each corner, and would have to promise that floats and indices stay.
 pub fn all_vertices<'a>(
     block: &'a [u8],
     coord: &'a [u8],

@@ -5,6 +5,8 @@ use Rattle.std.specs.Float.Ieee.{of_bits}
 use Rattle.mesh.specs.Mesh.{Slices}
 use Rattle.mesh.specs.Result.{made}
 use Rattle.lent.specs.Answer.{Answer}
+use Rattle.lent.specs.declared.buffers.Buffers.{Buffers}
+use Rattle.lent.specs.Buffers.{slices_in}
 use Rattle.geometry.specs.declared.answer.Call.{Call}
 use Rattle.geometry.specs.declared.answer.Lengths.{Lengths}
 use Rattle.lent.specs.Answer.{saying, said, after_all}
@@ -15,6 +17,10 @@ pub record Lending : Type 0 where
   pub slices : Slices
   pub words : List ℕ
   pub floats : List Float
+
+-- FORMAT 4: of the slices as they are lent
+abbrev pub held : Buffers → Lending
+held b = record { slices = slices_in b; words = b.words.now; floats = b.floats.now }
 
 -- FORMAT 4: their lengths
 unfoldable pub lengths_of : Lending → Lengths

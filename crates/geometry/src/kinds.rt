@@ -2,6 +2,7 @@
 ghost use Rattle.std.specs.Prelude.{length};
 ghost use Rattle.mesh.specs.Result.{block_mesh};
 ghost use Rattle.lent.specs.Lent.{Asked, Shaped, Cleared};
+ghost use Rattle.lent.specs.Buffers.{slices_in, Same};
 ghost use Rattle.sizes.specs.Known.{Counted};
 
 use bits::Words4;
@@ -9,7 +10,7 @@ use block::{Header, Kind, Settings};
 use extrusionshape::make_extrusion;
 use facesetshape::make_face_set;
 use gridshape::make_grid;
-use lent::Counts;
+use lent::{Buffers, Counts};
 use lineshape::make_line_set;
 use primitiveshape::make_primitives;
 use sizes::Sizes;
@@ -21,43 +22,20 @@ pub fn make_kind(
     z: Sizes,
     s: Settings,
     missing: Words4,
-    sources: &mut [u32],
-    positions: &mut [u32],
-    normals: &mut [u32],
-    colours: &mut [u32],
-    textures: &mut [u32],
-    indices: &mut [u32],
-    work: &mut [u32],
-    floats: &mut [f32],
+    b: &mut Buffers<'_>,
 ) -> Counts
     requires { Asked h.kind block.now h s
-        (record { sources = sources.old; positions = positions.old; normals = normals.old; colours = colours.old; textures = textures.old; indices = indices.old })
-        (length work.old) (length floats.old) × Counted block.now h z }
-    ensures { Shaped h (block_mesh missing block.now)
-        (record { sources = sources.old; positions = positions.old; normals = normals.old; colours = colours.old; textures = textures.old; indices = indices.old })
-        (record { sources = sources.new; positions = positions.new; normals = normals.new; colours = colours.new; textures = textures.new; indices = indices.new })
-        result × Cleared work.old work.new floats.old floats.new }
+        (slices_in b.old) (length b.old.words.now) (length b.old.floats.now) × Counted block.now h z }
+    ensures same { Same b.old b.new }
+    ensures made { Shaped h (block_mesh missing block.now) (slices_in b.old) (slices_in b.new) result
+        × Cleared b.old.words.now b.new.words.now b.old.floats.now b.new.floats.now }
 {
     let kind = h.kind;
     match kind {
-        Kind::FaceSet => make_face_set(
-            block, h, z, s, missing, sources, positions, normals, colours, textures, indices, work,
-            floats,
-        ),
-        Kind::LineSet => make_line_set(
-            block, h, z.corners, missing, sources, positions, normals, colours, textures, indices,
-            work, floats,
-        ),
-        Kind::Grid => make_grid(
-            block, h, s, missing, sources, positions, normals, colours, textures, indices, work,
-            floats,
-        ),
-        Kind::Extrusion => make_extrusion(
-            block, h, s, sources, positions, normals, colours, textures, indices, work, floats,
-        ),
-        Kind::Primitives(g) => make_primitives(
-            block, h, g, z, s, missing, sources, positions, normals, colours, textures, indices,
-            work, floats,
-        ),
+        Kind::FaceSet => make_face_set(block, h, z, s, missing, b),
+        Kind::LineSet => make_line_set(block, h, z.corners, missing, b),
+        Kind::Grid => make_grid(block, h, s, missing, b),
+        Kind::Extrusion => make_extrusion(block, h, s, b),
+        Kind::Primitives(g) => make_primitives(block, h, g, z, s, missing, b),
     }
 }

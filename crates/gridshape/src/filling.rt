@@ -30,6 +30,7 @@ pub fn plan_grid(h: Header) -> Plan
 }
 
 // All tables but that of texture.
+// Not one with the other shapes: what puts the points and the faces is this kind's own, and the contract needs what each of these calls asks and gives.
 pub fn put_tables(
     block: &[u8],
     h: Header,

@@ -9,6 +9,7 @@ ghost use Rattle.host.specs.Hosted.{call_of, Hosted};
 use answers::answered;
 use bits::Words4;
 use geometry::Call;
+use lent::Buffers;
 use sine::SinCos;
 
 mod answers;
@@ -67,18 +68,17 @@ pub extern "C" fn sitemesh_convert(
         (record { slices = record { positions = positions.new; normals = normals.new; colours = colours.new; textures = textures.new; sources = sources.new; indices = indices.new }; words = words.new; floats = floats.new }))
         res.old res.new result }
 {
-    let a = geometry::convert(
-        call_of(choice),
-        block,
+    let mut b = Buffers {
+        sources,
         positions,
         normals,
         colours,
         textures,
-        sources,
         indices,
         words,
         floats,
-    );
+    };
+    let a = geometry::convert(call_of(choice), block, &mut b);
     answered(a, res)
 }
 

@@ -2,8 +2,10 @@
 #![tactic(auto)]
 
 mod answer;
+mod buffers;
 
 pub use answer::{Answer, Report};
+pub use buffers::Buffers;
 
 // How many vertices and how many indices.
 #[derive(Clone, Copy)]

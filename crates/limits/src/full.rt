@@ -3,7 +3,7 @@ ghost use Rattle.limits.specs.Shown.{Shows};
 
 use block::LIMIT;
 use geometry::Call;
-use lent::Answer;
+use lent::Buffers;
 
 // The refusal's number, the number of indices, and the first triangle.
 #[derive(Clone, Copy, PartialEq, Eq)]
@@ -26,33 +26,34 @@ pub fn convert_full(block: &[u8]) -> Seen
     let mut indices = [0u32; 3 * LIMIT];
     let mut words = [0u32; 16 * LIMIT + 8];
     let mut floats = [0.0f32; 16 * LIMIT + 8];
-    match geometry::convert(
-        Call {
-            colour: geometry::WHITE,
-        },
-        block,
-        &mut positions,
-        &mut normals,
-        &mut colours,
-        &mut textures,
-        &mut sources,
-        &mut indices,
-        &mut words,
-        &mut floats,
-    ) {
+    let mut b = Buffers {
+        sources: &mut sources,
+        positions: &mut positions,
+        normals: &mut normals,
+        colours: &mut colours,
+        textures: &mut textures,
+        indices: &mut indices,
+        words: &mut words,
+        floats: &mut floats,
+    };
+    let call = Call {
+        colour: geometry::WHITE,
+    };
+    let answer = geometry::convert(call, block, &mut b);
+    match answer {
         Err(no) => Seen {
             number: u32::from(no),
             indices: 0,
-            a: indices[0],
-            b: indices[1],
-            c: indices[2],
+            a: b.indices[0],
+            b: b.indices[1],
+            c: b.indices[2],
         },
         Ok(p) => Seen {
             number: 0,
             indices: p.indices,
-            a: indices[0],
-            b: indices[1],
-            c: indices[2],
+            a: b.indices[0],
+            b: b.indices[1],
+            c: b.indices[2],
         },
     }
 }

@@ -20,6 +20,11 @@ use Rattle.corners.specs.Laid.{chains_of}
 use Rattle.corners.specs.Corner.{Lent, key_in}
 use Rattle.corners.specs.Cornered as cornered
 use Rattle.lent.specs.declared.Counts.{Counts}
+use Rattle.lent.specs.declared.buffers.Buffers.{Buffers}
+
+-- FORMAT 5: of the lent slices, those that tell two vertices apart
+abbrev pub store_in : Buffers → Store
+store_in b = record { sources = b.sources.now; normals = b.normals.now; colours = b.colours.now; textures = b.textures.now }
 
 -- the words w hold the corners of the line set of R and coordIndex, over p points: their keys and the points' words
 pub record Told (missing : Words4) (R : Rest) (L : Lent) (a : Attributes) (widths : Widths) (w : List ℕ) (t : CornerTables) (p : ℕ) : Type 0 where

@@ -1,9 +1,10 @@
 // FORMAT 5, 8.2, indexed_line_set: the mesh of a line set, from its corners' tables.
-ghost use Rattle.lines.specs.Made.{Ready, Done};
+ghost use Rattle.lent.specs.Buffers.{Same};
+ghost use Rattle.lines.specs.Made.{store_in, Ready, Done};
 
 use crate::pairing::put_lines;
 use corners::{Attributes, CornerTables, all_vertices};
-use lent::Counts;
+use lent::{Buffers, Counts};
 use tables::{clear_floats, clear_words};
 use vertices::Widths;
 
@@ -15,28 +16,34 @@ pub fn make_lines<'a>(
     w: Widths,
     t: CornerTables,
     points: u32,
-    sources: &mut [u32],
-    positions: &mut [u32],
-    normals: &mut [u32],
-    colours: &mut [u32],
-    textures: &mut [u32],
-    indices: &mut [u32],
-    work: &mut [u32],
-    floats: &mut [f32],
+    b: &mut Buffers<'_>,
 ) -> Counts
-    requires { Ready (record { block = block.now; coord = coord.now; floats = floats.old }) a w work.old t points
-        (record { sources = sources.old; normals = normals.old; colours = colours.old; textures = textures.old }) positions.old indices.old }
-    ensures { Done (record { block = block.now; coord = coord.now; floats = floats.old }) a w work.old t points
-        (record { sources = sources.old; normals = normals.old; colours = colours.old; textures = textures.old }) positions.old indices.old
-        (record { sources = sources.new; normals = normals.new; colours = colours.new; textures = textures.new }) positions.new indices.new
-        work.new floats.new result }
+    requires { Ready (record { block = block.now; coord = coord.now; floats = b.old.floats.now }) a w b.old.words.now t points
+        (store_in b.old) b.old.positions.now b.old.indices.now }
+    ensures same { Same b.old b.new }
+    ensures done { Done (record { block = block.now; coord = coord.now; floats = b.old.floats.now }) a w b.old.words.now t points
+        (store_in b.old) b.old.positions.now b.old.indices.now (store_in b.new) b.new.positions.now b.new.indices.now
+        b.new.words.now b.new.floats.now result }
 {
+    let words = &mut *b.words;
+    let floats = &mut *b.floats;
     let n = all_vertices(
-        block, coord, a, floats, sources, positions, normals, colours, textures, work, w, t,
+        block,
+        coord,
+        a,
+        floats,
+        b.sources,
+        b.positions,
+        b.normals,
+        b.colours,
+        b.textures,
+        words,
+        w,
+        t,
     );
     let to = t.named + t.count;
-    let made = put_lines(coord, points, &work[t.named..to], indices);
-    clear_words(work);
+    let made = put_lines(coord, points, &words[t.named..to], b.indices);
+    clear_words(words);
     clear_floats(floats);
     Counts {
         vertices: n.0,

@@ -5,12 +5,13 @@ ghost use Rattle.mesh.specs.Lines.{line_set_mesh};
 ghost use Rattle.mesh.specs.Sizes.{sizes_of};
 ghost use Rattle.block.specs.Settings.{settings_of};
 ghost use Rattle.lent.specs.Lent.{Asked, Shaped, Cleared};
+ghost use Rattle.lent.specs.Buffers.{slices_in, Same};
 ghost use Rattle.lineshape.specs.Shape.{line_widths};
 
 use crate::filling::{line_tables, put_tables};
 use bits::Words4;
 use block::{Header, list_part};
-use lent::Counts;
+use lent::{Buffers, Counts};
 use lines::make_lines;
 use soups::{attributes_of, face_widths};
 use vertices::Widths;
@@ -33,33 +34,21 @@ pub fn make_line_set(
     h: Header,
     count: usize,
     missing: Words4,
-    sources: &mut [u32],
-    positions: &mut [u32],
-    normals: &mut [u32],
-    colours: &mut [u32],
-    textures: &mut [u32],
-    indices: &mut [u32],
-    work: &mut [u32],
-    floats: &mut [f32],
+    b: &mut Buffers<'_>,
 ) -> Counts
     requires { Asked LineSet block.now h (settings_of block.now)
-        (record { sources = sources.old; positions = positions.old; normals = normals.old; colours = colours.old; textures = textures.old; indices = indices.old })
-        (length work.old) (length floats.old) × (count ≡ (sizes_of block.now h).corners) }
-    ensures { Shaped h (line_set_mesh missing block.now)
-        (record { sources = sources.old; positions = positions.old; normals = normals.old; colours = colours.old; textures = textures.old; indices = indices.old })
-        (record { sources = sources.new; positions = positions.new; normals = normals.new; colours = colours.new; textures = textures.new; indices = indices.new })
-        result × Cleared work.old work.new floats.old floats.new }
+        (slices_in b.old) (length b.old.words.now) (length b.old.floats.now) × (count ≡ (sizes_of block.now h).corners) }
+    ensures same { Same b.old b.new }
+    ensures made { Shaped h (line_set_mesh missing block.now) (slices_in b.old) (slices_in b.new) result
+        × Cleared b.old.words.now b.new.words.now b.old.floats.now b.new.floats.now }
 {
     let counts = h.counts;
     let points = counts[0];
     let list = list_part(block, h, 0);
     let coord = list_part(block, h, 1);
     let t = line_tables(points, count);
-    put_tables(list, coord, points, work, t);
+    put_tables(list, coord, points, b.words, t);
     let attributes = attributes_of(h, missing);
     let widths = line_widths(h);
-    make_lines(
-        block, coord, attributes, widths, t, points, sources, positions, normals, colours,
-        textures, indices, work, floats,
-    )
+    make_lines(block, coord, attributes, widths, t, points, b)
 }

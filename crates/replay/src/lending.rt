@@ -2,7 +2,7 @@
 use answer::parts_of;
 use block::{LIMIT, read_header};
 use geometry::Call;
-use lent::Answer;
+use lent::{Answer, Buffers};
 
 // Slices for as many points and corners as edition 1 allows (FORMAT 4).
 #[derive(Drop)]
@@ -31,14 +31,16 @@ fn convert_for(corners: u32, block: &[u8], s: &mut Slices) -> Answer {
             colour: geometry::WHITE,
         },
         block,
-        front(&mut s.positions, 3 * k),
-        front(&mut s.normals, 3 * k),
-        front(&mut s.colours, 4 * k),
-        front(&mut s.textures, 2 * k),
-        front(&mut s.sources, k),
-        front(&mut s.indices, 3 * k),
-        front(&mut s.words, 16 * k + 8),
-        front(&mut s.floats, 16 * k + 8),
+        &mut Buffers {
+            sources: front(&mut s.sources, k),
+            positions: front(&mut s.positions, 3 * k),
+            normals: front(&mut s.normals, 3 * k),
+            colours: front(&mut s.colours, 4 * k),
+            textures: front(&mut s.textures, 2 * k),
+            indices: front(&mut s.indices, 3 * k),
+            words: front(&mut s.words, 16 * k + 8),
+            floats: front(&mut s.floats, 16 * k + 8),
+        },
     )
 }
 

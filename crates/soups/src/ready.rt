@@ -39,6 +39,7 @@ fn generate_where(
 }
 
 // The normals and the face numbers of all corners. The tables below the owners are kept; the floats behind the normals are used.
+// `supplied` is a bool: whether there is a stream of normals is all that counts here, and the stream itself would go unread.
 pub fn prepare(
     work: &mut [u32],
     t: Plan,

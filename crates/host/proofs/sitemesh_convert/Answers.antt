@@ -3,5 +3,4 @@ use borrow.Author.Rules.{rules}
 use Rattle.host.proofs.sitemesh_convert.Goals as goal
 
 pub returns : goal.returns
-returns c =
-    converted_ends c.call_of.ensures c.convert-a.ensures c.answered.ensures
+returns c = search (rules, converted_ends)

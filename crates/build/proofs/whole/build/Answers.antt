@@ -17,8 +17,8 @@ pub fix_zero_normals-requires : goal.fix_zero_normals-requires
 fix_zero_normals-requires c =
     mending_ready c.requires (cornered_at _ c.corner_tables-tables.ensures c.all_vertices-n.ensures) c.all_faces-k.ensures c.all_vertices-n.auto.normals
 
-pub returns : goal.returns
-returns c =
+pub returns-clause-built : goal.returns-clause-built
+returns-clause-built c =
     let R = c.requires in
     let C = cornered_at _ c.corner_tables-tables.ensures c.all_vertices-n.ensures in
     let M = c.all_faces-k.ensures in

@@ -1,4 +1,4 @@
-use mathlib.Core.Path.{ap, ◌∙◌}
+use mathlib.Core.Path.{ap}
 use native.Mathlib.Omega.{arith}
 use Rattle.build.specs.declared.shared.Shared.{Shared}
 use Rattle.shaping.specs.Shared.{plain_shared}
@@ -31,16 +31,8 @@ build-requires c =
     ready c.requires (sizes_are c.requires) (counted c.requires c.cap_length-cap.ensures c.ring_width-ring.ensures c.plan_extrusion-t.ensures) c.put_tables.ensures.0 c.texture_where.ensures
     (shape (given c.requires) c.plain_shared-shared.ensures _ _)
 
-pub shape_of-work : goal.shape_of-work
-shape_of-work c =
-    c.build.auto.work ∙ c.texture_where.ensures.kept.len ∙ c.put_tables.ensures.0.len
-
-pub shape_of-floats : goal.shape_of-floats
-shape_of-floats c =
-    c.build.auto.floats ∙ c.put_tables.ensures.0.size
-
-pub returns : goal.returns
-returns c =
+pub returns-clause-made : goal.returns-clause-made
+returns-clause-made c =
     let G = given c.requires in
     shaped c.requires (sizes_are c.requires) (counted c.requires c.cap_length-cap.ensures c.ring_width-ring.ensures c.plan_extrusion-t.ensures) c.put_tables.ensures.0 c.texture_where.ensures
-    (shape G c.plain_shared-shared.ensures _ _) (mesh_is G c.plain_shared-shared.ensures c.requires.accepted.settings c.cap_length-cap.ensures) c.build.ensures
+    (shape G c.plain_shared-shared.ensures _ _) (mesh_is G c.plain_shared-shared.ensures c.requires.accepted.settings c.cap_length-cap.ensures) c.build.ensures.built

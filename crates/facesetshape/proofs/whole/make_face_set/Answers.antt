@@ -1,4 +1,4 @@
-use mathlib.Core.Path.{refl, ◌∙◌}
+use mathlib.Core.Path.{refl}
 use native.Mathlib.Omega.{arith}
 use Rattle.block.proofs.ExtentLaws.{widths_of}
 use Rattle.lent.proofs.Points.{points_in_lem, points_all}
@@ -38,18 +38,10 @@ build-requires c =
     ready A (sized A).sizes (counted A (sized A) (plan_by A (sized A) c.requires.1 c.plan_of-t.ensures)) c.put_tables.ensures c.texture_where.ensures
     (shape c.args.missing _ A.accepted.header A.accepted.settings c.listed_shared-shared.ensures c.list_part-coord.ensures A.kind)
 
-pub shape_of-work : goal.shape_of-work
-shape_of-work c =
-    c.build.auto.work ∙ c.texture_where.ensures.kept.len ∙ c.put_tables.ensures.len
-
-pub shape_of-floats : goal.shape_of-floats
-shape_of-floats c =
-    c.build.auto.floats ∙ c.put_tables.ensures.size
-
-pub returns : goal.returns
-returns c =
+pub returns-clause-made : goal.returns-clause-made
+returns-clause-made c =
     let A = c.requires.0 in
     let h = A.accepted.header in
     let s = A.accepted.settings in
     shaped A (sized A).sizes (counted A (sized A) (plan_by A (sized A) c.requires.1 c.plan_of-t.ensures)) c.put_tables.ensures c.texture_where.ensures
-    (shape c.args.missing _ h s c.listed_shared-shared.ensures c.list_part-coord.ensures A.kind) (mesh_is c.args.missing _ h s c.listed_shared-shared.ensures c.list_part-coord.ensures) c.build.ensures
+    (shape c.args.missing _ h s c.listed_shared-shared.ensures c.list_part-coord.ensures A.kind) (mesh_is c.args.missing _ h s c.listed_shared-shared.ensures c.list_part-coord.ensures) c.build.ensures.built

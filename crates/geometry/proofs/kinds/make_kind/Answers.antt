@@ -21,22 +21,22 @@ pub make_primitives-requires : goal.make_primitives-requires
 make_primitives-requires c =
     (asked_at c.requires.0 c.in-Primitives.is, c.requires.1)
 
-pub returns-in-FaceSet : goal.returns-in-FaceSet
-returns-in-FaceSet c =
-    shaped_at c.requires.0 _ c.in-FaceSet.is _ _ _ _ _ _ c.make_face_set.ensures
+pub returns-in-FaceSet-clause-made : goal.returns-in-FaceSet-clause-made
+returns-in-FaceSet-clause-made c =
+    shaped_at c.requires.0 _ c.in-FaceSet.is _ _ _ _ _ _ c.make_face_set.ensures.made
 
-pub returns-in-LineSet : goal.returns-in-LineSet
-returns-in-LineSet c =
-    shaped_at c.requires.0 _ c.in-LineSet.is _ _ _ _ _ _ c.make_line_set.ensures
+pub returns-in-LineSet-clause-made : goal.returns-in-LineSet-clause-made
+returns-in-LineSet-clause-made c =
+    shaped_at c.requires.0 _ c.in-LineSet.is _ _ _ _ _ _ c.make_line_set.ensures.made
 
-pub returns-in-Grid : goal.returns-in-Grid
-returns-in-Grid c =
-    shaped_at c.requires.0 _ c.in-Grid.is _ _ _ _ _ _ c.make_grid.ensures
+pub returns-in-Grid-clause-made : goal.returns-in-Grid-clause-made
+returns-in-Grid-clause-made c =
+    shaped_at c.requires.0 _ c.in-Grid.is _ _ _ _ _ _ c.make_grid.ensures.made
 
-pub returns-in-Extrusion : goal.returns-in-Extrusion
-returns-in-Extrusion c =
-    shaped_at c.requires.0 _ c.in-Extrusion.is _ _ _ _ _ _ c.make_extrusion.ensures
+pub returns-in-Extrusion-clause-made : goal.returns-in-Extrusion-clause-made
+returns-in-Extrusion-clause-made c =
+    shaped_at c.requires.0 _ c.in-Extrusion.is _ _ _ _ _ _ c.make_extrusion.ensures.made
 
-pub returns-in-Primitives : goal.returns-in-Primitives
-returns-in-Primitives c =
-    shaped_at c.requires.0 _ c.in-Primitives.is _ _ _ _ _ _ c.make_primitives.ensures
+pub returns-in-Primitives-clause-made : goal.returns-in-Primitives-clause-made
+returns-in-Primitives-clause-made c =
+    shaped_at c.requires.0 _ c.in-Primitives.is _ _ _ _ _ _ c.make_primitives.ensures.made

@@ -9,9 +9,9 @@ use Rattle.geometry.proofs.whole.convert.Goals as goal
 pub verdict_for-requires : goal.verdict_for-requires
 verdict_for-requires c = c.read_header-h.ensures
 
-pub returns-in_err-z : goal.returns-in_err-z
+pub returns-in_err-z-clause-converted : goal.returns-in_err-z-clause-converted
 unfolding lengths_of
-returns-in_err-z c =
+returns-in_err-z-clause-converted c =
     let p = err_from_is_err_and c.from_residual.result c.from_residual.ensures.1 in
     rw (p.1, p.2) (refused_call _ _ _ _ (refused_is _ _ _ _ c.in_err-z.ensures _ refl) (number_some _))
 
@@ -20,5 +20,5 @@ unfolding lengths_of
 make-requires c =
     let p = passed_is _ _ _ _ c.in_ok-z.ensures _ refl in (c.read_header-h.ensures, p.1, p.0)
 
-pub returns : goal.returns
-returns c = c.make.ensures
+pub returns-clause-converted : goal.returns-clause-converted
+returns-clause-converted c = c.make.ensures.converted

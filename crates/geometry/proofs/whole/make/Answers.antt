@@ -7,6 +7,6 @@ pub make_kind-n-requires : goal.make_kind-n-requires
 make_kind-n-requires c =
     (asked_by _ _ _ _ c.requires.0 c.read_settings-s.ensures c.requires.2, c.requires.1)
 
-pub returns : goal.returns
-returns c =
-    made_call _ _ _ _ _ _ c.requires.2 _ _ c.requires.0 refl c.make_kind-n.ensures c.flags_of-f.ensures
+pub returns-clause-converted : goal.returns-clause-converted
+returns-clause-converted c =
+    made_call _ _ _ _ _ _ c.requires.2 _ _ c.requires.0 refl c.make_kind-n.ensures.made c.flags_of-f.ensures

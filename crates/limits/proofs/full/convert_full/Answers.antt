@@ -6,8 +6,8 @@ use Rattle.limits.proofs.full.convert_full.Goals as goal
 
 pub returns-in-Err : goal.returns-in-Err
 unfolding full edition1 white
-returns-in-Err c = shows_refused c.convert.ensures c.in-Err.is c.from.ensures
+returns-in-Err c = shows_refused c.convert-answer.ensures.converted c.in-Err.is c.from.ensures
 
 pub returns-in-Ok : goal.returns-in-Ok
 unfolding full edition1 white
-returns-in-Ok c = shows_made c.convert.ensures c.in-Ok.is
+returns-in-Ok c = shows_made c.convert-answer.ensures.converted c.in-Ok.is

@@ -14,8 +14,8 @@ put_lines-made-requires c =
     let l = c.all_vertices-n.ensures.kept.len in
     rw s (length_seg _ _ _ (omega (arith, Q.named, Q.places, Q.numbers, Q.textures, Q.heads, Q.nexts, l)) ∙ told_count R.told, R.room)
 
-pub returns : goal.returns
-returns c =
+pub returns-clause-done : goal.returns-clause-done
+returns-clause-done c =
     let R = c.requires in
     let C = c.all_vertices-n.ensures in
     let s = part_seg c.all_vertices-n.new.work c.args.t.named _ c.args.t.count refl in

@@ -16,7 +16,7 @@ make_lines-requires c =
     let e = tables_are c.requires.0 c.list_part-coord.ensures c.requires.1 c.line_tables-t.ensures in
     ready c.args.missing _ c.requires.0 c.list_part-list.ensures c.list_part-coord.ensures e c.put_tables.ensures c.attributes_of-attributes.ensures c.line_widths-widths.ensures
 
-pub returns : goal.returns
-returns c =
+pub returns-clause-made : goal.returns-clause-made
+returns-clause-made c =
     let e = tables_are c.requires.0 c.list_part-coord.ensures c.requires.1 c.line_tables-t.ensures in
-    shaped c.args.missing _ c.requires.0 c.list_part-list.ensures c.list_part-coord.ensures e c.put_tables.ensures c.attributes_of-attributes.ensures c.line_widths-widths.ensures c.make_lines.ensures
+    shaped c.args.missing _ c.requires.0 c.list_part-list.ensures c.list_part-coord.ensures e c.put_tables.ensures c.attributes_of-attributes.ensures c.line_widths-widths.ensures c.make_lines.ensures.done

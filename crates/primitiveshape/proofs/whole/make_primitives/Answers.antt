@@ -1,4 +1,4 @@
-use mathlib.Core.Path.{refl, ◌∙◌}
+use mathlib.Core.Path.{refl}
 use native.Mathlib.Omega.{arith}
 use Rattle.block.proofs.ExtentLaws.{widths_of}
 use Rattle.lent.proofs.Points.{points_in_lem, points_all}
@@ -34,16 +34,8 @@ build-requires c =
     let e = plan_by A (sized A) c.requires.1 c.plan_of-t.ensures in
     ready A (sized A).sizes (counted A (sized A) e) c.put_tables.ensures c.texture_where.ensures (shape c.args.missing c.args.g _ A.accepted.header A.accepted.settings c.listed_shared-shared.ensures c.list_part-coord.ensures A.kind)
 
-pub shape_of-work : goal.shape_of-work
-shape_of-work c =
-    c.build.auto.work ∙ c.texture_where.ensures.kept.len ∙ c.put_tables.ensures.len
-
-pub shape_of-floats : goal.shape_of-floats
-shape_of-floats c =
-    c.build.auto.floats ∙ c.put_tables.ensures.size
-
-pub returns : goal.returns
-returns c =
+pub returns-clause-made : goal.returns-clause-made
+returns-clause-made c =
     let A = c.requires.0 in
     let e = plan_by A (sized A) c.requires.1 c.plan_of-t.ensures in
-    shaped A (sized A).sizes (counted A (sized A) e) c.put_tables.ensures c.texture_where.ensures (shape c.args.missing c.args.g _ A.accepted.header A.accepted.settings c.listed_shared-shared.ensures c.list_part-coord.ensures A.kind) (mesh_is c.args.missing c.args.g _ A.accepted.header A.accepted.settings c.listed_shared-shared.ensures c.list_part-coord.ensures A.kind A.accepted.taken.attributes_are (points_low A)) c.build.ensures
+    shaped A (sized A).sizes (counted A (sized A) e) c.put_tables.ensures c.texture_where.ensures (shape c.args.missing c.args.g _ A.accepted.header A.accepted.settings c.listed_shared-shared.ensures c.list_part-coord.ensures A.kind) (mesh_is c.args.missing c.args.g _ A.accepted.header A.accepted.settings c.listed_shared-shared.ensures c.list_part-coord.ensures A.kind A.accepted.taken.attributes_are (points_low A)) c.build.ensures.built
