@@ -1,14 +1,9 @@
-use native.Mathlib.Omega.{arith}
 use mathlib.Core.Path.{refl, ap, ◌∙◌}
 use Rattle.normals.specs.Written.{spread}
 use Rattle.normals.proofs.Fills.{made_front}
 use Rattle.normals.proofs.Soups.{generated_all}
 use Rattle.normals.proofs.Summing.{made_kept}
 use Rattle.normals.proofs.whole.generate.Goals as goal
-
-pub corner_normals-requires : goal.corner_normals-requires
-corner_normals-requires c =
-    (c.share.ensures.1, omega (arith, c.requires.1, c.share.auto.floats))
 
 pub invariant_of-corner_normals : goal.invariant_of-corner_normals
 invariant_of-corner_normals c = record { ready = (made_kept c.prepare.ensures c.share.ensures.0).ready }
