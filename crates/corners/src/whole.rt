@@ -14,6 +14,7 @@ use tables::{fill, narrow};
 use vertices::{Chains, Widths, count_after, vertex};
 
 // Corner c, with the nine words key, gets its vertex number, where n vertices are made. How many there are then.
+// Over slices, as `all_vertices` below.
 fn number_corner(
     sources: &mut [u32],
     positions: &mut [u32],

@@ -49,6 +49,7 @@ fn call_of(choice: Choice) -> Call
 }
 
 // The mesh of a block, into the lent slices, and 0; or the number of the refusal, and every lent element as it was.
+// The slices come one by one: the C interface has them so.
 #[unsafe(no_mangle)]
 pub extern "C" fn sitemesh_convert(
     choice: Choice,
