@@ -5,7 +5,7 @@ use block::LIMIT;
 use geometry::Call;
 use lent::Buffers;
 
-// The refusal's number, the number of indices, and the first triangle.
+// The refusal's number, the number of indices, and the first triangle. The number is 0 for none, and no Option, as a host's call returns it and as it is printed.
 #[derive(Clone, Copy, PartialEq, Eq)]
 pub struct Seen {
     pub number: u32,

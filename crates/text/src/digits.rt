@@ -36,7 +36,7 @@ fn is_digit(short: bool, base: u32, n: u32) -> bool
     false
 }
 
-// The last k digits of n, or the fewest that it has where `short` is set.
+// The last k digits of n, or the fewest that it has where `short` is set: a flag, for the two differ in one test of each turn, and share what is proved of the rest.
 pub fn put_digits(out: &mut [u8], at: usize, short: bool, base: u32, k: usize, n: u32) -> usize
     requires { (at + k ≤ 2 ^ 50) × (0 < base) × (base ≤ 16) }
     ensures { Wrote out.old at (digits short base k n) k out.new result }

@@ -6,7 +6,8 @@ ghost use Rattle.text.specs.Fields.{field_of, fields, attribute};
 use crate::digits::{put_byte, put_digits};
 use lists::get;
 
-// A word where `word` is set, else a number.
+// A word where `word` is set, else a number. A flag here and in `put_fields`, and no closure: that would take the buffer, the place and the number to choose between
+// two lines.
 pub fn put_field(out: &mut [u8], at: usize, word: bool, n: u32) -> usize
     requires { at + 11 ≤ 2 ^ 50 }
     ensures { Wrote out.old at (field_of word n) 11 out.new result }
@@ -30,7 +31,7 @@ pub fn put_fields(out: &mut [u8], at: usize, word: bool, list: &[u32], a: usize,
     p
 }
 
-// A letter and the m words of an attribute from a on, where it was made.
+// A letter and the m words of an attribute from a on, where it was made: `made` is a value of `Parts`, which the definition takes too.
 pub fn put_attribute(
     out: &mut [u8],
     at: usize,
