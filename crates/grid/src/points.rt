@@ -42,7 +42,7 @@ impl<'a> GridBlock<'a> {
         }
     }
 
-    // The points' words from place `at` on, row by row.
+    // The points' words from place `at` on, row by row. That the heights are there is asked here alone: neither the faces nor the textures read them.
     pub fn put_points(&self, s: Settings, work: &mut [u32], at: usize)
         requires { (x_dimension self.now.header * z_dimension self.now.header ≤ length (entries (list_bytes self.now.block.now self.now.header 3)))
             × (at + 3 * (x_dimension self.now.header * z_dimension self.now.header) ≤ length work.old) }

@@ -40,8 +40,7 @@ impl<'a> GridBlock<'a> {
         ensures { result ≡ grid_texture self.now.block.now self.now.header s p.0 }
     {
         let d = self.default_of(p);
-        let block = self.block;
-        corner_texture(block, &block[0..0], self.header, s, p.0, d)
+        corner_texture(self.block, &self.block[0..0], self.header, s, p.0, d)
     }
 
     // The textures of all corners.
