@@ -19,7 +19,7 @@ use Rattle.tables.specs.Soups.{point_in, start_in, number_in, place_in}
 use Rattle.tables.specs.Listed.{Use, no_use, Listing, no_listing, uses_at, Beside, Listed}
 use Rattle.lists.proofs.Keep.{kept_then, table_kept}
 use Rattle.tables.proofs.Besides.{beside_then, beside_corners, beside_starts, beside_places, beside_numbers}
-use Rattle.grid.specs.Sides.{Planned}
+use Rattle.grid.specs.Sides.{Sides, Planned}
 use Rattle.grid.specs.Listings.{quad_of, corner_point, use_of, grid_listing, grid_listings}
 use Rattle.grid.proofs.Numbers.{point_below}
 
@@ -47,9 +47,9 @@ pub record Tabled (xd : ℕ) (w : List ℕ) (t : Plan) : Type 0 where
   pub places : TableOf w t.places t.count (corner_point xd)
   pub numbers : TableOf w t.numbers t.faces (λ (j : ℕ). 1 * j)
 
-pub tables_held : (h : Header) (w : List ℕ) (t : Plan) → Planned h (length w) t → Tabled (x_dimension h) w t → Listed w t (grid_listings (x_dimension h) (z_dimension h))
+pub tables_held : (h : Header) (w : List ℕ) (t : Plan) → Sides h → Planned h (length w) t → Tabled (x_dimension h) w t → Listed w t (grid_listings (x_dimension h) (z_dimension h))
 unfolding point_in start_in number_in place_in grid_listing quad
-tables_held h w t P T =
+tables_held h w t S P T =
     let xd = x_dimension h in
     let zd = z_dimension h in
     let ls = grid_listings xd zd in
@@ -69,7 +69,7 @@ tables_held h w t P T =
       first = start 0 (omega arith);
       starts = λ j l. omega (arith, start (suc j) (omega arith), start j (omega arith), four j l);
       last = start t.faces (omega arith) ∙ sym n;
-      within = λ c l. let b = point_below xd zd c P.sides.wide (omega (arith, P.count)) in omega (arith, T.corners.at c l, b, P.spots);
+      within = λ c l. let b = point_below xd zd c S.wide (omega (arith, P.count)) in omega (arith, T.corners.at c l, b, P.spots);
       numbers = λ j l. T.numbers.at j l ∙ one-mul j ∙ sym (ap (λ (x : Listing). x.number) (at j l));
       points = read (λ (u : Use). u.point) (λ q. refl) t.corners T.corners;
       places = read (λ (u : Use). u.place) (λ q. refl) t.places T.places;
@@ -78,24 +78,23 @@ tables_held h w t P T =
 -- ---- the code that writes them
 
 -- what is asked to write the corners' points from a on
-pub corners_asked : (h : Header) (len room : ℕ) (t : Plan) (xd a : ℕ) → Planned h len t → xd ≡ x_dimension h → a + t.count ≤ room
+pub corners_asked : (h : Header) (len room : ℕ) (t : Plan) (xd a : ℕ) → Sides h → Planned h len t → xd ≡ x_dimension h → a + t.count ≤ room
     → (2 ≤ xd) × (xd ≤ most) × (t.count ≤ most) × ((c : ℕ) → c < t.count → corner_point xd c ≤ most) × (a + t.count ≤ room)
-corners_asked h len room t xd a P e l =
-    let S = P.sides in (
-      omega (arith, S.wide),
-      omega (arith, S.width),
-      P.room.few,
-      λ c b. let p = point_below xd (z_dimension h) c (omega (arith, S.wide)) (rw e (omega (arith, P.count))) in
-          let q : xd * z_dimension h ≡ x_dimension h * z_dimension h = ap (λ (x : ℕ). x * z_dimension h) e in omega (arith, S.few),
-      l,
-    )
+corners_asked h len room t xd a S P e l = (
+  omega (arith, S.wide),
+  omega (arith, S.width),
+  P.room.few,
+  λ c b. let p = point_below xd (z_dimension h) c (omega (arith, S.wide)) (rw e (omega (arith, P.count))) in
+      let q : xd * z_dimension h ≡ x_dimension h * z_dimension h = ap (λ (x : ℕ). x * z_dimension h) e in omega (arith, S.few),
+  l,
+)
 
 -- one table after another
-pub tables_written : (h : Header) (t : Plan) (xd : ℕ) (w₀ w₁ w₂ w₃ w₄ : List ℕ) → Planned h (length w₀) t → xd ≡ x_dimension h
+pub tables_written : (h : Header) (t : Plan) (xd : ℕ) (w₀ w₁ w₂ w₃ w₄ : List ℕ) → Sides h → Planned h (length w₀) t → xd ≡ x_dimension h
     → w₁ ≡ spliced w₀ t.corners (tab (corner_point xd) t.count 0) → w₂ ≡ spliced w₁ t.starts (tab (λ (j : ℕ). 4 * j) (t.faces + 1) 0)
     → w₃ ≡ spliced w₂ t.places (tab (corner_point xd) t.count 0) → w₄ ≡ spliced w₃ t.numbers (tab (λ (j : ℕ). 1 * j) t.faces 0)
     → Beside t w₀ w₄ × Listed w₄ t (grid_listings (x_dimension h) (z_dimension h))
-tables_written h t xd w₀ w₁ w₂ w₃ w₄ P e A B C D =
+tables_written h t xd w₀ w₁ w₂ w₃ w₄ S P e A B C D =
     let R = P.room in
     let ra : t.corners + t.count ≤ length w₀ = omega arith in
     let K = put_kept w₀ t.corners _ A (length_tab _ _ 0) ra in
@@ -121,4 +120,4 @@ tables_written h t xd w₀ w₁ w₂ w₃ w₄ P e A B C D =
     (beside_then (beside_places w₂ t.places _ C (length_tab _ _ 0) rc (omega arith) (omega arith))
     (beside_numbers w₃ t.numbers _ D (length_tab _ _ 0) rd (omega arith) (omega arith)))) in
     let n : Planned h (length w₄) t = rw b.len P in
-    (b, tables_held h w₄ t n (rw e at T))
+    (b, tables_held h w₄ t S n (rw e at T))

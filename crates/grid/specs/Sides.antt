@@ -16,7 +16,6 @@ pub record Sides (h : Header) : Type 0 where
 
 -- FORMAT 4: a plan for the grid's points, corners and quads, in len words
 pub record Planned (h : Header) (len : ℕ) (t : Plan) : Type 0 where
-  pub sides : Sides h
   pub room : Room len t
   pub spots : t.spots ≡ x_dimension h * z_dimension h
   pub count : t.count ≡ 4 * quad_count h

@@ -3,8 +3,7 @@
 
 mod points;
 mod quads;
+mod sided;
 mod textures;
 
-pub use points::put_points;
-pub use quads::list_faces;
-pub use textures::put_textures;
+pub use sided::GridBlock;

@@ -5,10 +5,10 @@ ghost use Rattle.block.specs.Extents.{list_bytes};
 ghost use Rattle.mesh.specs.Words.{words3};
 ghost use Rattle.mesh.specs.Grid.{x_dimension, z_dimension, step_word, grid_point, grid_points};
 ghost use Rattle.lists.specs.Parts.{spliced};
-ghost use Rattle.grid.specs.Sides.{Sides};
 
+use crate::sided::GridBlock;
 use bits::Words3;
-use block::{Header, Settings, list_part};
+use block::{Settings, list_part};
 use lists::put_all;
 use tables::wide;
 
@@ -20,20 +20,6 @@ fn step_word(spacing: f32, n: usize) -> u32
     math::bits_of(spacing * math::whole_float(n))
 }
 
-// Point k, with its height copied.
-fn grid_point(heights: &[u8], h: Header, s: Settings, k: usize) -> Words3
-    requires { Sides h × (k < x_dimension h * z_dimension h) × (k < length (entries heights.now)) }
-    ensures { result ≡ grid_point h s (entries heights.now) k }
-{
-    let counts = h.counts;
-    let xd = wide(counts[0]);
-    Words3 {
-        x: step_word(s.x_spacing, k % xd),
-        y: bits::entry(heights, k),
-        z: step_word(s.z_spacing, k / xd),
-    }
-}
-
 fn put3(work: &mut [u32], a: usize, w: Words3)
     requires { a + 3 ≤ length work.old }
     ensures { work.new ≡ spliced work.old a (words3 w) }
@@ -41,15 +27,32 @@ fn put3(work: &mut [u32], a: usize, w: Words3)
     put_all(work, a, &[w.x, w.y, w.z]);
 }
 
-// The points' words from place `at` on, row by row.
-pub fn put_points(block: &[u8], h: Header, s: Settings, work: &mut [u32], at: usize)
-    requires { Sides h × (x_dimension h * z_dimension h ≤ length (entries (list_bytes block.now h 3))) × (at + 3 * (x_dimension h * z_dimension h) ≤ length work.old) }
-    ensures { work.new ≡ spliced work.old at (grid_points h s (entries (list_bytes block.now h 3))) }
-{
-    let counts = h.counts;
-    let n = wide(counts[0]) * wide(counts[1]);
-    let heights = list_part(block, h, 3);
-    for k in 0..n {
-        put3(work, at + 3 * k, grid_point(heights, h, s, k));
+impl<'a> GridBlock<'a> {
+    // Point k, with its height copied.
+    fn grid_point(&self, heights: &[u8], s: Settings, k: usize) -> Words3
+        requires { (k < x_dimension self.now.header * z_dimension self.now.header) × (k < length (entries heights.now)) }
+        ensures { result ≡ grid_point self.now.header s (entries heights.now) k }
+    {
+        let counts = self.header.counts;
+        let xd = wide(counts[0]);
+        Words3 {
+            x: step_word(s.x_spacing, k % xd),
+            y: bits::entry(heights, k),
+            z: step_word(s.z_spacing, k / xd),
+        }
+    }
+
+    // The points' words from place `at` on, row by row. That the heights are there is asked here alone: neither the faces nor the textures read them.
+    pub fn put_points(&self, s: Settings, work: &mut [u32], at: usize)
+        requires { (x_dimension self.now.header * z_dimension self.now.header ≤ length (entries (list_bytes self.now.block.now self.now.header 3)))
+            × (at + 3 * (x_dimension self.now.header * z_dimension self.now.header) ≤ length work.old) }
+        ensures { work.new ≡ spliced work.old at (grid_points self.now.header s (entries (list_bytes self.now.block.now self.now.header 3))) }
+    {
+        let counts = self.header.counts;
+        let n = wide(counts[0]) * wide(counts[1]);
+        let heights = list_part(self.block, self.header, 3);
+        for k in 0..n {
+            put3(work, at + 3 * k, self.grid_point(heights, s, k));
+        }
     }
 }

@@ -8,7 +8,8 @@ ghost use Rattle.tables.specs.Listed.{Beside, Listed};
 ghost use Rattle.grid.specs.Sides.{Planned};
 ghost use Rattle.grid.specs.Listings.{corner_point, grid_listings};
 
-use block::{CornerNumber, Header, PointNumber};
+use crate::sided::GridBlock;
+use block::{CornerNumber, PointNumber};
 use tables::{Plan, narrow, put_each, wide};
 
 // The number of the point in column i of row j.
@@ -48,15 +49,17 @@ fn put_corners(work: &mut [u32], a: usize, n: usize, xd: usize)
     put_each(work, a, n, |c| narrow(corner_point(xd, CornerNumber(c)).0));
 }
 
-// Quad q has number q and the corners from 4 * q on; a corner's place is its point.
-pub fn list_faces(h: Header, work: &mut [u32], t: Plan)
-    requires { Planned h (length work.old) t }
-    ensures { Beside t work.old work.new × Listed work.new t (grid_listings (x_dimension h) (z_dimension h)) }
-{
-    let counts = h.counts;
-    let xd = wide(counts[0]);
-    put_corners(work, t.corners, t.count, xd);
-    put_each(work, t.starts, t.faces + 1, |j| narrow(4 * j));
-    put_corners(work, t.places, t.count, xd);
-    put_each(work, t.numbers, t.faces, |j| narrow(j));
+impl<'a> GridBlock<'a> {
+    // Quad q has number q and the corners from 4 * q on; a corner's place is its point.
+    pub fn list_faces(&self, work: &mut [u32], t: Plan)
+        requires { Planned self.now.header (length work.old) t }
+        ensures { Beside t work.old work.new × Listed work.new t (grid_listings (x_dimension self.now.header) (z_dimension self.now.header)) }
+    {
+        let counts = self.header.counts;
+        let xd = wide(counts[0]);
+        put_corners(work, t.corners, t.count, xd);
+        put_each(work, t.starts, t.faces + 1, |j| narrow(4 * j));
+        put_corners(work, t.places, t.count, xd);
+        put_each(work, t.numbers, t.faces, |j| narrow(j));
+    }
 }

@@ -3,11 +3,11 @@ ghost use Rattle.std.specs.Prelude.{◌≡◌, ℕ, ◌+◌, ◌*◌, ◌/◌, �
 ghost use Rattle.mesh.specs.Grid.{x_dimension, z_dimension, part_word, grid_default};
 ghost use Rattle.lists.specs.Parts.{spliced};
 ghost use Rattle.texture.specs.Textured.{texture_words};
-ghost use Rattle.grid.specs.Sides.{Sides};
 ghost use Rattle.grid.specs.Textures.{grid_texture, Placed};
 
+use crate::sided::GridBlock;
 use bits::Words2;
-use block::{Header, PointNumber, Settings};
+use block::{PointNumber, Settings};
 use tables::wide;
 use texture::{corner_texture, put2};
 
@@ -19,45 +19,46 @@ fn part_word(i: usize, n: usize) -> u32
     math::bits_of(math::whole_float(i) / math::whole_float(n - 1))
 }
 
-// The default texture of point p, by its column and its row.
-fn default_of(h: Header, p: PointNumber) -> Words2
-    requires { Sides h × (p.0 < x_dimension h * z_dimension h) }
-    ensures { result ≡ grid_default h (p.0 % x_dimension h) (p.0 / x_dimension h) }
-{
-    let counts = h.counts;
-    let xd = wide(counts[0]);
-    let zd = wide(counts[1]);
-    Words2 {
-        s: part_word(p.0 % xd, xd),
-        t: part_word(p.0 / xd, zd),
+impl<'a> GridBlock<'a> {
+    // The default texture of point p, by its column and its row.
+    fn default_of(&self, p: PointNumber) -> Words2
+        requires { p.0 < x_dimension self.now.header * z_dimension self.now.header }
+        ensures { result ≡ grid_default self.now.header (p.0 % x_dimension self.now.header) (p.0 / x_dimension self.now.header) }
+    {
+        let counts = self.header.counts;
+        let xd = wide(counts[0]);
+        let zd = wide(counts[1]);
+        Words2 {
+            s: part_word(p.0 % xd, xd),
+            t: part_word(p.0 / xd, zd),
+        }
     }
-}
 
-// A point's number serves as its place, and there is no coordIndex.
-fn texture_of(block: &[u8], h: Header, s: Settings, p: PointNumber) -> Words2
-    requires { Sides h × (p.0 < x_dimension h * z_dimension h) }
-    ensures { result ≡ grid_texture block.now h s p.0 }
-{
-    let d = default_of(h, p);
-    corner_texture(block, &block[0..0], h, s, p.0, d)
-}
+    // A point's number serves as its place, and there is no coordIndex.
+    fn texture_of(&self, s: Settings, p: PointNumber) -> Words2
+        requires { p.0 < x_dimension self.now.header * z_dimension self.now.header }
+        ensures { result ≡ grid_texture self.now.block.now self.now.header s p.0 }
+    {
+        let d = self.default_of(p);
+        corner_texture(self.block, &self.block[0..0], self.header, s, p.0, d)
+    }
 
-// The textures of all corners.
-pub fn put_textures(
-    block: &[u8],
-    h: Header,
-    s: Settings,
-    work: &mut [u32],
-    corners: usize,
-    textures: usize,
-    count: usize,
-)
-    requires { Sides h × Placed h work.old corners textures count }
-    ensures { work.new ≡ spliced work.old textures (texture_words (λ (c : ℕ). grid_texture block.now h s (get_or work.old (corners + c) 0)) count) }
-{
-    // A loop of its own, as in texture and extrusion: each reads other tables of `work`, and a shared one would take this body back as a closure.
-    for c in 0..count {
-        let p = PointNumber(wide(work[corners + c]));
-        put2(work, textures + 2 * c, texture_of(block, h, s, p));
+    // The textures of all corners.
+    pub fn put_textures(
+        &self,
+        s: Settings,
+        work: &mut [u32],
+        corners: usize,
+        textures: usize,
+        count: usize,
+    )
+        requires { Placed self.now.header work.old corners textures count }
+        ensures { work.new ≡ spliced work.old textures (texture_words (λ (c : ℕ). grid_texture self.now.block.now self.now.header s (get_or work.old (corners + c) 0)) count) }
+    {
+        // A loop of its own, as in texture and extrusion: each reads other tables of `work`, and a shared one would take this body back as a closure.
+        for c in 0..count {
+            let p = PointNumber(wide(work[corners + c]));
+            put2(work, textures + 2 * c, self.texture_of(s, p));
+        }
     }
 }

@@ -73,4 +73,4 @@ module _ {bs : List ℕ} {h : Header} {s : Settings} {o : Slices} {w f : ℕ} (A
 
     pub planned : Planned h w t
     unfolding grid_sizes
-    planned = let G = roomy in record { sides = sides; room = G.room; spots = G.spots; count = G.count; faces = G.faces }
+    planned = let G = roomy in record { room = G.room; spots = G.spots; count = G.count; faces = G.faces }

@@ -9,6 +9,7 @@ use crate::filling::{plan_grid, put_tables, texture_where};
 use bits::Words4;
 use block::{Header, Settings};
 use build::build;
+use grid::GridBlock;
 use lent::{Buffers, Counts};
 use shaping::listed_shared;
 
@@ -26,10 +27,11 @@ pub fn make_grid(
     ensures made { Shaped h (grid_mesh missing block.now) (slices_in b.old) (slices_in b.new) result
         × Cleared b.old.words.now b.new.words.now b.old.floats.now b.new.floats.now }
 {
-    let t = plan_grid(h);
+    let g = GridBlock { block, header: h };
+    let t = plan_grid(&g);
     let shared = listed_shared(h, missing, true);
     let coord = bits::part(block, 0, 0);
-    put_tables(block, h, s, shared, t, b.words, b.floats);
-    texture_where(block, h, s, shared, t, b.words);
+    put_tables(&g, s, shared, t, b.words, b.floats);
+    texture_where(&g, s, shared, t, b.words);
     build(block, coord, shared, t, b)
 }

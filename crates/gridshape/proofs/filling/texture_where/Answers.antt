@@ -5,4 +5,4 @@ use Rattle.gridshape.proofs.filling.texture_where.Goals as goal
 
 pub returns : goal.returns
 unfolding point_in
-returns c = textures_put c.requires.1.room c.put_textures.ensures (λ k l. refl)
+returns c = textures_put c.requires.room c.put_textures.ensures (λ k l. refl)

@@ -6,9 +6,11 @@ use Rattle.gridshape.proofs.Bounds.{sizes_are, sides, corners_low, heights, coun
 use Rattle.gridshape.proofs.Shapes.{shape, mesh_is}
 use Rattle.gridshape.proofs.whole.make_grid.Goals as goal
 
+pub invariant_of-g : goal.invariant_of-g
+invariant_of-g c = record { sides = sides c.requires }
+
 pub plan_grid-t-requires : goal.plan_grid-t-requires
-plan_grid-t-requires c =
-    (sides c.requires, corners_low c.requires)
+plan_grid-t-requires c = corners_low c.requires
 
 pub put_tables-requires : goal.put_tables-requires
 put_tables-requires c =
@@ -18,7 +20,7 @@ pub texture_where-requires : goal.texture_where-requires
 texture_where-requires c =
     let P = planned c.requires c.plan_grid-t.ensures in
     let R = P.room in
-    (sides c.requires, placed _ _ _ _ _ (faces_held c.put_tables.ensures) P.spots (omega (arith, R)) (omega (arith, (roomy c.requires c.plan_grid-t.ensures).textures, c.put_tables.ensures.len)))
+    placed _ _ _ _ _ (faces_held c.put_tables.ensures) P.spots (omega (arith, R)) (omega (arith, (roomy c.requires c.plan_grid-t.ensures).textures, c.put_tables.ensures.len))
 
 pub build-requires : goal.build-requires
 build-requires c =

@@ -1,5 +1,5 @@
 use Rattle.mesh.specs.Grid.{grid_default}
-use Rattle.grid.proofs.textures.default_of.Goals as goal
+use Rattle.grid.proofs.sided.GridBlock.default_of.Goals as goal
 
 pub returns : goal.returns
 unfolding grid_default

@@ -6,7 +6,7 @@ use Rattle.bits.specs.Bits.{entries}
 use mathlib.Core.Path.{refl, ap, ◌∙◌}
 use Prim.Native.Nat.{ℕ, ◌*◌, ◌<◌}
 use native.Mathlib.Omega.{arith}
-use Rattle.grid.proofs.points.put_points.Goals as goal
+use Rattle.grid.proofs.sided.GridBlock.put_points.Goals as goal
 
 pub loop-k-init : goal.loop-k-init
 loop-k-init c = (λ i. c.wide.ensures i * c.wide-2.ensures i, c.list_part-heights.ensures, pieces_none)
@@ -14,9 +14,9 @@ loop-k-init c = (λ i. c.wide.ensures i * c.wide-2.ensures i, c.list_part-height
 pub loop-k-preserved : goal.loop-k-preserved
 loop-k-preserved c =
     let I = c.loop-k.invariant in
-    let v = c.grid_point.ensures ∙ ap (λ (x : List ℕ). grid_point c.args.h c.args.s (entries x) c.loop-k.k) c.list_part-heights.ensures in
-    let q : c.loop-k.k < x_dimension c.args.h * z_dimension c.args.h = omega (arith, c.loop-k-test.true, I.0) in
-    (I.0, I.1, pieces_more 3 (λ t. refl) (omega (arith, c.requires.2)) I.2 q (omega arith) (ap words3 v) c.put3.ensures)
+    let v = c.grid_point.ensures ∙ ap (λ (x : List ℕ). grid_point c.args.self.now.header c.args.s (entries x) c.loop-k.k) c.list_part-heights.ensures in
+    let q : c.loop-k.k < x_dimension c.args.self.now.header * z_dimension c.args.self.now.header = omega (arith, c.loop-k-test.true, I.0) in
+    (I.0, I.1, pieces_more 3 (λ t. refl) (omega (arith, c.requires.1)) I.2 q (omega arith) (ap words3 v) c.put3.ensures)
 
 pub returns : goal.returns
 unfolding grid_points

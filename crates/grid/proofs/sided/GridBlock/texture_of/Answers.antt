@@ -1,5 +1,5 @@
 use Rattle.grid.specs.Textures.{grid_texture}
-use Rattle.grid.proofs.textures.texture_of.Goals as goal
+use Rattle.grid.proofs.sided.GridBlock.texture_of.Goals as goal
 
 pub returns : goal.returns
 unfolding grid_texture

@@ -1,9 +1,0 @@
-use Rattle.grid.specs.Textures.{grid_texture}
-use Rattle.lists.proofs.Pieces.{Pieces}
-use Rattle.mesh.specs.Words.{words2}
-use lib.ListN.{get_or}
-use Prim.Native.Nat.{ℕ, ◌+◌}
-use Rattle.grid.proofs.textures.put_textures.Given as goal
-
-abbrev pub invariant-loop-c : goal.invariant-loop-c
-invariant-loop-c l = Pieces (λ (j : ℕ). words2 (grid_texture l.block l.h l.s (get_or l.initial.work (l.corners + j) 0))) l.count l.initial.work l.textures l.c l.work
