@@ -29,6 +29,7 @@ fn verdict(rays: &Rays, j: usize, tri: Triangle, number: u64, answer: u64) -> u6
 }
 
 // The answers of the paths after a triangle.
+// That there are at most 64 is a clause: a struct of the slice and its bound would have to promise besides that it keeps the caller's slice.
 fn mark(rays: &Rays, tri: Triangle, number: u64, answers: &mut [u64])
     requires { length answers.old ≤ 64 }
     ensures { answers.new
