@@ -1,3 +1,2 @@
 -- A cone.
 pub mod Cone
-pub mod Roots

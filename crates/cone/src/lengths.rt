@@ -5,7 +5,6 @@ ghost use Rattle.std.specs.Float.{binary32};
 ghost use Rattle.std.specs.Float.Ieee.{of_bits, to_bits};
 ghost use Rattle.math.specs.SquareRoot.{root_of};
 ghost use Rattle.math.specs.Vector.{vdot, unit_of};
-ghost use Rattle.cone.specs.Roots.{Roots};
 
 use math::V3;
 use math::square_root::roots;
@@ -18,6 +17,11 @@ pub struct Lengths {
     pub b: f32,
     pub c: f32,
     pub d: f32,
+    ghost low: { first < 2 ^ 31 },
+    ghost root_a: { a ≡ root_of (of_bits binary32 first) },
+    ghost root_b: { b ≡ root_of (of_bits binary32 (first + 1)) },
+    ghost root_c: { c ≡ root_of (of_bits binary32 (first + 2)) },
+    ghost root_d: { d ≡ root_of (of_bits binary32 (first + 3)) },
 }
 
 // One below, where that is a number; any first serves.
@@ -33,9 +37,7 @@ fn first_before(b: u32) -> u32
 }
 
 // Around the square of the length over a point of the unit circle.
-pub fn lengths_near(r: f32, height: f32) -> Lengths
-    ensures { Roots result }
-{
+pub fn lengths_near(r: f32, height: f32) -> Lengths {
     let first = first_before(math::bits_of(height * height + r * r));
     let l = roots(
         math::of_bits(first),
@@ -54,7 +56,6 @@ pub fn lengths_near(r: f32, height: f32) -> Lengths
 
 // Whether the root of the number with the bits w is at hand.
 pub fn is_known(k: Lengths, w: u32) -> bool
-    requires { Roots k }
     ensures { result ≡ true → (k.first ≤ w) × (w < k.first + 4) }
 {
     if w < k.first {
@@ -67,7 +68,7 @@ pub fn is_known(k: Lengths, w: u32) -> bool
 }
 
 fn known_length(k: Lengths, w: u32) -> f32
-    requires { Roots k × (k.first ≤ w) × (w < k.first + 4) }
+    requires { (k.first ≤ w) × (w < k.first + 4) }
     ensures { result ≡ root_of (of_bits binary32 w) }
 {
     let i = w - k.first;
@@ -85,7 +86,7 @@ fn known_length(k: Lengths, w: u32) -> f32
 
 // v scaled to length 1, where w, the bits of the square of its length, is known.
 pub fn known_unit(k: Lengths, v: V3, w: u32) -> Option<V3>
-    requires { Roots k × (k.first ≤ w) × (w < k.first + 4)
+    requires { (k.first ≤ w) × (w < k.first + 4)
         × (w ≡ to_bits binary32 (vdot v v)) }
     ensures { result ≡ unit_of v }
 {

@@ -3,7 +3,6 @@ ghost use Rattle.std.specs.Prelude.{◌≡◌, List, ℕ, ◌+◌, ◌*◌, ◌�
 ghost use Rattle.math.specs.Vector.{y_axis, unit_of};
 ghost use Rattle.mesh.specs.Normals.{or_else};
 ghost use Rattle.parts.specs.Written.{Roomy, Written};
-ghost use Rattle.cone.specs.Roots.{Roots};
 ghost use Rattle.cone.specs.Cone.{cone_normal, cone_foot, cone_apex, cone_verts, cone_tri, cone_side};
 
 use crate::lengths::{Lengths, is_known, known_unit, lengths_near};
@@ -70,7 +69,6 @@ fn three_normals(a: V3, b: V3, c: V3) -> SliceNormals
 
 // No root where the three are known.
 fn scaled(known: Lengths, a: V3, b: V3, c: V3) -> SliceNormals
-    requires { Roots known }
     ensures { (result.from ≡ or_else (unit_of a) y_axis)
         × (result.to ≡ or_else (unit_of b) y_axis)
         × (result.apex ≡ or_else (unit_of c) y_axis) }
@@ -94,7 +92,7 @@ fn scaled(known: Lengths, a: V3, b: V3, c: V3) -> SliceNormals
 
 // Those of the slice whose pairs begin at p.
 fn slice_normals(pairs: &[f32], known: Lengths, r: f32, height: f32, p: usize) -> SliceNormals
-    requires { (p + 5 < 65536) × Roots known }
+    requires { p + 5 < 65536 }
     ensures { (result.from ≡ cone_normal pairs.now r height (p + 2))
         × (result.to ≡ cone_normal pairs.now r height (p + 3))
         × (result.apex ≡ cone_normal pairs.now r height (p + 4)) }
@@ -144,7 +142,7 @@ fn cone_apex(height: f32, normal: V3, s: f32) -> Vert
 
 // The three vertices of slice i.
 fn cone_verts(pairs: &[f32], known: Lengths, k: Side, i: usize) -> [Vert; 3]
-    requires { (i < k.n) × Roots known }
+    requires { i < k.n }
     ensures { result ≡ cone_verts pairs.now k.r k.height k.n i }
 {
     let s0 = share(i, k.n);
@@ -176,7 +174,7 @@ fn put_side(pairs: &[f32], k: Side, b: &mut Builder<'_>)
         0,
         k.n,
         |i|
-            requires { (i < k.n) × Roots known }
+            requires { i < k.n }
             ensures { result ≡ cone_verts pairs.exit.now k.r k.height k.n i }
         { cone_verts(pairs, known, k, i) },
     );

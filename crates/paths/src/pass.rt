@@ -5,7 +5,7 @@ ghost use Rattle.paths.specs.Pass.{next_answer, step_at, updated, turn_of};
 ghost use Rattle.paths.specs.Pass.{one_where, hit_count, any_clear};
 
 use crate::intersect::{Triangle, hits};
-use crate::rays::ray_at;
+use crate::rays::{Rays, ray_at};
 use crate::triangles::triangle_at;
 
 // The answer of a path after a triangle: the first that was hit stays.
@@ -21,16 +21,17 @@ fn answer_after(hit: bool, number: u64, answer: u64) -> u64
 }
 
 // That of path j.
-fn verdict(rays: &[f32], j: usize, tri: Triangle, number: u64, answer: u64) -> u64
-    requires { (j < 64) × (length rays.now ≡ 384) }
+fn verdict(rays: &Rays, j: usize, tri: Triangle, number: u64, answer: u64) -> u64
+    requires { j < 64 }
     ensures { result ≡ step_at rays.now tri number j answer }
 {
     answer_after(hits(ray_at(rays, j), tri), number, answer)
 }
 
 // The answers of the paths after a triangle.
-fn mark(rays: &[f32], tri: Triangle, number: u64, answers: &mut [u64])
-    requires { (length answers.old ≤ 64) × (length rays.now ≡ 384) }
+// That there are at most 64 is a clause: a struct of the slice and its bound would have to promise besides that it keeps the caller's slice.
+fn mark(rays: &Rays, tri: Triangle, number: u64, answers: &mut [u64])
+    requires { length answers.old ≤ 64 }
     ensures { answers.new
         ≡ updated (step_at rays.now tri number) (length answers.old) answers.old }
 {
@@ -50,8 +51,8 @@ fn one_where(hit: bool) -> u32
 }
 
 // How many of the first m rays hit a triangle. Most time goes here, so it reads the rays alone.
-fn count_hits(rays: &[f32], m: usize, tri: Triangle) -> u32
-    requires { (m ≤ 64) × (length rays.now ≡ 384) }
+fn count_hits(rays: &Rays, m: usize, tri: Triangle) -> u32
+    requires { m ≤ 64 }
     ensures { result ≡ hit_count rays.now tri m }
 {
     let mut count: u32 = 0;
@@ -70,8 +71,8 @@ fn any_clear(answers: &[u64]) -> bool
 
 // One triangle for all the paths. Few triangles hit any, and only then are answers looked at.
 // It answers false where no path is left clear.
-fn turn(rays: &[f32], tri: Triangle, number: u64, answers: &mut [u64]) -> bool
-    requires { (length answers.old ≤ 64) × (length rays.now ≡ 384) }
+fn turn(rays: &Rays, tri: Triangle, number: u64, answers: &mut [u64]) -> bool
+    requires { length answers.old ≤ 64 }
     ensures { (answers.new
         ≡ updated (step_at rays.now tri number) (length answers.old) answers.old)
         × (result ≡ (eqb (hit_count rays.now tri (length answers.old)) 0
@@ -85,9 +86,9 @@ fn turn(rays: &[f32], tri: Triangle, number: u64, answers: &mut [u64]) -> bool
 }
 
 // All triangles for the paths, which have an answer each.
-pub fn pass(positions: &[u32], indices: &[u32], rays: &[f32], answers: &mut [u64])
+pub fn pass(positions: &[u32], indices: &[u32], rays: &Rays, answers: &mut [u64])
     requires { (any (leb (length positions.now / 3)) indices.now ≡ false)
-        × (length answers.old ≤ 64) × (length rays.now ≡ 384) }
+        × (length answers.old ≤ 64) }
     ensures { answers.new
         ≡ run (turn_of positions.now indices.now rays.now (length answers.old))
         (length indices.now / 3) 0 answers.old }

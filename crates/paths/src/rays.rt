@@ -7,8 +7,11 @@ use crate::intersect::Ray;
 use crate::triangles::point_at;
 use math::{V3, sub};
 
-fn spot(rays: &[f32], k: usize) -> V3
-    requires { (k < 256) × (length rays.now ≡ 384) }
+// Six coordinates of each of 64.
+pub type Rays = [f32; 384];
+
+fn spot(rays: &Rays, k: usize) -> V3
+    requires { k < 256 }
     ensures { result ≡ spot_at rays.now k }
 {
     V3 {
@@ -18,8 +21,8 @@ fn spot(rays: &[f32], k: usize) -> V3
     }
 }
 
-fn put_spot(rays: &mut [f32], k: usize, v: V3)
-    requires { (k < 256) × (length rays.old ≡ 384) }
+fn put_spot(rays: &mut Rays, k: usize, v: V3)
+    requires { k < 256 }
     ensures { rays.new ≡ stored rays.old k v }
 {
     rays[k] = v.x;
@@ -28,8 +31,8 @@ fn put_spot(rays: &mut [f32], k: usize, v: V3)
 }
 
 // The ray of path j.
-pub fn ray_at(rays: &[f32], j: usize) -> Ray
-    requires { (j < 64) × (length rays.now ≡ 384) }
+pub fn ray_at(rays: &Rays, j: usize) -> Ray
+    requires { j < 64 }
     ensures { result ≡ ray_at rays.now j }
 {
     let orig = spot(rays, j);
@@ -38,8 +41,8 @@ pub fn ray_at(rays: &[f32], j: usize) -> Ray
 }
 
 // The rays of all paths.
-pub fn load(paths: &[u32], rays: &mut [f32])
-    requires { (length paths.now / 6 ≤ 64) × (length rays.old ≡ 384) }
+pub fn load(paths: &[u32], rays: &mut Rays)
+    requires { length paths.now / 6 ≤ 64 }
     ensures { Loaded paths.now rays.new
         (length paths.now / 6) }
 {

@@ -3,7 +3,7 @@ ghost use Rattle.paths.specs.Paths.{PathsCall};
 
 use crate::answer::{PathsAnswer, PathsRefusal};
 use crate::pass::pass;
-use crate::rays::load;
+use crate::rays::{Rays, load};
 use crate::refusal::is_refused;
 
 // For each path 0 where it is clear, else the number of the lowest triangle that blocks it, plus 1;
@@ -20,7 +20,7 @@ pub fn test_paths(
     if is_refused(positions, indices, paths, answers.len()) {
         return Err(PathsRefusal);
     }
-    let mut rays: [f32; 384] = [0.0; 384];
+    let mut rays: Rays = [0.0; 384];
     load(paths, &mut rays);
     let lent = &mut answers[..paths.len() / 6];
     lent.fill(0);

@@ -53,6 +53,7 @@ pub fn append(
 }
 
 // The number of the vertex of a corner: the one made before with its point and words, or a new one, the n-th (PolyMesh::build, or_insert_with).
+// The slices one by one, as `corners::all_vertices` has them: each is read or written at every corner, and a struct of `&mut` would have to promise that each stays the caller's (`lent::Buffers` has two more).
 pub fn vertex(
     sources: &mut [u32],
     positions: &mut [u32],

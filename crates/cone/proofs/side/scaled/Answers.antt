@@ -8,15 +8,15 @@ use Rattle.cone.proofs.side.scaled.Goals as goal
 
 pub known_unit-requires : goal.known_unit-requires
 known_unit-requires c =
-    (c.requires, (c.is_known.ensures c.if-is_known.true).0, (c.is_known.ensures c.if-is_known.true).1, c.bits_of-x.ensures ∙ ap (to_bits binary32) c.dot.ensures)
+    ((c.is_known.ensures c.if-is_known.true).0, (c.is_known.ensures c.if-is_known.true).1, c.bits_of-x.ensures ∙ ap (to_bits binary32) c.dot.ensures)
 
 pub known_unit-requires-then-is_known-3 : goal.known_unit-requires-then-is_known-3
 known_unit-requires-then-is_known-3 c =
-    (c.requires, (c.is_known-then-is_known.ensures c.if-is_known-2.true).0, (c.is_known-then-is_known.ensures c.if-is_known-2.true).1, c.bits_of-y.ensures ∙ ap (to_bits binary32) c.dot-2.ensures)
+    ((c.is_known-then-is_known.ensures c.if-is_known-2.true).0, (c.is_known-then-is_known.ensures c.if-is_known-2.true).1, c.bits_of-y.ensures ∙ ap (to_bits binary32) c.dot-2.ensures)
 
 pub known_unit-requires-then-is_known-3-2 : goal.known_unit-requires-then-is_known-3-2
 known_unit-requires-then-is_known-3-2 c =
-    (c.requires, (c.is_known-then-is_known-2.ensures c.if-is_known-3.true).0, (c.is_known-then-is_known-2.ensures c.if-is_known-3.true).1, c.bits_of-z.ensures ∙ ap (to_bits binary32) c.dot-3.ensures)
+    ((c.is_known-then-is_known-2.ensures c.if-is_known-3.true).0, (c.is_known-then-is_known-2.ensures c.if-is_known-3.true).1, c.bits_of-z.ensures ∙ ap (to_bits binary32) c.dot-3.ensures)
 
 pub returns-then-is_known-3 : goal.returns-then-is_known-3
 returns-then-is_known-3 c = (c.or_up.ensures ∙ ap (λ (u : (Option V3)). or_else u y_axis) c.known_unit.ensures, c.or_up-then-is_known-3.ensures ∙ ap (λ (u : (Option V3)). or_else u y_axis) c.known_unit-then-is_known-3.ensures, c.or_up-then-is_known-3-2.ensures ∙ ap (λ (u : (Option V3)). or_else u y_axis) c.known_unit-then-is_known-3-2.ensures)

@@ -6,4 +6,4 @@ loop-j-init c = loading_none
 
 pub loop-j-preserved : goal.loop-j-preserved
 loop-j-preserved c =
-    loading_more c.loop-j.invariant c.loop-j-test.true c.requires.0 c.requires.1 c.point_at-from.ensures c.point_at-to.ensures c.sub.ensures c.put_spot.ensures c.put_spot-in-loop-j.ensures
+    loading_more c.loop-j.invariant c.loop-j-test.true c.requires c.told-rays c.point_at-from.ensures c.point_at-to.ensures c.sub.ensures c.put_spot.ensures c.put_spot-in-loop-j.ensures

@@ -12,7 +12,8 @@ pub returns-then-is_refused : goal.returns-then-is_refused
 returns-then-is_refused c = refused_call _ _ _ _ (sym c.is_refused.ensures ∙ c.if-is_refused.true)
 
 pub load-requires : goal.load-requires
-load-requires c = let a = accepted c.args.positions.now c.args.indices.now c.args.paths.now (length c.args.answers.now) (sym c.is_refused.ensures ∙ c.if-is_refused.false) in (a.few, omega arith)
+load-requires c =
+    (accepted c.args.positions.now c.args.indices.now c.args.paths.now (length c.args.answers.now) (sym c.is_refused.ensures ∙ c.if-is_refused.false)).few
 
 pub slice_bounds-lent-end : goal.slice_bounds-lent-end
 slice_bounds-lent-end c =
@@ -25,7 +26,7 @@ slice_bounds-lent-end-2 c =
 pub pass-requires : goal.pass-requires
 pass-requires c =
     let a = accepted c.args.positions.now c.args.indices.now c.args.paths.now (length c.args.answers.now) (sym c.is_refused.ensures ∙ c.if-is_refused.false) in
-    (a.inside, omega (arith, a.few, c.fill.auto.self, length-take-le (length c.args.paths.now / 6) c.args.answers.now a.fits), omega (arith, c.load.auto.rays))
+    (a.inside, omega (arith, a.few, c.fill.auto.self, length-take-le (length c.args.paths.now / 6) c.args.answers.now a.fits))
 
 pub returns : goal.returns
 returns c =
