@@ -20,7 +20,6 @@ use Rattle.lists.proofs.Lists.{All_append, All_get_or}
 use Rattle.lists.proofs.Totals.{flat_total, total_append, total_suc}
 use Rattle.lists.proofs.Tests.{and_right}
 use Rattle.mesh.proofs.Tabs.{tabs_tab, total_tabs}
-use Rattle.tables.specs.Layout.{most}
 use Rattle.extrusion.specs.Listings.{one_if, side_points, begin_points, end_points, face_points, size_at, start_at}
 use Rattle.extrusion.proofs.Sides.{quad_length}
 
@@ -46,13 +45,6 @@ start_up s cap j (suc d) =
 
 pub start_rises : (s cap j k : ℕ) → j ≤ k → start_at s cap j ≤ start_at s cap k
 start_rises s cap j k h = let e : j + (k - j) ≡ k = omega arith in rw e at (start_up s cap j (k - j))
-
-pub size_most : (s cap j : ℕ) → cap ≤ most → size_at s cap j ≤ most
-size_most s cap j h = go (ltb j s)
-  where
-    go : (t : Bool) → cond t 4 cap ≤ most
-    go true = omega arith
-    go false = h
 
 -- ---- of a list of lists
 

@@ -6,12 +6,12 @@ use Prim.Native.Nat.{ℕ, ◌+◌, ◌-◌, ◌≤◌, ◌<◌}
 use native.Mathlib.Numerals.{add-one}
 use borrow.Author.Tests.{lt-ltb, le-ltb, eq-eqb, ne_eqb}
 use lib.ListN.{length}
-use lib.Ieee.{Float, lt, neg}
+use lib.Ieee.{Float}
 use Rattle.math.specs.declared.vector.V3.{V3}
 use Rattle.std.specs.Prelude.{Option}
 use Rattle.std.specs.Prelude.{Some, None}
 use Rattle.math.specs.declared.quaternion.Quat.{Quat}
-use Rattle.math.specs.Vector.{zero_f, one_f, x_axis, y_axis, vadd, vsub, vscale, vdot, vcross, unit_of}
+use Rattle.math.specs.Vector.{x_axis, y_axis, vadd, vsub, vscale, vdot, vcross, unit_of}
 use Rattle.math.specs.Quaternion.{rotated, between}
 use Rattle.std.specs.Prelude.{unwrap_or}
 use Rattle.std.specs.Option.{option_or}
@@ -92,12 +92,6 @@ module _ (sp : List V3) (n i : ℕ) (k : Bool) (e : k ≡ closed sp) where
   unfolding z_end
   z_none t l = rw (← e, t, le-ltb 2 n l) refl
 
-pub turned_over : (prev : (Option V3)) (z p r : V3) (d : Float) → prev ≡ Some p → d ≡ vdot z p → lt d zero_f ≡ true → r ≡ vscale z (neg one_f) → r ≡ turned prev z
-turned_over prev z p r d ep ed t er = rw (er, ep, ← ed, t) refl
-
-pub turned_not : (prev : (Option V3)) (z p : V3) (d : Float) → prev ≡ Some p → d ≡ vdot z p → lt d zero_f ≡ false → z ≡ turned prev z
-turned_not prev z p d ep ed t = rw (ep, ← ed, t) refl
-
 pub pick_is : (first prev z a b : (Option V3)) (v r : V3) → a ≡ option_or z prev → b ≡ option_or a first → v ≡ unwrap_or b z_axis → r ≡ turned prev v → r ≡ pick_z first prev z
 unfolding pick_z
 pick_is first prev z a b v r ea eb ev er =
@@ -118,9 +112,6 @@ straight_is y u1 u2 u3 e a b c q e1 e2 ee eq ea e3 eb ec = rw (ea, eb, ec, e3, e
 
 pub by_bent : (first y₀ y : (Option V3)) (z f u v : V3) (r : PlaneAxes) → first ≡ Some f → u ≡ y_axis → v ≡ unwrap_or y u → axes_of r ≡ bent v z → axes_of r ≡ axes_by first y₀ y z
 by_bent first y₀ y z f u v r ef eu ev er = rw (er, ev, eu, ef, unwrap_or_is y y_axis) refl
-
-pub by_straight : (first y₀ y : (Option V3)) (z : V3) (r : PlaneAxes) → first ≡ None → axes_of r ≡ straight y₀ → axes_of r ≡ axes_by first y₀ y z
-by_straight first y₀ y z r ef er = rw (er, ef) refl
 
 pub placed_is : (o l a b c s t r : V3) (f : PlaneAxes) → a ≡ vscale f.x l.x → b ≡ vscale f.y l.y → s ≡ vadd a b → c ≡ vscale f.z l.z → t ≡ vadd s c → r ≡ vadd o t → r ≡ placed o (axes_of f) l
 unfolding placed

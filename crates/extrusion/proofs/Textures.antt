@@ -3,7 +3,7 @@ use mathlib.Core.Path.{◌≡◌, refl, sym, ap, ap₂, ◌∙◌}
 use mathlib.Core.Bool.{true, false}
 use mathlib.Core.List.{List, ◌++◌}
 use Prim.Native.Nat.{ℕ, ◌+◌, ◌-◌, ◌*◌, ◌/◌, ◌%◌, ◌≤◌, ◌<◌}
-use native.Mathlib.Nat.{mod-lt, div-lt_iff_lt-mul, mul-le-mul_left}
+use native.Mathlib.Nat.{mod-lt, div-lt_iff_lt-mul}
 use native.Mathlib.Omega.{arith}
 use borrow.Author.Tests.{lt-ltb, le-ltb}
 use lib.Ieee.{Float, nan, binary32, to_bits}
@@ -27,16 +27,8 @@ use Rattle.lists.proofs.Lists.{get_or_any}
 use Rattle.extrusion.specs.Given.{Given}
 use Rattle.extrusion.specs.Listings.{use_of}
 use Rattle.extrusion.specs.Corners.{texture_of, extrusion_corner, extrusion_texture, Measured, Cornered}
-use Rattle.extrusion.proofs.Blocks.{spine_few, section_few, section_long, spine_long, head_is, settings_are}
+use Rattle.extrusion.proofs.Blocks.{section_long, spine_long, head_is, settings_are}
 use Rattle.extrusion.proofs.Lengths.{length_arcs}
-
--- the product of the sides fits
-pub sides_fit : {bs : List ℕ} {h : Header} → Given bs h → (n m : ℕ) → n ≡ spine_count h → m ≡ section_count h → (n - 1) * (m - 1) ≤ 65536 * 65536
-sides_fit G n m en em =
-    let a = spine_few G in
-    let b = section_few G in
-    let p : (n - 1) * (m - 1) ≤ (n - 1) * 65536 = mul-le-mul_left (n - 1) (omega arith) in
-    omega arith
 
 -- ---- the parameters, in floats
 

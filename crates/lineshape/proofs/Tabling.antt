@@ -14,7 +14,7 @@ use Rattle.lists.specs.Parts.{spliced}
 use Rattle.lists.proofs.Splices.{put_gives}
 use lib.Seq.{length-take-le}
 use Rattle.lines.specs.Uses.{Listed}
-use Rattle.lineshape.specs.Shape.{tables_for, line_tables, Tabled}
+use Rattle.lineshape.specs.Shape.{line_tables, Tabled}
 
 module _ (p : ℕ) (es : List ℕ) (few : p ≤ most) where
   pub tables_laid : sum_over (named p) (runs es) ≤ most → (len : ℕ) → 8 * (sum_over (named p) (runs es) + p) + 8 ≤ len → Laid (line_tables p es) len
@@ -33,10 +33,6 @@ module _ (p : ℕ) (es : List ℕ) (few : p ≤ most) where
         heads = omega arith;
         nexts = omega arith;
       }
-
--- with the points s as the code has them
-pub tables_by : (p c : ℕ) {s : ℕ} → s ≡ p → tables_at c 0 s (3 * s) (3 * s + c) (3 * s + c + c) (3 * s + c + c + c) ≡ tables_for p c
-tables_by p c q = ap (λ (s : ℕ). tables_at c 0 s (3 * s) (3 * s + c) (3 * s + c + c) (3 * s + c + c + c)) q
 
 module _ (p : ℕ) (es : List ℕ) {t : CornerTables} (e : t ≡ line_tables p es) where
   -- the points are at the start, and the corners' points follow

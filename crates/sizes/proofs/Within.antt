@@ -2,7 +2,7 @@
 use mathlib.Core.Bool.{Bool, true, false, cond}
 use mathlib.Core.List.{List, [], ◌∷◌, ◌++◌}
 use Prim.Native.Nat.{ℕ, zero, suc, ◌-◌, ◌*◌, ◌≤◌}
-use native.Mathlib.Nat.{mul-le-mul, le_trans}
+use native.Mathlib.Nat.{le_trans}
 use native.Mathlib.Omega.{arith}
 use lib.Dec.{ltb}
 use lib.ListN.{length, length-append}
@@ -15,7 +15,6 @@ use Rattle.primitives.specs.Primitives.{stretches, primitive_count, primitive_of
 use Rattle.primitives.specs.Kept.{width_of, piece_of, kept_by, kept_over, kept_primitives}
 use Rattle.primitives.proofs.Closed.{listing_triangles}
 use Rattle.mesh.specs.Sizes.{lines_after}
-use Rattle.tables.specs.Layout.{most}
 
 items_within : (es : List ℕ) (s : ℕ) → sum_over length (runs_from s es) ≤ length es
 unfolding sum_over runs_from
@@ -104,8 +103,3 @@ primitives_within {points} low Triangles ws = omega (arith, listing_triangles lo
 primitives_within {points} low Fans ws = omega (arith, listing_triangles low Fans ws, kept_few points Fans ws)
 primitives_within {points} low Strips ws = omega (arith, listing_triangles low Strips ws, kept_few points Strips ws)
 primitives_within {points} low Quads ws = omega (arith, listing_triangles low Quads ws, kept_few points Quads ws)
-
--- ---- products that fit
-
-pub quads_few : (n m : ℕ) → n ≤ most → m ≤ most → (n - 1) * (m - 1) ≤ most * most
-quads_few n m hn hm = mul-le-mul (let l : n - 1 ≤ most = omega arith in l) (let l : m - 1 ≤ most = omega arith in l)

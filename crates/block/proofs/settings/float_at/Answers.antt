@@ -9,6 +9,3 @@ overflow_add-e c = omega (arith, short_in c.args.block.now, ap (λ (e : Edition)
 
 pub overflow_mul-e : goal.overflow_mul-e
 overflow_mul-e c = omega (arith, short_in c.args.block.now, ap (λ (e : Edition). e.header_words) c.edition_in-e.ensures)
-
-pub returns : goal.returns
-returns c = rw (c.of_bits.ensures, c.field_at.ensures, c.edition_in-e.ensures)

@@ -1,6 +1,4 @@
-use Prim.Native.Nat.{◌-◌}
 use Rattle.extrusion.proofs.Lengths.{length_start, length_step}
-use mathlib.Core.Path.{◌≡◌}
 use native.Mathlib.Omega.{arith}
 use Rattle.extrusion.proofs.arcs.arc_total.Goals as goal
 
@@ -10,7 +8,3 @@ loop-j-init g c = λ value same. length_start value
 pub loop-j-preserved : goal.loop-j-preserved
 loop-j-preserved g c = λ value same.
     length_step value _ _ _ _ (c.loop-j.invariant value same) (same _ _ (omega arith) c.step.ensures) c.counted-x.ensures
-
-pub returns : goal.returns
-returns g c = λ value same.
-    let e : c.loop-j.j ≡ c.args.n - 1 = omega arith in rw e at (c.loop-j.invariant value same)

@@ -1,5 +1,5 @@
 use Rattle.tables.proofs.Putting.{put_are}
-use Rattle.extrusion.proofs.Tabled.{faces_put, room_corners, room_places, room_starts, sides_most, starts_room, uses_room}
+use Rattle.extrusion.proofs.Tabled.{faces_put, room_corners, room_places, room_starts, starts_room, uses_room}
 use Rattle.std.proofs.Common.{rules}
 use mathlib.Core.Path.{refl}
 use native.Mathlib.Omega.{arith}
@@ -7,10 +7,6 @@ use Rattle.extrusion.proofs.listing.list_faces.Goals as goal
 
 pub put_uses-requires : goal.put_uses-requires
 put_uses-requires c = uses_room c.requires _ _ c.spine_count-n.ensures c.section_count-m.ensures _ _ (room_corners c.requires)
-
-pub overflow_mul-n : goal.overflow_mul-n
-overflow_mul-n c =
-    omega (arith, sides_most c.requires _ _ c.spine_count-n.ensures c.section_count-m.ensures)
 
 pub put_starts-requires : goal.put_starts-requires
 put_starts-requires c =

@@ -1,5 +1,5 @@
-use Rattle.extrusion.proofs.Counting.{size_most, start_more, start_none, start_rises}
-use Rattle.lists.proofs.Pieces.{singles_none, singles_more, singles_all}
+use Rattle.extrusion.proofs.Counting.{start_more, start_none, start_rises}
+use Rattle.lists.proofs.Pieces.{singles_none, singles_more}
 use mathlib.Core.Path.{◌∙◌}
 use native.Mathlib.Omega.{arith}
 use Rattle.extrusion.proofs.listing.put_starts.Goals as goal
@@ -11,21 +11,8 @@ pub narrow-requires : goal.narrow-requires
 narrow-requires c =
     omega (arith, c.loop-j.invariant.0, start_rises c.args.sides c.args.cap c.loop-j.j c.args.faces (omega arith), c.requires.1)
 
-pub bounds-work-k : goal.bounds-work-k
-bounds-work-k c = omega (arith, c.loop-j.invariant.1.size)
-
-pub overflow_add-c : goal.overflow_add-c
-overflow_add-c c =
-    omega (arith, c.loop-j.invariant.0, start_rises c.args.sides c.args.cap c.loop-j.j c.args.faces (omega arith), c.requires.1, size_most c.args.sides c.args.cap c.loop-j.j c.requires.2, c.size_at-c.ensures)
-
 pub loop-j-preserved : goal.loop-j-preserved
 loop-j-preserved c = (
   start_more _ _ _ _ _ c.loop-j.invariant.0 c.size_at-c.ensures,
   singles_more _ c.requires.3 c.loop-j.invariant.1 c.loop-j-test.true (c.narrow.ensures ∙ c.loop-j.invariant.0),
 )
-
-pub shape_of-work : goal.shape_of-work
-shape_of-work c = c.loop-j.invariant.1.size
-
-pub returns : goal.returns
-returns c = singles_all c.loop-j.invariant.1 c.loop-j-test.false

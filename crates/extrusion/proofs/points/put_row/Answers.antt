@@ -9,17 +9,10 @@ use Rattle.extrusion.proofs.points.put_row.Goals as goal
 pub loop-j-init : goal.loop-j-init
 loop-j-init c = pieces_none
 
-pub put_vector-requires : goal.put_vector-requires
-put_vector-requires c =
-    omega (arith, c.loop-j.invariant.size, c.loop-j-test.true, c.requires)
-
 pub loop-j-preserved : goal.loop-j-preserved
 loop-j-preserved c =
     pieces_more 3 (spot_length _ _ _ _ _) (omega (arith, c.requires)) c.loop-j.invariant (omega arith) refl
     (spot_is _ _ _ _ _ _ _ _ _ (at2_is _ _ _ c.at.ensures) c.local.ensures c.placed-p.ensures) c.put_vector.ensures
-
-pub shape_of-work : goal.shape_of-work
-shape_of-work c = c.loop-j.invariant.size
 
 pub returns : goal.returns
 returns c =

@@ -1,5 +1,4 @@
 use Prim.Native.Nat.{◌<◌}
-use Rattle.lists.proofs.Pieces.{pieces_all}
 use Rattle.extrusion.proofs.Values.{at_is}
 use Rattle.extrusion.proofs.Walking.{walk_start, walk_step}
 use lib.ListN.{length}
@@ -13,6 +12,3 @@ pub loop-i-preserved : goal.loop-i-preserved
 loop-i-preserved c =
     let h : c.loop-i.i < length c.args.spine.now = omega arith in
     walk_step _ _ _ _ _ _ _ _ _ _ _ _ _ _ _ _ _ _ _ _ _ _ _ c.loop-i.invariant c.len-w.ensures (rw (← c.len-w.ensures) at c.requires.1) h c.first_z-first.ensures c.first_y-y0.ensures c.y_own.ensures c.or-y.ensures c.z_own.ensures c.pick_z-z.ensures c.axes_by-f.ensures (at_is _ _ _ c.at.ensures) c.turn_at.ensures c.scale_at.ensures c.put_row.ensures
-
-pub returns : goal.returns
-returns c = pieces_all c.loop-i.invariant.rows (omega arith)

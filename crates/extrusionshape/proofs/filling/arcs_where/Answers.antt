@@ -1,6 +1,4 @@
 use native.Mathlib.Omega.{arith}
-use mathlib.Core.Path.{refl, sym, ◌∙◌}
-use mathlib.Core.Bool.{true≢false}
 use Rattle.extrusion.proofs.Textures.{arcs_held}
 use Rattle.lists.proofs.Splices.{put_behind}
 use Rattle.extrusionshape.proofs.filling.arcs_where.Goals as goal
@@ -8,6 +6,3 @@ use Rattle.extrusionshape.proofs.filling.arcs_where.Goals as goal
 pub returns-then-x : goal.returns-then-x
 returns-then-x c =
     (record { held = λ u. arcs_held c.args.x.now.given _ _ _ c.requires c.put_arcs.ensures }, put_behind _ _ _ c.put_arcs.ensures (omega (arith, c.requires)))
-
-pub returns-else-x : goal.returns-else-x
-returns-else-x c = (record { held = λ u. absurd (true≢false (sym u ∙ c.if-x.false)) }, refl)

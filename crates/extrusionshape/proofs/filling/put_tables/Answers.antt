@@ -1,23 +1,11 @@
 use mathlib.Core.Path.{◌∙◌}
-use native.Mathlib.Omega.{arith}
 use Rattle.tables.proofs.Listings.{listed_sound}
 use Rattle.shaping.proofs.Tabling.{prepared_front, tabled}
 use Rattle.extrusionshape.proofs.Tabling.{points_there}
 use Rattle.extrusionshape.proofs.filling.put_tables.Goals as goal
 
-pub put_points-requires : goal.put_points-requires
-put_points-requires c = let P = c.requires.0 in let R = P.room in omega (arith, P.spots)
-
-pub list_faces-requires : goal.list_faces-requires
-list_faces-requires c =
-    rw (points_there _ c.args.x.now.given c.requires.0 c.put_points.ensures).0 c.requires.0
-
 pub prepare-requires : goal.prepare-requires
 prepare-requires c = (listed_sound c.list_faces.ensures.1, c.requires.2)
-
-pub arcs_where-requires : goal.arcs_where-requires
-arcs_where-requires c =
-    omega (arith, c.requires.1, c.prepare.auto.floats)
 
 pub returns : goal.returns
 returns c = (

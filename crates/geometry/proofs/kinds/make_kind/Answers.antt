@@ -1,25 +1,5 @@
-use Rattle.geometry.proofs.ByKind.{asked_at, asked_lines, shaped_at}
+use Rattle.geometry.proofs.ByKind.{shaped_at}
 use Rattle.geometry.proofs.kinds.make_kind.Goals as goal
-
-pub make_face_set-requires : goal.make_face_set-requires
-make_face_set-requires c =
-    (asked_at c.requires.0 c.in-FaceSet.is, c.requires.1)
-
-pub make_line_set-requires : goal.make_line_set-requires
-make_line_set-requires c =
-    (asked_lines c.requires.0 c.in-LineSet.is, c.requires.1.corners)
-
-pub make_grid-requires : goal.make_grid-requires
-make_grid-requires c =
-    asked_at c.requires.0 c.in-Grid.is
-
-pub make_extrusion-requires : goal.make_extrusion-requires
-make_extrusion-requires c =
-    asked_at c.requires.0 c.in-Extrusion.is
-
-pub make_primitives-requires : goal.make_primitives-requires
-make_primitives-requires c =
-    (asked_at c.requires.0 c.in-Primitives.is, c.requires.1)
 
 pub returns-in-FaceSet-clause-made : goal.returns-in-FaceSet-clause-made
 returns-in-FaceSet-clause-made c =

@@ -6,9 +6,6 @@ use Rattle.geometry.specs.Converted.{lengths_of}
 use Rattle.geometry.proofs.Calls.{refused_call}
 use Rattle.geometry.proofs.whole.convert.Goals as goal
 
-pub verdict_for-requires : goal.verdict_for-requires
-verdict_for-requires c = c.read_header-h.ensures
-
 pub returns-in_err-z-clause-converted : goal.returns-in_err-z-clause-converted
 unfolding lengths_of
 returns-in_err-z-clause-converted c =
@@ -19,6 +16,3 @@ pub make-requires : goal.make-requires
 unfolding lengths_of
 make-requires c =
     let p = passed_is _ _ _ _ c.in_ok-z.ensures _ refl in (c.read_header-h.ensures, p.1, p.0)
-
-pub returns-clause-converted : goal.returns-clause-converted
-returns-clause-converted c = c.make.ensures.converted

@@ -6,9 +6,6 @@ use Rattle.primitives.proofs.Closed.{primitive_long}
 use Rattle.primitives.proofs.Counting.{entry_at}
 use Rattle.primitives.proofs.places.is_present.Goals as goal
 
-pub place_of-requires : goal.place_of-requires
-place_of-requires c = (omega (arith, c.width_of-n.ensures, c.loop-i-test.true), c.requires)
-
 pub returns-then-points-point_at : goal.returns-then-points-point_at
 returns-then-points-point_at c =
     let es = entries c.args.part.now in below_not _ (primitive_of c.args.g es c.args.k) c.loop-i.i _ (omega (arith, primitive_long c.args.g es c.args.k, c.width_of-n.ensures, c.loop-i-test.true)) (entry_at c.args.g es c.args.k c.loop-i.i (omega (arith, c.width_of-n.ensures, c.loop-i-test.true)) c.place_of.ensures c.point_at.ensures) c.loop-i.invariant c.if-points-point_at.true

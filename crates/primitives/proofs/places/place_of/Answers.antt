@@ -4,9 +4,6 @@ use Rattle.primitives.proofs.Counting.{place_three, place_four}
 use Rattle.primitives.proofs.Closed.{width_four}
 use Rattle.primitives.proofs.places.place_of.Goals as goal
 
-pub overflow_mul-result : goal.overflow_mul-result
-overflow_mul-result c = omega (arith, c.requires.1)
-
 pub overflow_add-result : goal.overflow_add-result
 overflow_add-result c = omega (arith, c.requires.1, width_four c.args.g, c.requires.0)
 
@@ -18,20 +15,11 @@ pub strip_place-requires : goal.strip_place-requires
 unfolding width_of
 strip_place-requires c = (rw c.in-Strips.is at c.requires.0, c.requires.1)
 
-pub overflow_mul-result-in-Quads : goal.overflow_mul-result-in-Quads
-overflow_mul-result-in-Quads c = omega (arith, c.requires.1)
-
 pub overflow_add-result-in-Quads : goal.overflow_add-result-in-Quads
 overflow_add-result-in-Quads c = omega (arith, c.requires.1, width_four c.args.g, c.requires.0)
 
 pub returns-in-Triangles : goal.returns-in-Triangles
 returns-in-Triangles c = place_three _ _ _ c.requires.0 c.in-Triangles.is
-
-pub returns-in-Fans : goal.returns-in-Fans
-returns-in-Fans c = rw c.in-Fans.is c.fan_place.ensures
-
-pub returns-in-Strips : goal.returns-in-Strips
-returns-in-Strips c = rw c.in-Strips.is c.strip_place.ensures
 
 pub returns-in-Quads : goal.returns-in-Quads
 returns-in-Quads c = place_four _ _ _ c.requires.0 c.in-Quads.is

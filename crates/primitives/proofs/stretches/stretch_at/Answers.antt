@@ -1,9 +1,6 @@
 use Rattle.primitives.proofs.Meeting.{rest_quads, fan_part, strip_part}
 use Rattle.primitives.proofs.stretches.stretch_at.Goals as goal
 
-pub returns-in-Triangles : goal.returns-in-Triangles
-returns-in-Triangles c = rw c.in-Triangles.is c.rest_at.ensures
-
 pub returns-in-Fans : goal.returns-in-Fans
 returns-in-Fans c = rw c.in-Fans.is (fan_part c.run_at.ensures)
 

@@ -1,14 +1,7 @@
 use Rattle.tables.proofs.Listings.{listed_sound}
 use Rattle.shaping.proofs.Tabling.{tabled}
-use Rattle.facesetshape.proofs.Tabling.{points_asked, points_copied}
+use Rattle.facesetshape.proofs.Tabling.{points_copied}
 use Rattle.primitiveshape.proofs.filling.put_tables.Goals as goal
-
-pub put_points-requires : goal.put_points-requires
-put_points-requires c =
-    points_asked _ c.args.h c.list_part-list.ensures c.requires.1.room c.requires.1.spots c.requires.2
-
-pub list_primitives-requires : goal.list_primitives-requires
-list_primitives-requires c = rw c.put_points.auto.work c.requires.1
 
 pub prepare-requires : goal.prepare-requires
 prepare-requires c = (listed_sound c.list_primitives.ensures.listed, c.requires.4)

@@ -4,32 +4,14 @@ use lib.Dec.{lit<}
 use Rattle.sizes.proofs.ByKind.{cap_few, extrusion_are}
 use Rattle.sizes.proofs.kinds.extrusion_sizes.Goals as goal
 
-pub invariant_of-cap_length : goal.invariant_of-cap_length
-invariant_of-cap_length c = record { given = c.requires.0 }
-
-pub net_of-t-requires : goal.net_of-t-requires
-net_of-t-requires c = c.requires.1
-
-pub overflow_mul-result : goal.overflow_mul-result
-overflow_mul-result c = omega (arith, c.net_of-t.ensures.2)
-
 pub overflow_mul-result-2 : goal.overflow_mul-result-2
 overflow_mul-result-2 c = record { fits = lt_of_le_of_lt (mul-le-mul c.cap_count-n.ensures.1 (cap_few c.requires.0 c.requires.1 _ c.cap_length-k.ensures)) (lit< tt) }
 
 pub overflow_add-result : goal.overflow_add-result
 overflow_add-result c = omega (arith, c.net_of-t.ensures.2, mul-le-mul c.cap_count-n.ensures.1 (cap_few c.requires.0 c.requires.1 _ c.cap_length-k.ensures))
 
-pub overflow_mul-result-3 : goal.overflow_mul-result-3
-overflow_mul-result-3 c = omega (arith, c.net_of-t.ensures.2)
-
 pub cap_indices-requires : goal.cap_indices-requires
 cap_indices-requires c = cap_few c.requires.0 c.requires.1 _ c.cap_length-k.ensures
-
-pub overflow_mul-result-4 : goal.overflow_mul-result-4
-overflow_mul-result-4 c = record { fits = lt_of_le_of_lt (mul-le-mul c.cap_count-n.ensures.1 c.cap_indices.ensures.1) (lit< tt) }
-
-pub overflow_add-result-2 : goal.overflow_add-result-2
-overflow_add-result-2 c = omega (arith, c.net_of-t.ensures.2, mul-le-mul c.cap_count-n.ensures.1 c.cap_indices.ensures.1)
 
 pub returns : goal.returns
 returns c =

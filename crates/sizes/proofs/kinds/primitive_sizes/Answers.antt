@@ -8,9 +8,6 @@ use Rattle.sizes.proofs.ByKind.{primitives_are}
 use Rattle.block.specs.declared.runs.Totals.{Totals}
 use Rattle.sizes.proofs.kinds.primitive_sizes.Goals as goal
 
-pub primitive_totals-t-requires : goal.primitive_totals-t-requires
-primitive_totals-t-requires c = omega (arith, c.requires)
-
 pub overflow_mul-result : goal.overflow_mul-result
 overflow_mul-result c =
     let l = c.list_part.result.now in

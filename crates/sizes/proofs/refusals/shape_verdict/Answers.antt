@@ -6,9 +6,6 @@ use Rattle.sizes.proofs.refusals.shape_verdict.Goals.{then-limit-s-via-then-limi
 pub returns-then-is_no_shape : goal.returns-then-is_no_shape
 returns-then-is_no_shape c = refuse _ _ _ _ (row_shape _ _ (sym c.is_no_shape.ensures ∙ c.if-is_no_shape.true))
 
-pub sizes_of-s-requires : goal.sizes_of-s-requires
-sizes_of-s-requires c = record { header = c.requires.0; taken = c.requires.1; shape = (sym c.is_no_shape.ensures ∙ c.if-is_no_shape.false) }
-
 pub returns-then-limit-s : goal.returns-then-limit-s
 returns-then-limit-s c =
     elim c.then-limit-s.branch [

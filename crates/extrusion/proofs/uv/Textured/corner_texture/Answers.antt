@@ -3,9 +3,6 @@ use Rattle.block.specs.Texture.{uv_by, uv_words}
 use Rattle.extrusion.proofs.Textures.{corner_made, corner_none}
 use Rattle.extrusion.proofs.uv.Textured.corner_texture.Goals as goal
 
-pub plain_texture-w-requires : goal.plain_texture-w-requires
-plain_texture-w-requires c = c.requires.1
-
 pub returns-then-h : goal.returns-then-h
 unfolding uv_words
 returns-then-h c =

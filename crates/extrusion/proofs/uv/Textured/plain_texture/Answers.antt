@@ -2,32 +2,13 @@ use Rattle.extrusion.proofs.Values.{at2_is}
 use Rattle.extrusion.proofs.Blocks.{section_long}
 use lib.ListN.{length}
 use mathlib.Core.Path.{ap}
-use Rattle.extrusion.proofs.Textures.{column_lt, column_reach, on_cap, on_side, row_reach, sides_fit}
+use Rattle.extrusion.proofs.Textures.{column_lt, column_reach, on_cap, on_side, row_reach}
 use native.Mathlib.Omega.{arith}
 use Rattle.extrusion.proofs.uv.Textured.plain_texture.Goals as goal
-
-pub nonzero_rem-col : goal.nonzero_rem-col
-nonzero_rem-col c = omega (arith, c.section_count-m.ensures, c.args.self.now.source.given.section)
-
-pub overflow_sub-n : goal.overflow_sub-n
-overflow_sub-n c = omega (arith, c.spine_count-n.ensures, c.args.self.now.source.given.spine)
-
-pub overflow_sub-m : goal.overflow_sub-m
-overflow_sub-m c = omega (arith, c.section_count-m.ensures, c.args.self.now.source.given.section)
-
-pub overflow_mul-n : goal.overflow_mul-n
-overflow_mul-n c = omega (arith, sides_fit c.args.self.now.source.given _ _ c.spine_count-n.ensures c.section_count-m.ensures)
 
 pub overflow_add-at : goal.overflow_add-at
 overflow_add-at c =
     omega (arith, column_reach c.args.self.now.measured c.args.number c.args.point.0 _ _ c.spine_count-n.ensures c.section_count-m.ensures c.requires)
-
-pub nonzero_div-point : goal.nonzero_div-point
-nonzero_div-point c = omega (arith, c.section_count-m.ensures, c.args.self.now.source.given.section)
-
-pub overflow_add-m : goal.overflow_add-m
-overflow_add-m c =
-    omega (arith, row_reach c.args.self.now.measured c.args.number c.args.point.0 _ _ c.spine_count-n.ensures c.section_count-m.ensures c.requires)
 
 pub overflow_add-at-then-number-n : goal.overflow_add-at-then-number-n
 overflow_add-at-then-number-n c =

@@ -1,49 +1,19 @@
 use Rattle.extrusion.proofs.Textures.{corner_within, texture_read}
 use mathlib.Core.Path.{ap, refl}
 use native.Mathlib.Omega.{arith}
-use Rattle.lists.proofs.Pieces.{pieces_none, pieces_more, pieces_all, pieces_kept}
+use Rattle.lists.proofs.Pieces.{pieces_none, pieces_more, pieces_kept}
 use Rattle.mesh.specs.Words.{words2}
 use Rattle.extrusion.proofs.uv.Textured.put_textures.Goals as goal
 
 pub loop-c-init : goal.loop-c-init
 loop-c-init c = pieces_none
 
-pub overflow_add-corners : goal.overflow_add-corners
-overflow_add-corners c = omega (arith, c.loop-c-test.true, c.requires.1.points, c.requires.1.room)
-
-pub bounds-work-corners : goal.bounds-work-corners
-bounds-work-corners c = omega (arith, c.loop-c-test.true, c.requires.1.points, c.requires.1.room, c.loop-c.invariant.size)
-
-pub overflow_add-numbers : goal.overflow_add-numbers
-overflow_add-numbers c =
-    omega (arith, c.loop-c-test.true, c.requires.1.faces, c.requires.1.room)
-
-pub bounds-work-numbers : goal.bounds-work-numbers
-bounds-work-numbers c =
-    omega (arith, c.loop-c-test.true, c.requires.1.faces, c.requires.1.room, c.loop-c.invariant.size)
-
 pub corner_texture-w-requires : goal.corner_texture-w-requires
 corner_texture-w-requires c =
     (c.requires.0, corner_within c.requires.1 (pieces_kept c.loop-c.invariant (omega (arith, c.requires.1.room))) _ _ c.loop-c-test.true c.wide.ensures)
-
-pub overflow_mul-c : goal.overflow_mul-c
-overflow_mul-c c = omega (arith, c.loop-c-test.true, c.requires.1.room)
-
-pub overflow_add-textures : goal.overflow_add-textures
-overflow_add-textures c = omega (arith, c.loop-c-test.true, c.requires.1.room)
-
-pub put2-requires : goal.put2-requires
-put2-requires c =
-    omega (arith, c.loop-c-test.true, c.requires.1.room, c.loop-c.invariant.size)
 
 pub loop-c-preserved : goal.loop-c-preserved
 loop-c-preserved c =
     let T = c.loop-c.invariant in
     let r = texture_read c.requires.1 (pieces_kept T (omega (arith, c.requires.1.room))) _ _ _ _ _ c.loop-c-test.true c.wide.ensures c.wide-f.ensures c.corner_texture-w.ensures in
     pieces_more 2 (λ t. refl) (omega (arith, c.requires.1.room)) T c.loop-c-test.true (omega arith) (ap words2 r) c.put2.ensures
-
-pub shape_of-work : goal.shape_of-work
-shape_of-work c = c.loop-c.invariant.size
-
-pub returns : goal.returns
-returns c = pieces_all c.loop-c.invariant c.loop-c-test.false
