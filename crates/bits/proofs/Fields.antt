@@ -1,13 +1,14 @@
 -- Laws of fields: the bound, a field in two parts, a byte is a field of 8 bits, a word by its bytes. Assumes nothing.
 use Prim.Native.Nat.{ℕ, zero, suc, ◌+◌, ◌-◌, ◌*◌, ◌/◌, ◌%◌, ◌^◌, ◌≤◌, ◌<◌}
-use mathlib.Core.Path.{◌≡◌}
-use mathlib.Core.List.{List}
+use mathlib.Core.Path.{◌≡◌, refl}
+use mathlib.Core.List.{List, [], ◌∷◌}
 use native.Mathlib.Nat.{add-zero, add-suc, pow-suc, mul-one, mul_assoc, add_assoc}
 use native.Mathlib.Omega.{arith}
 use native.Mathlib.Numerals.{add-one}
 use lib.Dec.{lit≤}
 use lib.Pow.{pow_mono, shr-shr}
 use lib.ListN.{get_or}
+use Rattle.std.specs.Int.{from_be_bytes, w32}
 use Rattle.bits.specs.Bits.{bit_at, field, word_at}
 
 pub field_lt : (bs : List ℕ) (i n : ℕ) → field bs i n < 2 ^ n
@@ -64,4 +65,10 @@ word_is bs at a b c d ea eb ec ed la lb lc ld =
     let e2 = byte_more bs at 2 (omega arith) in
     let e3 = byte_more bs at 3 (omega arith) in
     let e0 = byte_is bs at (omega arith) in
+    omega arith
+
+pub word_of_bytes : (bs : List ℕ) (at : ℕ) → get_or bs at 0 < 256 → get_or bs (at + 1) 0 < 256 → get_or bs (at + 2) 0 < 256 → get_or bs (at + 3) 0 < 256
+    → from_be_bytes w32 (get_or bs at 0 ∷ get_or bs (at + 1) 0 ∷ get_or bs (at + 2) 0 ∷ get_or bs (at + 3) 0 ∷ []) ≡ word_at bs at
+word_of_bytes bs at la lb lc ld =
+    let e = word_is bs at (get_or bs at 0) (get_or bs (at + 1) 0) (get_or bs (at + 2) 0) (get_or bs (at + 3) 0) refl refl refl refl la lb lc ld in
     omega arith

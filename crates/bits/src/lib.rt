@@ -50,11 +50,7 @@ pub fn word(block: &[u8], at: usize) -> u32
     requires { at + 4 ≤ length block.now }
     ensures { result ≡ word_at block.now at }
 {
-    let a = u32::from(block[at]);
-    let b = u32::from(block[at + 1]);
-    let c = u32::from(block[at + 2]);
-    let d = u32::from(block[at + 3]);
-    ((a * 256 + b) * 256 + c) * 256 + d
+    u32::from_be_bytes([block[at], block[at + 1], block[at + 2], block[at + 3]])
 }
 
 // Entry `k` of an index list.
@@ -69,12 +65,6 @@ pub fn entry(list: &[u8], k: usize) -> u32
 pub fn part(bytes: &[u8], at: usize, n: usize) -> &[u8]
     ensures { result.now ≡ take n (drop at bytes.now) }
 {
-    let size = bytes.len();
-    if at < size {
-        if n < size - at {
-            return &bytes[at..at + n];
-        }
-        return &bytes[at..];
-    }
-    &bytes[size..]
+    let rest = &bytes[at.min(bytes.len())..];
+    &rest[..n.min(rest.len())]
 }

@@ -2,7 +2,7 @@
 -- What ends a run is `ends_run`, which is never opened here. Assumes nothing.
 use Prim.Native.Nat.{ℕ, zero, suc, ◌+◌, ◌-◌, ◌*◌, ◌/◌, ◌≤◌, ◌<◌}
 use mathlib.Core.Path.{◌≡◌, refl, ap, sym, ◌∙◌, subst}
-use mathlib.Core.Bool.{Bool, true, false, cond, not, ◌&&◌, ◌||◌, and-false}
+use mathlib.Core.Bool.{Bool, true, false, cond, not, ◌&&◌, ◌||◌}
 use mathlib.Core.List.{List, [], ◌∷◌, ◌++◌, append_assoc, append-nil}
 use borrow.Author.Tests.{le-leb, lt-leb, lt-ltb, le-ltb, ltb-true, ltb-false}
 use native.Mathlib.Nat.{not-suc-le-zero, le_of_suc-le-suc}
@@ -12,7 +12,8 @@ use lib.Dec.{T, leb, ltb, leb→le, ltb→lt}
 use lib.Ieee.Fits.{and_l, and_r}
 use lib.ListN.{length, get_or, take, drop, drop_of_length-le, length-append, length-take, length-drop}
 use lib.Seq.{drop-cons, drop-drop}
-use Rattle.std.specs.List.{list_any}
+use Rattle.std.specs.Prelude.{Option, None, Some, MatchOption, unwrap_or}
+use Rattle.std.specs.List.{list_any, list_all, range_with_len}
 use Rattle.bits.specs.Bits.{table, entries}
 use Rattle.bits.proofs.Entries.{entries_length, entries_part}
 use Rattle.block.specs.Runs.{ends_run, Run, run_of, before, runs_from, runs, split_from, runs_left, run_length, run_at, RunPart, next_start, all_below, kept, faces, corners, triangles}
@@ -32,6 +33,26 @@ module _ (ws : List ℕ) (k w : ℕ) (t : Bool) (l : k < length ws) (e : w ≡ g
 pub run_over : (ws : List ℕ) (k : ℕ) → length ws ≤ k → run_length (drop k ws) ≡ 0
 unfolding run_length
 run_over ws k l = rw (drop_of_length-le ws l)
+
+-- where none of the n entries from s on ends a run
+run_passed : (ws : List ℕ) (s n : ℕ) → s + n ≤ length ws → ((k : ℕ) → s ≤ k → k < s + n → ends_run (get_or ws k 0) ≡ false) → run_length (drop s ws) ≡ n + run_length (drop (s + n) ws)
+run_passed ws s zero l h = let e : s + 0 ≡ s = omega arith in rw e (omega arith)
+run_passed ws s (suc n) l h =
+    let e : s + suc n ≡ s + 1 + n = omega arith in
+    rw e (omega (arith, run_more ws s _ _ (omega arith) refl refl (h s (omega arith) (omega arith)), run_passed ws (s + 1) n (omega arith) (λ k a b. h k (omega arith) (omega arith))))
+
+-- the first of the entries from s up to n that ends a run, or n
+pub first_end : (ws : List ℕ) (s n : ℕ) (o : Option ℕ) → s ≤ n → n ≡ length ws
+    → MatchOption o ((k : ℕ) → s ≤ k → k < n → ends_run (get_or ws k 0) ≡ false) (λ i. (s ≤ i) × (i < n) × (ends_run (get_or ws i 0) ≡ true) × ((k : ℕ) → s ≤ k → k < i → ends_run (get_or ws k 0) ≡ false))
+    → (unwrap_or o n ≡ s + run_length (drop s ws)) × (unwrap_or o n ≤ n)
+first_end ws s n None a b h =
+    let d : s + (n - s) ≡ n = omega arith in
+    (omega (arith, run_passed ws s (n - s) (omega arith) (λ k p q. h k p (omega arith)), ap (λ (m : ℕ). run_length (drop m ws)) d, run_over ws n (omega arith)), omega arith)
+first_end ws s n (Some i) a b h =
+    let p = h.0 in
+    let q = h.1 in
+    let d : s + (i - s) ≡ i = omega arith in
+    (omega (arith, run_passed ws s (i - s) (omega arith) (λ k t u. h.3 k t (omega arith)), ap (λ (m : ℕ). run_length (drop m ws)) d, run_stop ws i _ _ (omega arith) refl refl h.2), omega arith)
 
 pub run_le : (ws : List ℕ) → run_length ws ≤ length ws
 unfolding run_length
@@ -161,18 +182,18 @@ runs_over bs s h = rw (drop_of_length-le (entries bs) {i = s} (omega (arith, ent
 
 -- ---- kept faces
 
-module _ (p : ℕ) (ws : List ℕ) (k w : ℕ) (l : k < length ws) (e : w ≡ get_or ws k 0) (so_far : all_below p (drop k ws) ≡ all_below p ws) where
-  pub below_not : p ≤ w → false ≡ all_below p ws
-  unfolding all_below
-  below_not h = rw (← so_far, drop-cons ws k 0 l, ← e, le-ltb _ _ h)
-
-  pub below_step : w < p → all_below p (drop (k + 1) ws) ≡ all_below p ws
-  unfolding all_below
-  below_step h = rw (← so_far, drop-cons ws k 0 l, ← e, lt-ltb _ _ h, add-one)
-
-pub below_all : (p : ℕ) (ws : List ℕ) (k : ℕ) → length ws ≤ k → all_below p (drop k ws) ≡ all_below p ws → true ≡ all_below p ws
+-- as its entries are read one by one
+pub below_from : (p : ℕ) (ws : List ℕ) (test : ℕ → Bool) (s : ℕ) → ((k : ℕ) → k < length ws → test (s + k) ≡ ltb (get_or ws k 0) p) → list_all test (range_with_len s (length ws)) ≡ all_below p ws
 unfolding all_below
-below_all p ws k l e = rw (← e, drop_of_length-le ws l)
+below_from p [] test s h = refl
+below_from p (w ∷ ws) test s h =
+    let d : s ≡ s + 0 = omega arith in
+    let a : test s ≡ ltb w p = ap test d ∙ h 0 (omega arith) in
+    let b = below_from p ws test (s + 1) (λ k l. let e : s + 1 + k ≡ s + suc k = omega arith in ap test e ∙ h (suc k) (omega arith)) in
+    λ i. a i && b i
+
+pub below_each : (p : ℕ) (ws : List ℕ) → list_all (λ k. ltb (get_or ws k 0) p) (range_with_len 0 (length ws)) ≡ all_below p ws
+below_each p ws = below_from p ws (λ k. ltb (get_or ws k 0) p) 0 (λ k l. let e : 0 + k ≡ k = omega arith in ap (λ (m : ℕ). ltb (get_or ws m 0) p) e)
 
 -- whether some entry is above a limit
 pub any_above : (n : ℕ) (ws : List ℕ) → list_any (ltb n) ws ≡ not (all_below (suc n) ws)
@@ -195,9 +216,9 @@ module _ (p : ℕ) (ws : List ℕ) where
   unfolding kept
   kept_short h = rw (lt-leb 3 (length ws) h)
 
-  pub kept_not : false ≡ all_below p ws → false ≡ kept p ws
+  pub kept_below_all : 3 ≤ length ws → all_below p ws ≡ kept p ws
   unfolding kept
-  kept_not e = rw (← e) (sym (and-false (leb 3 (length ws))))
+  kept_below_all h = rw (le-leb 3 (length ws) h)
 
   pub kept_all : 3 ≤ length ws → true ≡ all_below p ws → true ≡ kept p ws
   unfolding kept

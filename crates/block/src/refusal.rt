@@ -78,7 +78,7 @@ pub fn refusal_of(block: &[u8], h: Header) -> Result<(), Refusal>
     if block.len() < header_bytes() {
         return Err(Refusal::Stub);
     }
-    if is_known(h.edition) {} else {
+    if !is_known(h.edition) {
         return Err(Refusal::Edition);
     }
     if h.zeros != 0 {

@@ -20,12 +20,9 @@ fn run_end(list: &[u8], start: usize) -> usize
     ensures { (result ≡ start + run_length (drop start (entries list.now))) × (result ≤ length list.now / 4) }
 {
     let n = list.len() / 4;
-    for k in start..n {
-        if ends_run(bits::entry(list, k)) {
-            return k;
-        }
-    }
-    n
+    (start..n)
+        .find(|&k| ends_run(bits::entry(list, k)))
+        .unwrap_or(n)
 }
 
 // The part of the list that holds the run that starts at entry `start`.
@@ -83,15 +80,7 @@ pub fn is_kept(run: &[u8], points: u32) -> bool
     ensures { result ≡ kept points (entries run.now) }
 {
     let n = run.len() / 4;
-    if n < 3 {
-        return false;
-    }
-    for k in 0..n {
-        if points <= bits::entry(run, k) {
-            return false;
-        }
-    }
-    true
+    n >= 3 && (0..n).all(|k| bits::entry(run, k) < points)
 }
 
 // What the kept faces of an index list have together.

@@ -1,13 +1,6 @@
 // FORMAT 9.4: minimum and maximum, which give the other value for a NaN, and the absolute value.
 ghost use Rattle.std.specs.Prelude.{◌≡◌};
-ghost use Rattle.std.specs.Float.Ieee.{is_nan};
 ghost use Rattle.math.specs.Order.{is_zero, choice, min_of, max_of, magnitude};
-
-fn is_nan(x: f32) -> bool
-    ensures { result ≡ is_nan x }
-{
-    x != x
-}
 
 fn is_zero(x: f32) -> bool
     ensures { result ≡ is_zero x }
@@ -19,34 +12,22 @@ fn is_zero(x: f32) -> bool
 pub fn abs(x: f32) -> f32
     ensures { result ≡ magnitude x }
 {
-    if x < 0.0 {
-        return -x;
-    }
-    if is_zero(x) {
-        return 0.0;
-    }
-    x
+    x.abs()
 }
 
 // b where it is past a, or where both are zeros and b is the one that is wanted.
+#[tactic(auto, unfolding(crate::specs::Order::choice))]
 fn choose(past: bool, wanted: bool, a: f32, b: f32) -> f32
     ensures { result ≡ choice past wanted a b }
 {
-    if is_nan(a) {
+    if a.is_nan() {
         return b;
     }
-    if is_nan(b) {
+    if b.is_nan() {
         return a;
     }
-    if past {
+    if past || is_zero(a) && is_zero(b) && wanted {
         return b;
-    }
-    if is_zero(a) {
-        if is_zero(b) {
-            if wanted {
-                return b;
-            }
-        }
     }
     a
 }

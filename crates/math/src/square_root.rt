@@ -94,11 +94,8 @@ fn root_bits(b: u32) -> u32
 pub fn root(x: f32) -> f32
     ensures { Rooted x result }
 {
-    if x > 0.0 {
-        if x < f32::INFINITY {
-            return f32::from_bits(root_bits(f32::to_bits(x)));
-        }
-        return x;
+    if x > 0.0 && x < f32::INFINITY {
+        return f32::from_bits(root_bits(f32::to_bits(x)));
     }
     if x < 0.0 {
         return f32::NAN;
@@ -194,16 +191,11 @@ fn plain_roots(w: Four<u32>) -> Four<u32>
 }
 
 // Whether x is positive and finite, and no subnormal.
+#[tactic(auto, unfolding(crate::specs::Digit::plain))]
 fn is_plain(x: f32) -> bool
     ensures { result ≡ plain x }
 {
-    if x > 0.0 {
-        if x < f32::INFINITY {
-            return 8388607 < f32::to_bits(x);
-        }
-        return false;
-    }
-    false
+    x > 0.0 && x < f32::INFINITY && 8388607 < f32::to_bits(x)
 }
 
 fn bits_in(x: f32) -> u32
@@ -243,14 +235,8 @@ fn roots_of_plain(a: f32, b: f32, c: f32, d: f32) -> Four<f32>
 pub fn roots(a: f32, b: f32, c: f32, d: f32) -> Four<f32>
     ensures { Rooted a result.a × Rooted b result.b × Rooted c result.c × Rooted d result.d }
 {
-    if is_plain(a) {
-        if is_plain(b) {
-            if is_plain(c) {
-                if is_plain(d) {
-                    return roots_of_plain(a, b, c, d);
-                }
-            }
-        }
+    if is_plain(a) && is_plain(b) && is_plain(c) && is_plain(d) {
+        return roots_of_plain(a, b, c, d);
     }
     Four {
         a: root(a),

@@ -18,7 +18,7 @@ pub fn of_bits(n: u32) -> f32
 pub fn bits_of(x: f32) -> u32
     ensures { result ≡ to_bits binary32 x }
 {
-    if x != x {
+    if x.is_nan() {
         return 0x7fc0_0000;
     }
     f32::to_bits(x)
@@ -36,9 +36,5 @@ pub fn whole_float(n: usize) -> f32
 pub fn is_finite(x: f32) -> bool
     ensures { result ≡ finite x }
 {
-    let most = f32::INFINITY;
-    if x < most {
-        return -most < x;
-    }
-    false
+    x.is_finite()
 }

@@ -1,12 +1,14 @@
 -- FORMAT 6.4: the corners of a primitive one by one, and its stretch primitive by primitive. Assumes nothing.
 use Prim.Native.Nat.{ℕ, zero, suc, ◌+◌, ◌-◌, ◌*◌, ◌%◌, ◌≤◌, ◌<◌}
-use mathlib.Core.Path.{◌≡◌, refl, sym, ap, ◌∙◌}
+use mathlib.Core.Path.{◌≡◌, refl, ap, ◌∙◌}
 use mathlib.Core.Bool.{Bool, true, false, cond}
 use mathlib.Core.List.{List, [], ◌∷◌, ◌++◌}
 use native.Mathlib.Omega.{arith}
+use native.Mathlib.Numerals.{add-one}
 use borrow.Author.Tests.{eqb-true, eqb-false}
-use lib.Dec.{eqb}
+use lib.Dec.{eqb, ltb}
 use lib.ListN.{length, get_or}
+use Rattle.std.specs.List.{filter, list_all, range_with_len}
 use Rattle.lists.specs.Loops.{tab, All}
 use Rattle.lists.specs.Lists.{flat}
 use Rattle.lists.proofs.Lists.{get_or_map_lt}
@@ -14,9 +16,10 @@ use Rattle.lists.proofs.Pieces.{flat_go, flat_end}
 use Rattle.block.specs.declared.topology.Topology.{Topology}
 use Rattle.block.specs.declared.topology.Topology.TheVariants.{Triangles, Fans, Strips, Quads}
 use Rattle.block.specs.Runs.{all_below}
+use Rattle.block.proofs.RunLaws.{below_from}
 use Rattle.primitives.specs.Primitives.{primitive_count, places_of, primitive_of}
 use Rattle.primitives.specs.Kept.{width_of, piece_of, kept_by}
-use Rattle.primitives.proofs.Closed.{places_long}
+use Rattle.primitives.proofs.Closed.{places_long, primitive_long}
 
 -- ---- places
 
@@ -102,13 +105,19 @@ places_within Strips n k h = go (eqb (k % 2) 1)
 places_within Quads n k h = (omega arith, (omega arith, (omega arith, (omega arith, tt))))
 
 -- the entry of corner i
-pub primitive_at : (g : Topology) (es : List ℕ) (k i : ℕ) → i < width_of g → get_or (primitive_of g es k) i 0 ≡ get_or es (get_or (places_of g k) i 0) 0
+primitive_at : (g : Topology) (es : List ℕ) (k i : ℕ) → i < width_of g → get_or (primitive_of g es k) i 0 ≡ get_or es (get_or (places_of g k) i 0) 0
 unfolding primitive_of
 primitive_at g es k i h = get_or_map_lt (λ (j : ℕ). get_or es j 0) (places_of g k) i 0 0 (let l = places_long g k in omega arith)
 
--- as it is read
-pub entry_at : (g : Topology) (es : List ℕ) (k i : ℕ) {p w : ℕ} → i < width_of g → p ≡ get_or (places_of g k) i 0 → w ≡ get_or es p 0 → w ≡ get_or (primitive_of g es k) i 0
-entry_at g es k i h ep ew = ew ∙ ap (λ (j : ℕ). get_or es j 0) ep ∙ sym (primitive_at g es k i h)
+-- as its corners are read one by one
+pub present_each : (p : ℕ) (g : Topology) (es : List ℕ) (k : ℕ) → list_all (λ i. ltb (get_or es (get_or (places_of g k) i 0) 0) p) (range_with_len 0 (width_of g)) ≡ all_below p (primitive_of g es k)
+present_each p g es k = rw (← (primitive_long g es k)) (below_from p (primitive_of g es k) (λ i. ltb (get_or es (get_or (places_of g k) i 0) 0) p) 0 corner)
+  where
+    corner : (i : ℕ) → i < length (primitive_of g es k) → ltb (get_or es (get_or (places_of g k) (0 + i) 0) 0) p ≡ ltb (get_or (primitive_of g es k) i 0) p
+    corner i h =
+        let e : 0 + i ≡ i = omega arith in
+        let l = primitive_long g es k in
+        rw (e, primitive_at g es k i (omega arith))
 
 module _ {A : Type 0} (a : ℕ → A) (points : ℕ) (g : Topology) (es : List ℕ) where
   -- what primitive k and those after it give
@@ -136,13 +145,16 @@ module _ {A : Type 0} (a : ℕ → A) (points : ℕ) (g : Topology) (es : List �
   unfolding kept_left
   left_none k h = flat_end (piece_of a points g es) (primitive_count g (length es)) k h
 
-  -- as they are counted: n of them before primitive k
-  module _ (k n : ℕ) {all : ℕ} (e : n + length (kept_left k) ≡ all) where
-    pub count_kept : k < primitive_count g (length es) → all_below points (primitive_of g es k) ≡ true → n + 1 + length (kept_left (k + 1)) ≡ all
-    count_kept h b = omega (arith, e, ap length (left_kept k h b))
+  -- as many as the primitives that are kept
+  kept_from : (n i : ℕ) → length (filter (λ k. all_below points (primitive_of g es k)) (range_with_len i n)) ≡ length (flat (tab (piece_of a points g es) n i))
+  unfolding tab flat piece_of
+  kept_from zero i = refl
+  kept_from (suc n) i = turn (all_below points (primitive_of g es i)) _ _ (ap (λ (j : ℕ). length (filter (λ k. all_below points (primitive_of g es k)) (range_with_len j n))) (add-one i) ∙ kept_from n (suc i))
+    where
+      turn : (b : Bool) (ks : List ℕ) (made : List A) → length ks ≡ length made → length (cond b (i ∷ ks) ks) ≡ length (cond b (a i ∷ []) [] ++ made)
+      turn true ks made h = ap suc h
+      turn false ks made h = h
 
-    pub count_lost : k < primitive_count g (length es) → all_below points (primitive_of g es k) ≡ false → n + length (kept_left (k + 1)) ≡ all
-    count_lost h b = omega (arith, e, ap length (left_lost k h b))
-
-    pub count_all : primitive_count g (length es) ≤ k → n ≡ all
-    count_all h = omega (arith, e, ap length (left_none k h))
+  pub count_kept : (n : ℕ) → n ≡ primitive_count g (length es) → length (filter (λ k. all_below points (primitive_of g es k)) (range_with_len 0 n)) ≡ length (kept_by a points g es)
+  unfolding kept_by
+  count_kept n e = rw e (kept_from (primitive_count g (length es)) 0)

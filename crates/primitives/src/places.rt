@@ -72,11 +72,5 @@ pub fn is_present(part: &[u8], points: u32, g: Topology, k: usize) -> bool
     requires { k < 2 ^ 61 }
     ensures { result ≡ all_below points (primitive_of g (entries part.now) k) }
 {
-    let n = width_of(g);
-    for i in 0..n {
-        if points as usize <= point_at(part, place_of(g, k, i)).0 {
-            return false;
-        }
-    }
-    true
+    (0..width_of(g)).all(|i| point_at(part, place_of(g, k, i)).0 < points as usize)
 }

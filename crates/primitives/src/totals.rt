@@ -14,13 +14,7 @@ fn kept_in(part: &[u8], points: u32, g: Topology) -> usize
     ensures { (result ≡ length (kept_by (primitive_of g (entries part.now)) points g (entries part.now))) × (result ≤ length part.now / 4) }
 {
     let n = count_in(g, part.len() / 4);
-    let mut kept: usize = 0;
-    for k in 0..n {
-        if is_present(part, points, g, k) {
-            kept += 1;
-        }
-    }
-    kept
+    (0..n).filter(|k| is_present(part, points, g, *k)).count()
 }
 
 // How many primitives are kept.

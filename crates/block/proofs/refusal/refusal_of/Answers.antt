@@ -8,18 +8,18 @@ known : (c : After-limit_of) → Known c.args.block.now c.args.h
 known c =
     record {
       whole = rw (← c.header_bytes.ensures) c.if-block-header_bytes.false;
-      edition_is = sym c.is_known.ensures ∙ c.if-is_known.true;
+      edition_is = sym c.is_known.ensures ∙ c.if-not-is_known.false;
       zeros_are = c.if-h-ne0.false;
     }
 
 pub returns-then-block-header_bytes : goal.returns-then-block-header_bytes
 returns-then-block-header_bytes c = row_stub _ _ (rw (← c.header_bytes.ensures) c.if-block-header_bytes.true)
 
-pub returns-else-is_known : goal.returns-else-is_known
-returns-else-is_known c = row_edition _ _ (rw (← c.header_bytes.ensures) c.if-block-header_bytes.false) (sym c.is_known.ensures ∙ c.if-is_known.false)
+pub returns-then-not-is_known : goal.returns-then-not-is_known
+returns-then-not-is_known c = row_edition _ _ (rw (← c.header_bytes.ensures) c.if-block-header_bytes.false) (sym c.is_known.ensures ∙ c.if-not-is_known.true)
 
 pub returns-then-h-ne0 : goal.returns-then-h-ne0
-returns-then-h-ne0 c = row_zeros _ _ (rw (← c.header_bytes.ensures) c.if-block-header_bytes.false) (sym c.is_known.ensures ∙ c.if-is_known.true) c.if-h-ne0.true
+returns-then-h-ne0 c = row_zeros _ _ (rw (← c.header_bytes.ensures) c.if-block-header_bytes.false) (sym c.is_known.ensures ∙ c.if-not-is_known.false) c.if-h-ne0.true
 
 pub returns-then-over_limit : goal.returns-then-over_limit
 returns-then-over_limit c = row_limit _ _ (known (goal.at.returns-then-over_limit c).After-limit_of) (rw (← c.limit_of.ensures) (sym c.over_limit.ensures ∙ c.if-over_limit.true))

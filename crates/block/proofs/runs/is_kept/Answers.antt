@@ -1,29 +1,21 @@
+use Rattle.std.proofs.Common.{rules, tests, nat_lt, get_or, refl, ◌∙◌}
+use borrow.Author.Tests.{lt-leb}
 use native.Mathlib.Omega.{arith}
-use Rattle.bits.proofs.Entries.{entries_length}
+use Rattle.std.proofs.lemmas.Iterator.{YieldsList-from_range}
+use Rattle.std.proofs.lemmas.Iterator.Search.{all_from_yields_List}
 use Rattle.bits.specs.Bits.{entries}
-use Rattle.block.proofs.RunLaws.{below_not, below_step, below_all, kept_short, kept_not, kept_all}
+use Rattle.bits.proofs.Entries.{entries_length}
+use Rattle.block.proofs.RunLaws.{below_each, kept_short, kept_below_all}
 use Rattle.block.proofs.runs.is_kept.Goals as goal
 
-pub returns-then-n-lt3 : goal.returns-then-n-lt3
-returns-then-n-lt3 c =
-    let bs = c.args.run.now in
-    let l = entries_length bs in
-    kept_short _ (entries bs) (omega arith)
+pub returns-then-n-ge3 : goal.returns-then-n-ge3
+returns-then-n-ge3 c =
+    let p = c.args.points in
+    let ws = entries c.args.run.now in
+    let l = entries_length c.args.run.now in
+    all_from_yields_List (λ k. nat_lt (get_or ws k 0) p) _ _ _ c.all.ensures.ran (YieldsList-from_range 0 _ _ refl (omega arith)) (λ x b q k. search (rules, tests))
+    ∙ below_each p ws
+    ∙ kept_below_all p ws (omega arith)
 
-pub returns-then-points-entry : goal.returns-then-points-entry
-returns-then-points-entry c =
-    let bs = c.args.run.now in
-    let l = entries_length bs in
-    kept_not _ _ (below_not _ (entries bs) c.loop-k.k _ (omega arith) c.entry.ensures c.loop-k.invariant c.if-points-entry.true)
-
-pub loop-k-preserved : goal.loop-k-preserved
-loop-k-preserved c =
-    let bs = c.args.run.now in
-    let l = entries_length bs in
-    below_step _ (entries bs) c.loop-k.k _ (omega arith) c.entry.ensures c.loop-k.invariant c.if-points-entry.false
-
-pub returns : goal.returns
-returns c =
-    let bs = c.args.run.now in
-    let l = entries_length bs in
-    kept_all _ (entries bs) (omega arith) (below_all _ (entries bs) c.loop-k.k (omega arith) c.loop-k.invariant)
+pub returns-else-n-ge3 : goal.returns-else-n-ge3
+returns-else-n-ge3 c = let l = entries_length c.args.run.now in lt-leb 3 _ c.if-n-ge3.false ∙ kept_short _ _ (omega arith)

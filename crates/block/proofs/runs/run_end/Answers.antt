@@ -1,23 +1,13 @@
-use native.Mathlib.Omega.{arith}
-use Rattle.bits.proofs.Entries.{entries_length}
+use Rattle.std.proofs.Common.{rules, ◌≡◌, true, false, get_or, sym}
+use Rattle.std.proofs.lemmas.Iterator.{first_from_Range}
 use Rattle.bits.specs.Bits.{entries}
-use Rattle.block.proofs.RunLaws.{run_stop, run_more, run_over}
+use Rattle.bits.proofs.Entries.{entries_length}
+use Rattle.block.specs.Runs.{ends_run}
+use Rattle.block.proofs.RunLaws.{first_end}
 use Rattle.block.proofs.runs.run_end.Goals as goal
-
-pub returns-then-ends_run : goal.returns-then-ends_run
-returns-then-ends_run c =
-    let bs = c.args.list.now in
-    let l = entries_length bs in
-    omega (arith, run_stop (entries bs) c.loop-k.k _ _ (omega arith) c.entry.ensures c.ends_run.ensures c.if-ends_run.true)
-
-pub loop-k-preserved : goal.loop-k-preserved
-loop-k-preserved c =
-    let bs = c.args.list.now in
-    let l = entries_length bs in
-    omega (arith, run_more (entries bs) c.loop-k.k _ _ (omega arith) c.entry.ensures c.ends_run.ensures c.if-ends_run.false)
 
 pub returns : goal.returns
 returns c =
-    let bs = c.args.list.now in
-    let l = entries_length bs in
-    omega (arith, run_over (entries bs) c.loop-k.k (omega arith))
+    let ws = entries c.args.list.now in
+    let first = first_from_Range _ _ _ _ (λ k. ends_run (get_or ws k 0) ≡ true) (λ k. ends_run (get_or ws k 0) ≡ false) c.find.ensures.ran (λ x q k. search rules) (λ x q k. search rules) in
+    rw c.unwrap_or.ensures (first_end ws c.args.start _ _ c.requires (sym (entries_length c.args.list.now)) first)

@@ -1,8 +1,6 @@
-use Rattle.math.proofs.Words.{nan_bits, no_nan}
+use mathlib.Core.Path.{sym, ◌∙◌}
+use Rattle.math.proofs.Words.{nan_bits}
 use Rattle.math.proofs.word.bits_of.Goals as goal
 
-pub returns-then-x : goal.returns-then-x
-returns-then-x c = nan_bits c.args.x c.if-x.true
-
-pub float_to_bits-result : goal.float_to_bits-result
-float_to_bits-result c = no_nan c.args.x c.if-x.false
+pub returns-then-is_nan : goal.returns-then-is_nan
+returns-then-is_nan c = nan_bits c.args.x (sym c.is_nan.ensures.value ∙ c.if-is_nan.true)

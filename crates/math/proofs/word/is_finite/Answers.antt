@@ -1,8 +1,6 @@
-use Rattle.math.proofs.Words.{below_infinity, not_below_infinity}
+use mathlib.Core.Path.{◌∙◌}
+use Rattle.math.proofs.Words.{finite_is}
 use Rattle.math.proofs.word.is_finite.Goals as goal
 
-pub returns-then-x-most : goal.returns-then-x-most
-returns-then-x-most c = below_infinity c.args.x c.if-x-most.true
-
 pub returns : goal.returns
-returns c = not_below_infinity c.args.x c.if-x-most.false
+returns c = c.is_finite.ensures.value ∙ finite_is c.args.x

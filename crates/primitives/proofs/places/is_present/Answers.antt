@@ -1,19 +1,17 @@
+use Rattle.std.proofs.Common.{rules, tests, nat_lt, get_or, refl, ◌∙◌}
 use native.Mathlib.Omega.{arith}
+use Rattle.std.proofs.lemmas.Iterator.{YieldsList-from_range}
+use Rattle.std.proofs.lemmas.Iterator.Search.{all_from_yields_List}
 use Rattle.bits.specs.Bits.{entries}
-use Rattle.block.proofs.RunLaws.{below_not, below_step, below_all}
-use Rattle.primitives.specs.Primitives.{primitive_of}
-use Rattle.primitives.proofs.Closed.{primitive_long}
-use Rattle.primitives.proofs.Counting.{entry_at}
+use Rattle.primitives.specs.Primitives.{places_of}
+use Rattle.primitives.proofs.Counting.{present_each}
 use Rattle.primitives.proofs.places.is_present.Goals as goal
-
-pub returns-then-points-point_at : goal.returns-then-points-point_at
-returns-then-points-point_at c =
-    let es = entries c.args.part.now in below_not _ (primitive_of c.args.g es c.args.k) c.loop-i.i _ (omega (arith, primitive_long c.args.g es c.args.k, c.width_of-n.ensures, c.loop-i-test.true)) (entry_at c.args.g es c.args.k c.loop-i.i (omega (arith, c.width_of-n.ensures, c.loop-i-test.true)) c.place_of.ensures c.point_at.ensures) c.loop-i.invariant c.if-points-point_at.true
-
-pub loop-i-preserved : goal.loop-i-preserved
-loop-i-preserved c =
-    let es = entries c.args.part.now in below_step _ (primitive_of c.args.g es c.args.k) c.loop-i.i _ (omega (arith, primitive_long c.args.g es c.args.k, c.width_of-n.ensures, c.loop-i-test.true)) (entry_at c.args.g es c.args.k c.loop-i.i (omega (arith, c.width_of-n.ensures, c.loop-i-test.true)) c.place_of.ensures c.point_at.ensures) c.loop-i.invariant c.if-points-point_at.false
 
 pub returns : goal.returns
 returns c =
-    let es = entries c.args.part.now in below_all _ (primitive_of c.args.g es c.args.k) c.loop-i.i (omega (arith, primitive_long c.args.g es c.args.k, c.width_of-n.ensures, c.loop-i-test.false)) c.loop-i.invariant
+    let p = c.args.points in
+    let g = c.args.g in
+    let k = c.args.k in
+    let es = entries c.args.part.now in
+    all_from_yields_List (λ i. nat_lt (get_or es (get_or (places_of g k) i 0) 0) p) _ _ _ c.all.ensures.ran (YieldsList-from_range 0 _ _ refl (omega (arith, c.width_of.ensures))) (λ x b q h. search (rules, tests))
+    ∙ present_each p g es k

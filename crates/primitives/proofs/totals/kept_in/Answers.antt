@@ -1,35 +1,29 @@
-use Prim.Native.Nat.{◌/◌, ◌<◌}
-use mathlib.Core.Path.{sym, ap, ◌∙◌}
+use Rattle.std.proofs.Common.{rules, tests, length, ◌/◌, ◌∙◌, ap, refl, ℕ, ◌≡◌, ◌<◌, ◌^◌}
 use native.Mathlib.Omega.{arith}
-use lib.ListN.{length}
+use Rattle.std.specs.declared.ops.Range.{Range}
+use Rattle.std.proofs.lemmas.Iterator.{YieldsList-from_range, serves_from_Range}
+use Rattle.std.proofs.lemmas.Iterator.Consumers.{YieldsList-from_filter, count_from_yields_List}
 use Rattle.bits.specs.Bits.{entries}
 use Rattle.bits.proofs.Entries.{entries_length}
+use Rattle.block.specs.Runs.{all_below}
 use Rattle.primitives.specs.Primitives.{primitive_count, primitive_of}
-use Rattle.primitives.proofs.Counting.{count_most, left_first, count_kept, count_lost, count_all}
+use Rattle.primitives.proofs.Counting.{count_most, count_kept}
 use Rattle.primitives.proofs.totals.kept_in.Goals as goal
-use Rattle.primitives.proofs.totals.kept_in.Goals.{then-is_present, else-is_present}
 
-pub loop-k-init : goal.loop-k-init
-loop-k-init c =
-    let es = entries c.args.part.now in let l = entries_length c.args.part.now in (omega arith, omega (arith, ap length (left_first (primitive_of c.args.g es) c.args.points c.args.g es)))
-
-pub is_present-requires : goal.is_present-requires
-is_present-requires c = omega (arith, c.loop-k-test.true, c.count_in-n.ensures, count_most c.args.g (length c.args.part.now / 4))
-
-pub loop-k-preserved : goal.loop-k-preserved
-loop-k-preserved c =
-    let es = entries c.args.part.now in
-    let l = entries_length c.args.part.now in
-    let t : c.loop-k.k < primitive_count c.args.g (length es) = rw l (omega (arith, c.loop-k-test.true, c.count_in-n.ensures)) in
-    elim c.if-is_present.branch [
-      | then-is_present w ↦
-          (omega (arith, c.loop-k.invariant.0, w.kept-is), rw w.kept-is (count_kept (primitive_of c.args.g es) c.args.points c.args.g es c.loop-k.k c.loop-k.kept c.loop-k.invariant.1 t (sym c.is_present.ensures ∙ w.if-is_present.true)))
-      | else-is_present w ↦
-          (omega (arith, c.loop-k.invariant.0, w.kept-is), rw w.kept-is (count_lost (primitive_of c.args.g es) c.args.points c.args.g es c.loop-k.k c.loop-k.kept c.loop-k.invariant.1 t (sym c.is_present.ensures ∙ w.if-is_present.false)))
-    ]
+pub count-requires-clause-can : goal.count-requires-clause-can
+count-requires-clause-can c =
+    let m = count_most c.args.g (length c.args.part.now / 4) in
+    let s = c.type_inv.part in
+    let e = ap (λ (r : Range ℕ). r.end) c.filter.ensures.source in
+    (tt, tt, serves_from_Range (λ x q k. search (rules, tests)) (λ x low high. let b : x < 2 ^ 61 = omega (arith, high, e, m, c.count_in-n.ensures) in λ y same _ _ _ _ _ _ _ _ _ _. omega (arith, same, b)))
 
 pub returns : goal.returns
 returns c =
+    let p = c.args.points in
+    let g = c.args.g in
     let es = entries c.args.part.now in
     let l = entries_length c.args.part.now in
-    (count_all (primitive_of c.args.g es) c.args.points c.args.g es c.loop-k.k c.loop-k.kept c.loop-k.invariant.1 (rw l (omega (arith, c.loop-k-test.false, c.count_in-n.ensures))), omega (arith, c.loop-k.invariant, c.count_in-n.ensures, count_most c.args.g (length c.args.part.now / 4)))
+    let n : c.count_in-n.result ≡ primitive_count g (length es) = rw l c.count_in-n.ensures in (
+      count_from_yields_List _ _ c.count.ensures.ran (YieldsList-from_filter _ (λ k. all_below p (primitive_of g es k)) (YieldsList-from_range 0 _ _ c.filter.ensures.source refl) c.filter.ensures.closure (λ x b q k. search (rules, tests))) ∙ count_kept (primitive_of g es) p g es _ (omega (arith, n)),
+      omega (arith, c.count.ensures.bound, ap (λ (r : Range ℕ). r.start) c.filter.ensures.source, ap (λ (r : Range ℕ). r.end) c.filter.ensures.source, c.count_in-n.ensures, count_most g (length c.args.part.now / 4)),
+    )
