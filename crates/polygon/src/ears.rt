@@ -48,8 +48,8 @@ fn set_order(idx: &mut [u32], rev: bool)
     ensures { idx.new ≡ order rev (length idx.old) }
 {
     let n = idx.len();
-    for i in 0..n {
-        put(idx, i, place_of(rev, n, i));
+    for (i, x) in idx.iter_mut().enumerate() {
+        *x = place_of(rev, n, i);
     }
 }
 

@@ -14,13 +14,7 @@ const EAR_CLIP_MAX: usize = 4096;
 pub fn is_fan(n: usize, convex: bool) -> bool
     ensures { result ≡ is_fan convex n }
 {
-    if n <= 3 {
-        return true;
-    }
-    if convex {
-        return true;
-    }
-    EAR_CLIP_MAX < n
+    n <= 3 || convex || EAR_CLIP_MAX < n
 }
 
 // A fan over 0, 1, .., n - 1, to the front of `out`.

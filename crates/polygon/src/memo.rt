@@ -57,13 +57,7 @@ fn cross(o: Dot, a: Dot, b: Dot) -> f32
 fn in_tri(p: Dot, t: Triangle) -> bool
     ensures { result ≡ point_in_tri (spot_of p) (spot_of t.a) (spot_of t.b) (spot_of t.c) }
 {
-    if !(cross(t.a, t.b, p) >= 0.0) {
-        return false;
-    }
-    if !(cross(t.b, t.c, p) >= 0.0) {
-        return false;
-    }
-    cross(t.c, t.a, p) >= 0.0
+    cross(t.a, t.b, p) >= 0.0 && cross(t.b, t.c, p) >= 0.0 && cross(t.c, t.a, p) >= 0.0
 }
 
 fn is_bent(p: &[f32], q: Corner) -> bool
@@ -75,16 +69,7 @@ fn is_bent(p: &[f32], q: Corner) -> bool
 fn is_in_way(k: Dot, t: Triangle) -> bool
     ensures { result ≡ in_way k t.a t.b t.c }
 {
-    if k.j == t.a.j {
-        return false;
-    }
-    if k.j == t.b.j {
-        return false;
-    }
-    if k.j == t.c.j {
-        return false;
-    }
-    in_tri(k, t)
+    k.j != t.a.j && k.j != t.b.j && k.j != t.c.j && in_tri(k, t)
 }
 
 // ---- the corners that are left: a word for each, 1 while it is
@@ -93,10 +78,7 @@ fn is_hit(p: &[f32], left: &[u32], k: usize, t: Triangle) -> bool
     requires { k < 2 ^ 31 }
     ensures { result ≡ hits left.now (λ j. in_way (dot_of (xy p.now) j) t.a t.b t.c) k }
 {
-    if get(left, k) != 1 {
-        return false;
-    }
-    is_in_way(dot_at(p, k as u32), t)
+    get(left, k) == 1 && is_in_way(dot_at(p, k as u32), t)
 }
 
 // The first of the corners from `from` up to `to` that is left and lies in the triangle t.
@@ -128,13 +110,7 @@ fn dot_in(p: &[f32], k: usize) -> Dot
 fn is_near(f: u32, d: Dot, t: Triangle) -> bool
     ensures { result ≡ (eqb f 1 && (le +0 (cross2 (spot_of t.b) (spot_of t.c) (spot_of d)) && le +0 (cross2 (spot_of t.c) (spot_of t.a) (spot_of d)))) }
 {
-    if f != 1 {
-        return false;
-    }
-    if !(cross(t.b, t.c, d) >= 0.0) {
-        return false;
-    }
-    cross(t.c, t.a, d) >= 0.0
+    f == 1 && cross(t.b, t.c, d) >= 0.0 && cross(t.c, t.a, d) >= 0.0
 }
 
 // How many of the corners from `from` up to `to` are near: the machine counts several at once. Where there is none, none of them lies in the triangle t.

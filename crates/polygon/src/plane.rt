@@ -33,10 +33,7 @@ pub fn handed_of(ccw: bool, n: V3) -> V3
 fn is_most(x: f32, y: f32, z: f32) -> bool
     ensures { result ≡ most x y z }
 {
-    if x >= y {
-        return x >= z;
-    }
-    false
+    x >= y && x >= z
 }
 
 // A number, not an enum: the two other axes are counted on from it.

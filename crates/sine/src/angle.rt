@@ -63,8 +63,7 @@ pub fn exponent(b: u32) -> u64
     requires { b < 2139095040 }
     ensures { result ≡ expo b }
 {
-    let field = u64::from(b / 8388608);
-    if field == 0 { 0 } else { field - 1 }
+    u64::from(b / 8388608).saturating_sub(1)
 }
 
 // Which of the 4,096 steps of a turn q parts end in.

@@ -20,10 +20,7 @@ fn sin_place(j: usize) -> usize
     requires { j ≤ 2048 }
     ensures { (result ≡ min j (2048 - j)) × (result < 1025) }
 {
-    if j < 1025 {
-        return j;
-    }
-    2048 - j
+    j.min(2048 - j)
 }
 
 // Which is the size of the cosine there.
@@ -31,10 +28,7 @@ fn cos_place(j: usize) -> usize
     requires { j ≤ 2048 }
     ensures { (result ≡ 1024 - j + (j - 1024)) × (result < 1025) }
 {
-    if j < 1024 {
-        return 1024 - j;
-    }
-    j - 1024
+    j.abs_diff(1024)
 }
 
 // w of 2^24 parts of the way from a to b, to 24 digits.

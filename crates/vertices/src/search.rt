@@ -68,16 +68,10 @@ impl<'a> Made<'a> {
         ensures { result ≡ same_key (corner_key w key.now.point.0 key.now.words.now) (key_at w self.now i.0) }
     {
         let k = i.0;
-        if key.point.0 != wide(self.sources[k]) {
-            return false;
-        }
-        if !same_row(key.words, 0, self.normals, w.normal, k) {
-            return false;
-        }
-        if !same_row(key.words, 3, self.colours, w.colour, k) {
-            return false;
-        }
-        same_row(key.words, 7, self.textures, w.texture, k)
+        key.point.0 == wide(self.sources[k])
+            && same_row(key.words, 0, self.normals, w.normal, k)
+            && same_row(key.words, 3, self.colours, w.colour, k)
+            && same_row(key.words, 7, self.textures, w.texture, k)
     }
 
     // The vertex, if there is one, among the first n that has the point and the words of a corner. Only the chain of the vertices in the key's bucket is

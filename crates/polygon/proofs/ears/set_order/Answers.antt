@@ -15,7 +15,7 @@ loop-i-init c = rw sub-zero
 
 pub loop-i-preserved : goal.loop-i-preserved
 loop-i-preserved c =
-    rw (c.put.ensures, c.place_of.ensures) (sym (tab_go _ _ _ _ c.loop-i-test.true) ∙ c.loop-i.invariant)
+    rw c.place_of.ensures (sym (tab_go _ _ _ _ c.loop-i-test.true) ∙ c.loop-i.invariant)
 
 pub returns : goal.returns
 returns c =
