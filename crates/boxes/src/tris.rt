@@ -5,7 +5,8 @@ ghost use Rattle.lists.specs.Loops.{tab};
 ghost use Rattle.lists.specs.Parts.{spliced};
 ghost use Rattle.boxes.specs.Box.{box_tris};
 
-use parts::{index_of, put_words};
+use parts::put_words;
+use tables::narrow;
 
 // Those of face k.
 fn box_tris(k: usize) -> [u32; 6]
@@ -13,10 +14,10 @@ fn box_tris(k: usize) -> [u32; 6]
     ensures { result ≡ box_tris k }
 {
     let a = k * 4;
-    let p = index_of(a);
-    let q = index_of(a + 1);
-    let r = index_of(a + 2);
-    let s = index_of(a + 3);
+    let p = narrow(a);
+    let q = narrow(a + 1);
+    let r = narrow(a + 2);
+    let s = narrow(a + 3);
     [p, q, r, p, r, s]
 }
 

@@ -8,7 +8,8 @@ ghost use Rattle.cone.specs.Cone.{cone_normal, cone_foot, cone_apex, cone_verts,
 use crate::lengths::{Lengths, is_known, known_unit, lengths_near};
 use block::Pair;
 use math::V3;
-use parts::{Builder, Vert, index_of, put_words, ring_at, share};
+use parts::{Builder, Vert, put_words, ring_at, share};
+use tables::narrow;
 
 // The radius, the height and the slices.
 #[derive(Clone, Copy)]
@@ -161,7 +162,7 @@ fn cone_tri(i: usize) -> [u32; 3]
     requires { i < 1024 }
     ensures { result ≡ cone_tri i }
 {
-    [index_of(3 * i), index_of(3 * i + 1), index_of(3 * i + 2)]
+    [narrow(3 * i), narrow(3 * i + 1), narrow(3 * i + 2)]
 }
 
 // The whole side.

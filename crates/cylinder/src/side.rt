@@ -5,7 +5,8 @@ ghost use Rattle.cylinder.specs.Cylinder.{side_vert, side_verts, side_tris, side
 
 use block::Pair;
 use math::V3;
-use parts::{Builder, Vert, index_of, put_words, ring_at, share};
+use parts::{Builder, Vert, put_words, ring_at, share};
+use tables::narrow;
 
 // The radius, half the height and the slices.
 #[derive(Clone, Copy)]
@@ -56,10 +57,10 @@ fn side_tris(i: usize) -> [u32; 6]
     requires { i < 1024 }
     ensures { result ≡ side_tris i }
 {
-    let a = index_of(2 * i);
-    let b = index_of(2 * i + 2);
-    let c = index_of(2 * i + 3);
-    let d = index_of(2 * i + 1);
+    let a = narrow(2 * i);
+    let b = narrow(2 * i + 2);
+    let c = narrow(2 * i + 3);
+    let d = narrow(2 * i + 1);
     [a, b, c, a, c, d]
 }
 

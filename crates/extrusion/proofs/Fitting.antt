@@ -2,10 +2,10 @@
 use mathlib.Core.Path.{◌≡◌, refl}
 use mathlib.Core.Bool.{Bool, true, false, ◌&&◌}
 use mathlib.Core.List.{List}
-use Prim.Native.Nat.{ℕ, ◌+◌, ◌-◌, ◌≤◌, ◌<◌}
+use Prim.Native.Nat.{ℕ, ◌+◌, ◌-◌}
 use native.Mathlib.Numerals.{add-one}
-use borrow.Author.Tests.{lt-ltb, le-ltb}
-use lib.ListN.{length}
+use lib.Dec.{ltb}
+use lib.ListN.{length, get_or}
 use lib.Ieee.{Float, binary32, sub, eq}
 use Rattle.math.specs.Order.{max_of}
 use Rattle.block.specs.declared.texture.Pair.{Pair}
@@ -15,13 +15,12 @@ use Rattle.mesh.specs.Texture.{widened, span_of, divisor}
 use Rattle.mesh.specs.Arcs.{at2}
 use Rattle.mesh.specs.Extrusion.{closes, ring_of, cap_length, cap_fit}
 
-pub closes_long : (l : List Pair) (m : ℕ) (p q : Pair) → m ≡ length l → 2 < m → p ≡ at2 l 0 → q ≡ at2 l (m - 1) → (eq p.s q.s && eq p.t q.t) ≡ closes l
-unfolding closes
-closes_long l m p q em h ep eq' = rw (ep, eq', ← em, lt-ltb 2 m h) refl
-
-pub closes_short : (l : List Pair) (m : ℕ) → m ≡ length l → m ≤ 2 → false ≡ closes l
-unfolding closes
-closes_short l m em h = rw (← em, le-ltb 2 m h) refl
+-- two points are equal where both numbers are
+pub closes_is : (l : List Pair) (t : Bool)
+    → ((d : Pair) → t ≡ (ltb 2 (length l) && (eq (get_or l 0 d).s (get_or l (length l - 1) d).s && eq (get_or l 0 d).t (get_or l (length l - 1) d).t)))
+    → t ≡ closes l
+unfolding closes at2
+closes_is l t e = e _
 
 module _ (l : List Pair) (m : ℕ) (t : Bool) (et : t ≡ closes l) where
   pub cap_closed : m ≡ length l → t ≡ true → m - 1 ≡ cap_length l

@@ -1,11 +1,12 @@
 -- FORMAT 8.4: laws of the axes, one for each way a function of the code returns.
 use mathlib.Core.Path.{◌≡◌, refl}
-use mathlib.Core.Bool.{Bool, true, false}
+use mathlib.Core.Bool.{Bool, true, false, ◌&&◌}
 use mathlib.Core.List.{List}
 use Prim.Native.Nat.{ℕ, ◌+◌, ◌-◌, ◌≤◌, ◌<◌}
 use native.Mathlib.Numerals.{add-one}
 use borrow.Author.Tests.{lt-ltb, le-ltb, eq-eqb, ne_eqb}
-use lib.ListN.{length}
+use lib.Dec.{ltb}
+use lib.ListN.{length, get_or}
 use lib.Ieee.{Float}
 use Rattle.math.specs.declared.vector.V3.{V3}
 use Rattle.std.specs.Prelude.{Option}
@@ -29,13 +30,9 @@ last_step s f i y z r ey ez er = rw (er, ey, ez, add-one) (option_or_is (f i) (l
 
 -- ---- the ends
 
-pub closed_long : (sp : List V3) (n : ℕ) (p q : V3) (r : Bool) → n ≡ length sp → 2 < n → p ≡ at sp 0 → q ≡ at sp (n - 1) → r ≡ same3 p q → r ≡ closed sp
-unfolding closed
-closed_long sp n p q r en h ep eq er = rw (er, ep, eq, ← en, lt-ltb 2 n h) refl
-
-pub closed_short : (sp : List V3) (n : ℕ) → n ≡ length sp → n ≤ 2 → false ≡ closed sp
-unfolding closed
-closed_short sp n en h = rw (← en, le-ltb 2 n h) refl
+pub closed_is : (sp : List V3) (k : Bool) → ((d : V3) → k ≡ (ltb 2 (length sp) && same3 (get_or sp 0 d) (get_or sp (length sp - 1) d))) → k ≡ closed sp
+unfolding closed at
+closed_is sp k e = e _
 
 -- ---- Y
 

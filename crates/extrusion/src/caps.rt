@@ -1,7 +1,6 @@
 // FORMAT 8.4, extrusion (cap_len, lo, span): the corners of a cap, and how the cross-section fits its texture.
-ghost use Rattle.std.specs.Prelude.{◌≡◌, ℕ, ◌≤◌, length};
+ghost use Rattle.std.specs.Prelude.{◌≡◌, ℕ};
 ghost use Rattle.math.specs.Vector.{zero_f};
-ghost use Rattle.mesh.specs.Extrusion as spec;
 ghost use Rattle.mesh.specs.Extrusion.{section_of, extrusion_of, ring_of, cap_length, cap_fit};
 ghost use Rattle.mesh.specs.Texture.{span_of};
 
@@ -9,17 +8,6 @@ use crate::reading::{Entries, Extruded};
 use block::Pair;
 use mesh::{Fit, Span};
 use texture::{divisor_of, widen};
-
-fn closes(section: &Entries<Pair>) -> bool
-    requires { 2 ≤ length section.now }
-    ensures { result ≡ spec.closes section.now }
-{
-    let m = section.len();
-    if 2 < m {
-        return section.at(0) == section.at(m - 1);
-    }
-    false
-}
 
 // Before the first point.
 fn nowhere() -> Span
@@ -57,7 +45,7 @@ impl<'a> Extruded<'a> {
     {
         let section = self.section();
         let m = section.len();
-        if closes(&section) {
+        if section.closes() {
             return m - 1;
         }
         m
@@ -68,7 +56,7 @@ impl<'a> Extruded<'a> {
         ensures { result ≡ ring_of (section_of self.now.block.now self.now.header) }
     {
         let section = self.section();
-        if closes(&section) {
+        if section.closes() {
             return section.len();
         }
         0

@@ -1,21 +1,10 @@
 // FORMAT 8.4, extrusion_frames (ys, zs): the Y and the Z axis that each spine point has of itself, and the first of all.
 ghost use Rattle.std.specs.Prelude.{◌≡◌, ◌≤◌, ◌<◌, length};
 ghost use Rattle.mesh.specs.Frames as spec;
-ghost use Rattle.mesh.specs.Frames.{same3, closed, is_end, along_end, y_own, first_y, bend, z_end, z_own, first_z};
+ghost use Rattle.mesh.specs.Frames.{is_end, along_end, y_own, first_y, bend, z_end, z_own, first_z};
 
 use crate::reading::Entries;
 use math::V3;
-
-fn is_closed(s: &Entries<V3>) -> bool
-    requires { 2 ≤ length s.now }
-    ensures { result ≡ closed s.now }
-{
-    let n = s.len();
-    if 2 < n {
-        return s.at(0) == s.at(n - 1);
-    }
-    false
-}
 
 fn is_end(n: usize, i: usize) -> bool
     requires { 2 ≤ n }
@@ -37,7 +26,7 @@ fn along_end(s: &Entries<V3>, i: usize) -> V3
     ensures { result ≡ along_end s.now (length s.now) i }
 {
     let n = s.len();
-    if is_closed(s) {
+    if s.closes() {
         return step(s, n - 2, 1);
     }
     if i == 0 {
@@ -76,7 +65,7 @@ fn z_end(s: &Entries<V3>, i: usize) -> Option<V3>
     ensures { result ≡ z_end s.now (length s.now) i }
 {
     let n = s.len();
-    if is_closed(s) {
+    if s.closes() {
         return plane(s, n - 2, 0, 1);
     }
     if 2 < n {

@@ -1,5 +1,5 @@
 // FORMAT 2.4: the lists of an extrusion, read by number from their bytes.
-ghost use Rattle.std.specs.Prelude.{◌≡◌, ℕ, List, ◌+◌, ◌*◌, ◌≤◌, ◌<◌, length, get_or};
+ghost use Rattle.std.specs.Prelude.{◌≡◌, ℕ, List, ◌+◌, ◌-◌, ◌*◌, ◌≤◌, ◌<◌, ◌&&◌, ltb, length, get_or};
 ghost use Rattle.std.specs.Float.{binary32};
 ghost use Rattle.std.specs.Float.Ieee.{of_bits};
 ghost use Rattle.bits.specs.Bits.{word_at};
@@ -119,6 +119,19 @@ impl<'a, V: Entry> Entries<'a, V> {
             return self.at(0);
         }
         missing
+    }
+}
+
+impl<'a, V: Entry + PartialEq> Entries<'a, V> {
+    // FORMAT 8.4 (cs_closed, closed): more than two entries, and the last equal to the first.
+    pub fn closes(&self) -> bool
+        ensures { (d : V) → result ≡ (ltb 2 (length self.now) && V.eq (get_or self.now 0 d) (get_or self.now (length self.now - 1) d)) }
+    {
+        let m = self.len();
+        if 2 < m {
+            return self.at(0) == self.at(m - 1);
+        }
+        false
     }
 }
 

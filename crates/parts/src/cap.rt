@@ -7,9 +7,10 @@ use crate::builder::Builder;
 use crate::ring::ring_at;
 use crate::sizes::PartSizes;
 use crate::turns::put_words;
-use crate::vert::{Vert, index_of};
+use crate::vert::Vert;
 use block::Pair;
 use math::V3;
+use tables::narrow;
 
 // Height, radius and slices, top or bottom; the numbers of its first vertex and of its first pair. `top` is a bool, as FORMAT has it:
 // three functions choose a value by it, and an enum of two would say no more.
@@ -99,9 +100,9 @@ fn cap_tri(k: Cap, i: usize) -> [u32; 3]
     ensures { result ≡ cap_tri k i }
 {
     let slices = k.slices;
-    let centre = index_of(k.first);
-    let a = index_of(k.first + 1 + i);
-    let b = index_of(k.first + 1 + (i + 1) % slices);
+    let centre = narrow(k.first);
+    let a = narrow(k.first + 1 + i);
+    let b = narrow(k.first + 1 + (i + 1) % slices);
     if k.top {
         return [centre, a, b];
     }

@@ -13,4 +13,4 @@ pub use cap::{Cap, cap_sizes};
 pub use ring::{Ring, cosine_at, float_at, ring_at, share, sine_at};
 pub use sizes::{NO_PART, PartSizes, dim, held, part_report, sum_sizes};
 pub use turns::put_words;
-pub use vert::{GeomCtx, Vert, finite_ctx, index_of};
+pub use vert::{GeomCtx, Vert, finite_ctx};

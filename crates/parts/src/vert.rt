@@ -1,5 +1,5 @@
 // FORMAT 17.4, Builder::vert: a vertex of a part, and its texture point as it is written.
-ghost use Rattle.std.specs.Prelude.{◌≡◌, ◌<◌, ◌^◌};
+ghost use Rattle.std.specs.Prelude.{◌≡◌};
 ghost use Rattle.parts.specs.Part.{finite_ctx, uv_of};
 
 use bits::Words2;
@@ -29,14 +29,6 @@ pub fn finite_ctx(c: GeomCtx) -> GeomCtx
         need_uvs: c.need_uvs,
         transform: c.transform.map(block::finite_transform),
     }
-}
-
-// A vertex's number as it stands among the indices.
-pub fn index_of(k: usize) -> u32
-    requires { k < 2 ^ 32 }
-    ensures { result ≡ k }
-{
-    k as u32
 }
 
 pub fn uv_of(c: GeomCtx, v: Vert) -> Words2

@@ -34,16 +34,20 @@ use Rattle.mesh.specs.FaceSet.{point_count}
 
 -- ---- the sizes of each kind
 
+-- what the code makes of p points and what the runs have together
+abbrev Of : ℕ → Totals → Sizes → Type 0
+Of p t r = (r.points ≡ p) × (r.corners ≡ t.corners) × (r.indices ≡ 3 * t.triangles) × (r.faces ≡ t.faces)
+
 module _ (bs : List ℕ) (h : Header) where
   -- of the runs rs
-  runs_are : (rs : List Run) (t : Totals) (p : ℕ) → t ≡ totals (point_count h) rs → p ≡ point_count h
-      → Are (spec.run_sizes (point_count h) rs) (sum_over (faces (point_count h)) rs) (record { points = p; corners = t.corners; indices = 3 * t.triangles; faces = t.faces })
-  runs_are rs t p et ep =
+  runs_are : (rs : List Run) (t : Totals) (p : ℕ) (r : Sizes) → t ≡ totals (point_count h) rs → p ≡ point_count h → Of p t r
+      → Are (spec.run_sizes (point_count h) rs) (sum_over (faces (point_count h)) rs) r
+  runs_are rs t p r et ep er =
       record {
-        points = ep;
-        corners = ap (λ (t : Totals). t.corners) et;
-        indices = ap (λ (t : Totals). 3 * t.triangles) et;
-        faces = ap (λ (t : Totals). t.faces) et;
+        points = er.0 ∙ ep;
+        corners = er.1 ∙ ap (λ (t : Totals). t.corners) et;
+        indices = er.2 ∙ ap (λ (t : Totals). 3 * t.triangles) et;
+        faces = er.3 ∙ ap (λ (t : Totals). t.faces) et;
       }
 
   -- from the list l
@@ -51,16 +55,16 @@ module _ (bs : List ℕ) (h : Header) where
     over_list : (f : List ℕ → ℕ) (n : ℕ) → n ≡ sum_over f (runs (entries l)) → n ≡ sum_over f (runs (entries (list_bytes bs h 1)))
     over_list f n e = e ∙ ap (λ (l : List ℕ). sum_over f (runs (entries l))) el
 
-    pub face_set_are : (t : Totals) (p : ℕ) → t ≡ totals (point_count h) (runs (entries l)) → p ≡ point_count h
-        → Are (spec.face_set_sizes bs h) (set_faces bs h) (record { points = p; corners = t.corners; indices = 3 * t.triangles; faces = t.faces })
+    pub face_set_are : (t : Totals) (p : ℕ) (r : Sizes) → t ≡ totals (point_count h) (runs (entries l)) → p ≡ point_count h → Of p t r
+        → Are (spec.face_set_sizes bs h) (set_faces bs h) r
     unfolding spec.face_set_sizes set_faces
-    face_set_are t p et ep = runs_are (spec.coord_runs bs h) t p (et ∙ ap (λ (l : List ℕ). totals (point_count h) (runs (entries l))) el) ep
+    face_set_are t p r et ep er = runs_are (spec.coord_runs bs h) t p r (et ∙ ap (λ (l : List ℕ). totals (point_count h) (runs (entries l))) el) ep er
 
-    pub primitives_are : (g : Topology) (t : Totals) (p : ℕ) → t ≡ totals (point_count h) (runs (face_list (point_count h) g (entries l))) → p ≡ point_count h
-        → Are (spec.primitive_sizes g bs h) (primitive_faces g bs h) (record { points = p; corners = t.corners; indices = 3 * t.triangles; faces = t.faces })
+    pub primitives_are : (g : Topology) (t : Totals) (p : ℕ) (r : Sizes) → t ≡ totals (point_count h) (runs (face_list (point_count h) g (entries l))) → p ≡ point_count h → Of p t r
+        → Are (spec.primitive_sizes g bs h) (primitive_faces g bs h) r
     unfolding spec.primitive_sizes primitive_faces
-    primitives_are g t p et ep =
-        runs_are (spec.listed_runs g bs h) t p (et ∙ ap (λ (l : List ℕ). totals (point_count h) (runs (face_list (point_count h) g (entries l)))) el) ep
+    primitives_are g t p r et ep er =
+        runs_are (spec.listed_runs g bs h) t p r (et ∙ ap (λ (l : List ℕ). totals (point_count h) (runs (face_list (point_count h) g (entries l)))) el) ep er
 
     pub line_set_are : (c n p : ℕ) → c ≡ sum_over (spec.named (point_count h)) (runs (entries l))
         → n ≡ sum_over (spec.lines_after (point_count h) false) (runs (entries l)) → p ≡ point_count h

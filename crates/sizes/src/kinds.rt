@@ -1,11 +1,11 @@
 // FORMAT 4: P, C and N of each kind.
-ghost use Rattle.std.specs.Prelude.{◌≡◌, ◌+◌, ◌-◌, ◌*◌, ◌≤◌, get_or};
+ghost use Rattle.std.specs.Prelude.{◌≡◌, ◌+◌, ◌-◌, ◌*◌, ◌≤◌, ◌<◌, ◌^◌, get_or};
 ghost use Rattle.extrusion.specs.Given.{Given};
 ghost use Rattle.mesh.specs.Sizes as spec;
 ghost use Rattle.tables.specs.Layout.{most};
 ghost use Rattle.sizes.specs.Known.{Sides, Known, set_faces, primitive_faces, Are, Counted};
 
-use block::{Header, Kind, Topology};
+use block::{Header, Kind, Topology, Totals};
 use extrusion::Extruded;
 use tables::wide;
 
@@ -32,17 +32,27 @@ pub fn product(a: u32, b: u32) -> usize
     wide(a) * wide(b)
 }
 
-fn face_set_sizes(block: &[u8], h: Header) -> Sizes
-    ensures { Are (spec.face_set_sizes block.now h) (set_faces block.now h) result }
+// Of listed faces, by what their runs have together.
+fn run_sizes(points: usize, t: Totals) -> Sizes
+    requires { 3 * t.triangles < 2 ^ 64 }
+    ensures { (result.points ≡ points) × (result.corners ≡ t.corners) × (result.indices ≡ 3 * t.triangles) × (result.faces ≡ t.faces) }
 {
-    let n = h.counts;
-    let t = block::face_totals(block::list_part(block, h, 1), n[0]);
     Sizes {
-        points: wide(n[0]),
+        points,
         corners: t.corners,
         indices: 3 * t.triangles,
         faces: t.faces,
     }
+}
+
+fn face_set_sizes(block: &[u8], h: Header) -> Sizes
+    ensures { Are (spec.face_set_sizes block.now h) (set_faces block.now h) result }
+{
+    let n = h.counts;
+    run_sizes(
+        wide(n[0]),
+        block::face_totals(block::list_part(block, h, 1), n[0]),
+    )
 }
 
 fn primitive_sizes(block: &[u8], h: Header, g: Topology) -> Sizes
@@ -50,13 +60,10 @@ fn primitive_sizes(block: &[u8], h: Header, g: Topology) -> Sizes
     ensures { Are (spec.primitive_sizes g block.now h) (primitive_faces g block.now h) result }
 {
     let n = h.counts;
-    let t = primitives::primitive_totals(block::list_part(block, h, 1), n[0], g);
-    Sizes {
-        points: wide(n[0]),
-        corners: t.corners,
-        indices: 3 * t.triangles,
-        faces: t.faces,
-    }
+    run_sizes(
+        wide(n[0]),
+        primitives::primitive_totals(block::list_part(block, h, 1), n[0], g),
+    )
 }
 
 fn line_set_sizes(block: &[u8], h: Header) -> Sizes

@@ -7,7 +7,7 @@ ghost use Rattle.sphere.specs.Sphere.{sphere_quad, sphere_band};
 
 use crate::ball::Ball;
 use lists::put_all;
-use parts::index_of;
+use tables::narrow;
 
 // A triangle, if there is one, and the next place.
 fn put_tri(indices: &mut [u32], at: usize, tri: Option<[u32; 3]>) -> usize
@@ -29,10 +29,10 @@ fn put_quad(indices: &mut [u32], at: usize, o: Ball, j: usize, i: usize) -> usiz
     ensures { Added spliced (sphere_quad o.n o.k j i) at indices.old result indices.new }
 {
     let first = j * (o.n + 1) + i;
-    let a = index_of(first);
-    let b = index_of(first + 1);
-    let c = index_of(first + (o.n + 1) + 1);
-    let d = index_of(first + (o.n + 1));
+    let a = narrow(first);
+    let b = narrow(first + 1);
+    let c = narrow(first + (o.n + 1) + 1);
+    let d = narrow(first + (o.n + 1));
     let next = put_tri(indices, at, (j != 0).then_some([a, b, c]));
     put_tri(indices, next, (j + 1 != o.k).then_some([a, c, d]))
 }

@@ -8,8 +8,10 @@ use Rattle.sizes.proofs.ByKind.{face_set_are}
 use Rattle.block.specs.declared.runs.Totals.{Totals}
 use Rattle.sizes.proofs.kinds.face_set_sizes.Goals as goal
 
-pub overflow_mul-result : goal.overflow_mul-result
-overflow_mul-result c = let l = c.list_part.result.now in record { fits = omega (arith, ap (λ (t : Totals). t.triangles) c.face_totals-t.ensures, triangles_within (point_count c.args.h) (entries l), entries_length l) }
+pub run_sizes-requires : goal.run_sizes-requires
+run_sizes-requires c =
+    let l = c.list_part.result.now in
+    omega (arith, ap (λ (t : Totals). t.triangles) c.face_totals.ensures, triangles_within (point_count c.args.h) (entries l), entries_length l)
 
 pub returns : goal.returns
-returns c = face_set_are _ _ _ c.list_part.ensures _ _ c.face_totals-t.ensures c.wide.ensures
+returns c = face_set_are _ _ _ c.list_part.ensures _ _ _ c.face_totals.ensures c.wide.ensures c.run_sizes.ensures

@@ -8,10 +8,10 @@ use Rattle.sizes.proofs.ByKind.{primitives_are}
 use Rattle.block.specs.declared.runs.Totals.{Totals}
 use Rattle.sizes.proofs.kinds.primitive_sizes.Goals as goal
 
-pub overflow_mul-result : goal.overflow_mul-result
-overflow_mul-result c =
+pub run_sizes-requires : goal.run_sizes-requires
+run_sizes-requires c =
     let l = c.list_part.result.now in
-    record { fits = omega (arith, ap (λ (t : Totals). t.triangles) c.primitive_totals-t.ensures, primitives_within {points = point_count c.args.h} (omega (arith, c.requires)) c.args.g (entries l), entries_length l) }
+    omega (arith, ap (λ (t : Totals). t.triangles) c.primitive_totals.ensures, primitives_within {points = point_count c.args.h} (omega (arith, c.requires)) c.args.g (entries l), entries_length l)
 
 pub returns : goal.returns
-returns c = primitives_are _ _ _ c.list_part.ensures _ _ _ c.primitive_totals-t.ensures c.wide.ensures
+returns c = primitives_are _ _ _ c.list_part.ensures _ _ _ _ c.primitive_totals.ensures c.wide.ensures c.run_sizes.ensures
