@@ -7,26 +7,18 @@ use block::{COUNTS_AT, LIMIT, block_bytes, edition_of, list_place, read_header};
 // More bytes than any of the cases has.
 const ROOM: usize = 16 * LIMIT;
 
-fn put_byte(block: &mut [u8], at: usize, v: u32)
-    requires { v < 256 }
-{
-    if at < block.len() {
-        block[at] = v as u8;
-    }
-}
-
+// A word, most significant byte first, if the block has its place.
 fn put_word(block: &mut [u8], at: usize, v: u32)
     requires { at ≤ 2 ^ 32 }
 {
-    put_byte(block, at, v / 16777216);
-    put_byte(block, at + 1, v / 65536 % 256);
-    put_byte(block, at + 2, v / 256 % 256);
-    put_byte(block, at + 3, v % 256);
+    if at + 4 <= block.len() {
+        block[at..at + 4].copy_from_slice(&v.to_be_bytes());
+    }
 }
 
 // A bit that is set, where a zero bit stands.
 fn put_bit(block: &mut [u8], at: usize, is_set: bool) {
-    if is_set {} else {
+    if !is_set {
         return;
     }
     let i = at / 8;
@@ -60,11 +52,7 @@ fn put_header(block: &mut [u8], first: u32, points: u32, entries: u32) {
 fn start_of(block: &[u8], list: usize) -> usize
     ensures { result ≤ length block.now }
 {
-    let p = list_place(read_header(block), list);
-    if p.at < block.len() {
-        return p.at;
-    }
-    block.len()
+    list_place(read_header(block), list).at.min(block.len())
 }
 
 // n points of a parabola from a byte on, so that the face of all of them is convex.
@@ -91,25 +79,13 @@ fn entry_of(i: u32, third: u32, fourth: u32) -> u32 {
     fourth
 }
 
-// n entries from a byte on.
-fn put_entries(block: &mut [u8], at: usize, n: u16, third: u32, fourth: u32)
-    requires { at ≤ 2 ^ 20 }
+// The n entries that a closure gives for 0, 1, .. from a byte on.
+fn put_entries<F: Fn(u32) -> u32>(block: &mut [u8], at: usize, n: u16, entry: F)
+    requires room { at ≤ 2 ^ 20 }
+    requires callable { F.IsAlwaysCallable entry }
 {
     for i in 0..n {
-        put_word(
-            block,
-            at + 4 * (i as usize),
-            entry_of(i as u32, third, fourth),
-        );
-    }
-}
-
-// The n entries 0, 1, .. from a byte on.
-fn put_corners(block: &mut [u8], at: usize, n: u16)
-    requires { at ≤ 2 ^ 20 }
-{
-    for i in 0..n {
-        put_word(block, at + 4 * (i as usize), i as u32);
+        put_word(block, at + 4 * (i as usize), entry(i as u32));
     }
 }
 
@@ -125,7 +101,7 @@ fn over_four(first: u32, entries: u16, third: u32, fourth: u32) -> Seen {
     let points = start_of(&block, 0);
     put_points(&mut block, points, 4);
     let list = start_of(&block, 1);
-    put_entries(&mut block, list, entries, third, fourth);
+    put_entries(&mut block, list, entries, |i| entry_of(i, third, fourth));
     convert_start(&block)
 }
 
@@ -146,6 +122,6 @@ pub(crate) fn face(corners: u16) -> Seen {
     let points = start_of(&block, 0);
     put_points(&mut block, points, corners);
     let list = start_of(&block, 1);
-    put_corners(&mut block, list, corners);
+    put_entries(&mut block, list, corners, |i| i);
     convert_start(&block)
 }

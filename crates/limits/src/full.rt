@@ -18,6 +18,7 @@ pub struct Seen {
 pub fn convert_full(block: &[u8]) -> Seen
     ensures { Shows block.now result }
 {
+    // The lengths are those of `replay`'s `Slices` and, with 256, of `answer`'s slices; no struct over a const N serves the three: a type takes no 3 * N.
     let mut positions = [0u32; 3 * LIMIT];
     let mut normals = [0u32; 3 * LIMIT];
     let mut colours = [0u32; 4 * LIMIT];

@@ -9,18 +9,12 @@ use blocks::{face, primitives, triangles};
 use full::Seen;
 use std::io;
 
-fn put_number(rt: &impl Print, n: u64) -> io::Result<()> {
-    print!(rt; " {n}")
-}
-
 // What was seen, and whether it is what the rule says.
 fn tell(rt: &impl Print, name: &str, seen: Seen, expected: Seen) -> io::Result<()> {
-    print!(rt; "{name}")?;
-    put_number(rt, seen.number as u64)?;
-    put_number(rt, seen.indices as u64)?;
-    put_number(rt, seen.a as u64)?;
-    put_number(rt, seen.b as u64)?;
-    put_number(rt, seen.c as u64)?;
+    print!(rt;
+        "{name} {} {} {} {} {}",
+        seen.number, seen.indices, seen.a, seen.b, seen.c
+    )?;
     if seen == expected {
         return println!(rt; " agrees");
     }

@@ -4,7 +4,7 @@ use block::{LIMIT, read_header};
 use geometry::Call;
 use lent::{Answer, Buffers};
 
-// Slices for as many points and corners as edition 1 allows (FORMAT 4).
+// Slices for as many points and corners as edition 1 allows (FORMAT 4). No struct over a const N serves `limits` and `answer` too: a type takes no 3 * N.
 #[derive(Drop)]
 pub(crate) struct Slices {
     pub positions: [u32; 3 * LIMIT],
