@@ -1,11 +1,16 @@
 -- Searches: a corner that is not near is in no one's way, and what a search gives.
-use Prim.Native.Nat.{ℕ, ◌≤◌, ◌<◌}
+use Prim.Native.Nat.{ℕ, ◌-◌, ◌≤◌, ◌<◌}
 use native.Mathlib.Omega.{arith}
 use borrow.Author.Tests.{lt-ltb, le-ltb, ltb-true, ltb-false}
 use mathlib.Core.Path.{◌≡◌, refl, sym, ap, ◌∙◌}
 use mathlib.Core.Bool.{Bool, true, false, not, ◌&&◌}
 use mathlib.Core.List.{List}
 use lib.ListN.{get_or}
+use mathlib.Core.Logic.{⊎_elim}
+use Rattle.std.specs.Option.{MatchOption}
+use Rattle.lists.proofs.Loops.{first_stop, first_end}
+use Rattle.lists.proofs.Numbers.{le_or_lt}
+use Rattle.lists.proofs.Searches.{past_to, none_to}
 use lib.Dec.{eqb, ltb}
 use Rattle.std.specs.Prelude.{Option, Some, None, unwrap_or}
 use lib.Ieee.{le}
@@ -58,3 +63,14 @@ module _ (n k : ℕ) where
       go : (b : Bool) → ltb k n ≡ b → None ≡ pick b (Some k) None → n ≤ k
       go true q r = let z : ⊥ = cc in absurd z
       go false q r = ltb-false k n q
+
+-- what a search of a range by its numbers gives
+pub found_by : (f : ℕ → Bool) (a b : ℕ) (r : Option ℕ)
+    → MatchOption r ((k : ℕ) → a ≤ k → k < b → f k ≡ false) (λ i. (a ≤ i) × (i < b) × (f i ≡ true) × ((k : ℕ) → a ≤ k → k < i → f k ≡ false))
+    → r ≡ found b (first f (b - a) a)
+found_by f a b None free =
+    ⊎_elim (λ (h : a ≤ b). let e = none_to f a b h free in found_none b _ (omega (arith, e)))
+    (λ (h : b < a). let e = first_end f b a (omega arith) in found_none b _ (omega (arith, e))) (le_or_lt a b)
+found_by f a b (Some i) (l, m, t, free) =
+    let e : i ≡ first f (b - a) a = sym (past_to f b a i l (omega arith) free ∙ first_stop f b i m t) in
+    found_some b _ i e m

@@ -86,12 +86,11 @@ fn scan(p: &[f32], left: &[u32], from: usize, to: usize, t: Triangle) -> Option<
     requires { to ≤ 2 ^ 31 }
     ensures { result ≡ found to (first (hits left.now (λ j. in_way (dot_of (xy p.now) j) t.a t.b t.c)) (to - from) from) }
 {
-    for k in from..to {
-        if is_hit(p, left, k, t) {
-            return Some(k);
-        }
-    }
-    None
+    (from..to).find(
+        |&k|
+            requires { k < 2 ^ 31 }
+        { is_hit(p, left, k, t) },
+    )
 }
 
 // The corner k, whose coordinates are there.

@@ -53,6 +53,8 @@ fn axis_of(n: V3) -> u32
     2
 }
 
+// `flip` says that the face is seen from behind, which is found once of each face, and no step to run: it turns the one thing that is done with a point,
+// and the two orders stand here side by side, which a closure for each would only move.
 fn put_projected(out: &mut [f32], k: usize, p: V3, axis: u32, flip: bool)
     requires { (k < 2 ^ 40) × (axis < 3) }
     ensures { out.new ≡ sets out.old k (flat2 (projected axis flip p ∷ [])) }

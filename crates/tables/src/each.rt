@@ -8,6 +8,7 @@ pub fn put_each<F: Fn(usize) -> u32>(work: &mut [u32], k: usize, n: usize, f: F)
     requires called { (j : ℕ) → j < n → F.pre f j }
     ensures { PutEach (F.post f) k n work.old work.new }
 {
+    // By number: a loop over the words of the part says less plainly where each goes, and needs a law more for what it leaves of the others.
     for j in 0..n {
         work[k + j] = f(j);
     }

@@ -1,14 +1,16 @@
-use mathlib.Core.Path.{sym, ◌∙◌}
-use native.Mathlib.Omega.{arith}
-use Rattle.lists.proofs.Loops.{first_go, first_stop, first_end}
-use Rattle.polygon.proofs.Blocks.{found_some, found_none}
+use Rattle.std.proofs.Common.{◌≡◌, true, false, rules, tests}
+use Rattle.std.proofs.lemmas.Iterator.{first_from_Range, serves_from_Range}
+use Rattle.polygon.specs.Memo.{xy, dot_of, in_way, hits}
+use Rattle.polygon.proofs.Blocks.{found_by}
 use Rattle.polygon.proofs.memo.scan.Goals as goal
 
-pub returns-then-is_hit : goal.returns-then-is_hit
-returns-then-is_hit c = found_some _ _ _ (sym (first_stop _ _ _ c.loop-k-test.true (sym c.is_hit.ensures ∙ c.if-is_hit.true)) ∙ c.loop-k.invariant) c.loop-k-test.true
-
-pub loop-k-preserved : goal.loop-k-preserved
-loop-k-preserved c = sym (first_go _ _ _ c.loop-k-test.true (sym c.is_hit.ensures ∙ c.if-is_hit.false)) ∙ c.loop-k.invariant
+pub find-requires : goal.find-requires
+find-requires c = record { can = tt; finite = tt; callable = serves_from_Range (λ x q k. search (rules, tests)) (λ x low high. search rules) }
 
 pub returns : goal.returns
-returns c = let z = sym (first_end _ _ _ c.loop-k-test.false) ∙ c.loop-k.invariant in found_none _ _ (omega (arith, z, c.loop-k-test.false))
+returns c =
+    let f = hits c.args.left.now (λ j. in_way (dot_of (xy c.args.p.now) j) c.args.t.a c.args.t.b c.args.t.c) in
+    found_by f c.args.from c.args.to _
+    (first_from_Range _ _ _ _ (λ i. f i ≡ true) (λ i. f i ≡ false) c.find.ensures.ran
+    (λ x q k. search (rules, tests))
+    (λ x q k. (search rules, search (rules, tests))))

@@ -1,4 +1,3 @@
-use Prim.Native.Nat.{◌-◌}
 use Rattle.sine.proofs.Division.{Div}
 use Rattle.sine.proofs.angle.quotient.Given as goal
 

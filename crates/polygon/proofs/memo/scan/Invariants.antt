@@ -1,9 +1,0 @@
-use mathlib.Core.Path.{◌≡◌}
-use Prim.Native.Nat.{◌-◌}
-use Rattle.lists.specs.Loops.{first}
-use Rattle.polygon.specs.Memo.{xy, dot_of, in_way, hits}
-use Rattle.polygon.proofs.memo.scan.Given as goal
-
-abbrev pub invariant-loop-k : goal.invariant-loop-k
-invariant-loop-k l =
-    first (hits l.left (λ j. in_way (dot_of (xy l.p) j) l.t.a l.t.b l.t.c)) (l.to - l.k) l.k ≡ first (hits l.left (λ j. in_way (dot_of (xy l.p) j) l.t.a l.t.b l.t.c)) (l.to - l.from) l.from
