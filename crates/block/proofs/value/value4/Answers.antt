@@ -1,4 +1,3 @@
-use Rattle.bits.specs.declared.Words4.{Words4}
 use Rattle.block.specs.declared.value.Rgb.{Rgb}
 use Rattle.block.specs.declared.value.Rgba.{Rgba}
 use Rattle.block.specs.Value.{rgba, rgb}
