@@ -53,8 +53,8 @@ fn words_before(w: [u8; 8], n: [u32; 8], k: usize) -> usize
     ensures { (result ≡ words_in (take k w) n) × (result < 2 ^ 44) }
 {
     let mut t: usize = 0;
-    for j in 0..k {
-        t += list_words(w[j], n[j]);
+    for (width, count) in w[..k].iter().zip(&n) {
+        t += list_words(*width, *count);
     }
     t
 }

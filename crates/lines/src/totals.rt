@@ -18,13 +18,7 @@ fn counted(n: usize, a: bool, b: bool) -> usize
     requires { n < 2 ^ 63 }
     ensures { result ≡ cond a (cond b (suc n) n) n }
 {
-    if a {
-        if b {
-            return n + 1;
-        }
-        return n;
-    }
-    n
+    n + usize::from(a && b)
 }
 
 // The entries of one run: those that name a point, and the lines between them.
