@@ -2,7 +2,7 @@
 ghost use Rattle.std.specs.Prelude.{◌≡◌, ◌<◌};
 ghost use Rattle.boxes.specs.Box.{face, face_at};
 
-use math::V3;
+use math::{V3, X_AXIS, Y_AXIS, Z_AXIS};
 
 // The outward normal, right and up.
 #[derive(Clone, Copy)]
@@ -11,24 +11,6 @@ pub struct BoxFace {
     pub right: V3,
     pub up: V3,
 }
-
-const X: V3 = V3 {
-    x: 1.0,
-    y: 0.0,
-    z: 0.0,
-};
-
-const Y: V3 = V3 {
-    x: 0.0,
-    y: 1.0,
-    z: 0.0,
-};
-
-const Z: V3 = V3 {
-    x: 0.0,
-    y: 0.0,
-    z: 1.0,
-};
 
 const MINUS_X: V3 = V3 {
     x: -1.0,
@@ -60,19 +42,19 @@ pub fn face_at(k: usize) -> BoxFace
     ensures { result ≡ face_at k }
 {
     if k == 0 {
-        return face_of(Z, X, Y);
+        return face_of(Z_AXIS, X_AXIS, Y_AXIS);
     }
     if k == 1 {
-        return face_of(MINUS_Z, MINUS_X, Y);
+        return face_of(MINUS_Z, MINUS_X, Y_AXIS);
     }
     if k == 2 {
-        return face_of(X, MINUS_Z, Y);
+        return face_of(X_AXIS, MINUS_Z, Y_AXIS);
     }
     if k == 3 {
-        return face_of(MINUS_X, Z, Y);
+        return face_of(MINUS_X, Z_AXIS, Y_AXIS);
     }
     if k == 4 {
-        return face_of(Y, X, MINUS_Z);
+        return face_of(Y_AXIS, X_AXIS, MINUS_Z);
     }
-    face_of(MINUS_Y, X, Z)
+    face_of(MINUS_Y, X_AXIS, Z_AXIS)
 }

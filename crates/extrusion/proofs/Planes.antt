@@ -102,13 +102,13 @@ pub bent_is : (y z u x : V3) → u ≡ upright y z → x ≡ vcross y u → axes
 unfolding bent
 bent_is y z u x eu ex = rw (ex, eu) refl
 
-pub straight_is : (y : (Option V3)) (u1 u2 u3 e a b c : V3) (q : Quat) → u1 ≡ y_axis → u2 ≡ y_axis → e ≡ unwrap_or y u2 → q ≡ between u1 e → a ≡ rotated q x_axis → u3 ≡ y_axis
-    → b ≡ rotated q u3 → c ≡ rotated q z_axis → axes a b c ≡ straight y
+pub straight_is : (y : (Option V3)) (e a b c : V3) (q : Quat) → e ≡ unwrap_or y y_axis → q ≡ between y_axis e → a ≡ rotated q x_axis → b ≡ rotated q y_axis
+    → c ≡ rotated q z_axis → axes a b c ≡ straight y
 unfolding straight
-straight_is y u1 u2 u3 e a b c q e1 e2 ee eq ea e3 eb ec = rw (ea, eb, ec, e3, eq, ee, e1, e2, unwrap_or_is y y_axis) refl
+straight_is y e a b c q ee eq ea eb ec = rw (ea, eb, ec, eq, ee, unwrap_or_is y y_axis) refl
 
-pub by_bent : (first y₀ y : (Option V3)) (z f u v : V3) (r : PlaneAxes) → first ≡ Some f → u ≡ y_axis → v ≡ unwrap_or y u → axes_of r ≡ bent v z → axes_of r ≡ axes_by first y₀ y z
-by_bent first y₀ y z f u v r ef eu ev er = rw (er, ev, eu, ef, unwrap_or_is y y_axis) refl
+pub by_bent : (first y₀ y : (Option V3)) (z f v : V3) (r : PlaneAxes) → first ≡ Some f → v ≡ unwrap_or y y_axis → axes_of r ≡ bent v z → axes_of r ≡ axes_by first y₀ y z
+by_bent first y₀ y z f v r ef ev er = rw (er, ev, ef, unwrap_or_is y y_axis) refl
 
 pub placed_is : (o l a b c s t r : V3) (f : PlaneAxes) → a ≡ vscale f.x l.x → b ≡ vscale f.y l.y → s ≡ vadd a b → c ≡ vscale f.z l.z → t ≡ vadd s c → r ≡ vadd o t → r ≡ placed o (axes_of f) l
 unfolding placed

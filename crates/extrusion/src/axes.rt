@@ -1,11 +1,10 @@
 // FORMAT 8.4, extrusion_frames: the axes of the cross-section's plane at a spine point.
 ghost use Rattle.std.specs.Prelude.{◌≡◌};
-ghost use Rattle.math.specs.Vector.{y_axis};
 ghost use Rattle.mesh.specs.Frames as spec;
 ghost use Rattle.mesh.specs.Frames.{pick_z, axes_by};
 ghost use Rattle.extrusion.specs.Rows.{axes_of};
 
-use math::V3;
+use math::{V3, X_AXIS, Y_AXIS, Z_AXIS};
 
 // X and Z span the plane, and Y goes along the spine.
 #[derive(Clone, Copy)]
@@ -34,12 +33,7 @@ fn turned(prev: Option<V3>, z: V3) -> V3
 pub fn pick_z(first: Option<V3>, prev: Option<V3>, z: Option<V3>) -> V3
     ensures { result ≡ pick_z first prev z }
 {
-    let back = V3 {
-        x: 0.0,
-        y: 0.0,
-        z: 1.0,
-    };
-    turned(prev, z.or(prev).or(first).unwrap_or(back))
+    turned(prev, z.or(prev).or(first).unwrap_or(Z_AXIS))
 }
 
 // z straightened against y.
@@ -61,39 +55,15 @@ fn bent(y: V3, z: V3) -> PlaneAxes
     }
 }
 
-fn upward() -> V3
-    ensures { result ≡ y_axis }
-{
-    V3 {
-        x: 0.0,
-        y: 1.0,
-        z: 0.0,
-    }
-}
-
 // The axes where all points are in a line: Y goes along it.
 fn straight(y: Option<V3>) -> PlaneAxes
     ensures { axes_of result ≡ spec.straight y }
 {
-    let q = math::quat_between(upward(), y.unwrap_or(upward()));
+    let q = math::quat_between(Y_AXIS, y.unwrap_or(Y_AXIS));
     PlaneAxes {
-        x: math::quat_rotate(
-            q,
-            V3 {
-                x: 1.0,
-                y: 0.0,
-                z: 0.0,
-            },
-        ),
-        y: math::quat_rotate(q, upward()),
-        z: math::quat_rotate(
-            q,
-            V3 {
-                x: 0.0,
-                y: 0.0,
-                z: 1.0,
-            },
-        ),
+        x: math::quat_rotate(q, X_AXIS),
+        y: math::quat_rotate(q, Y_AXIS),
+        z: math::quat_rotate(q, Z_AXIS),
     }
 }
 
@@ -102,7 +72,7 @@ pub fn axes_by(first: Option<V3>, y0: Option<V3>, y: Option<V3>, z: V3) -> Plane
     ensures { axes_of result ≡ axes_by first y0 y z }
 {
     match first {
-        Some(_) => bent(y.unwrap_or(upward()), z),
+        Some(_) => bent(y.unwrap_or(Y_AXIS), z),
         None => straight(y0),
     }
 }

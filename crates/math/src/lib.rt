@@ -11,5 +11,8 @@ pub mod word;
 pub use order::{abs, max, min};
 pub use quaternion::{Quat, axis_turn, quat_between, quat_rotate};
 pub use square_root::{Four, root};
-pub use vector::{V3, add, cross, dot, len, normalize, normalize_four, scale, sub, unit_by};
+pub use vector::{
+    V3, X_AXIS, Y_AXIS, Z_AXIS, add, cross, dot, len, normalize, normalize_four, scale, sub,
+    unit_by,
+};
 pub use word::{bits_of, is_finite, of_bits, whole_float};

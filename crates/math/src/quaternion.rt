@@ -4,7 +4,7 @@ ghost use Rattle.math.specs.Quaternion.{rotated, identity, axis_turn, other_axis
 
 use crate::order::abs;
 use crate::square_root::root;
-use crate::vector::{V3, add, cross, dot, normalize, scale};
+use crate::vector::{V3, X_AXIS, Y_AXIS, add, cross, dot, normalize, scale};
 use crate::word::is_finite;
 
 #[derive(Clone, Copy)]
@@ -65,17 +65,9 @@ fn other_axis(x: f32) -> V3
     ensures { result ≡ other_axis x }
 {
     if abs(x) < 0.9 {
-        return V3 {
-            x: 1.0,
-            y: 0.0,
-            z: 0.0,
-        };
+        return X_AXIS;
     }
-    V3 {
-        x: 0.0,
-        y: 1.0,
-        z: 0.0,
-    }
+    Y_AXIS
 }
 
 // Half a turn about an axis across f.

@@ -12,6 +12,25 @@ pub struct V3 {
     pub z: f32,
 }
 
+// The axes.
+pub const X_AXIS: V3 = V3 {
+    x: 1.0,
+    y: 0.0,
+    z: 0.0,
+};
+
+pub const Y_AXIS: V3 = V3 {
+    x: 0.0,
+    y: 1.0,
+    z: 0.0,
+};
+
+pub const Z_AXIS: V3 = V3 {
+    x: 0.0,
+    y: 0.0,
+    z: 1.0,
+};
+
 pub fn add(a: V3, b: V3) -> V3
     ensures { result ≡ vadd a b }
 {

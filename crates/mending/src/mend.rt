@@ -13,7 +13,7 @@ ghost use Rattle.mending.specs.Mend.{lent_frame, lent_keys, mended_words, triang
 use bits::Words3;
 use block::VertexNumber;
 use lists::{get, put};
-use math::V3;
+use math::{V3, Y_AXIS};
 use mesh::{floats_of, words_of};
 
 // ---- the words of a vertex
@@ -67,16 +67,6 @@ fn mark(table: &mut [u32], v: VertexNumber, k: u32)
     let old = get(table, v.0);
     if old == 0 {
         put(table, v.0, k);
-    }
-}
-
-fn straight_up() -> V3
-    ensures { result ≡ y_axis }
-{
-    V3 {
-        x: 0.0,
-        y: 1.0,
-        z: 0.0,
     }
 }
 
@@ -143,10 +133,10 @@ impl<'a> Lent<'a> {
         ensures { result ≡ found (lent_frame self.now.positions.now) (lent_keys [] self.now.count) self.now.indices.now k y_axis }
     {
         if k == 0 {
-            return straight_up();
+            return Y_AXIS;
         }
         let n = (k - 1) as usize;
-        self.triangle_normal(n).unwrap_or(straight_up())
+        self.triangle_normal(n).unwrap_or(Y_AXIS)
     }
 
     // The table is made when the first normal that cannot be scaled is met. `made` is a flag, as in `fix_zero_normals`.

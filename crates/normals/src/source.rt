@@ -10,7 +10,7 @@ ghost use Rattle.normals.specs.Written.{again};
 
 use crate::vectors::{load, load_unit};
 use block::{CornerNumber, PointNumber};
-use math::V3;
+use math::{V3, Y_AXIS};
 use tables::{Plan, Tables, wide};
 
 // The tables of a soup, once owners, rows and faces by number are made.
@@ -125,11 +125,6 @@ impl<'a> Source<'a> {
         requires { own < self.now.plan.now.faces }
         ensures { result ≡ or_else s (or_else (unit_of (normal_in self.now.work.now self.now.plan.now own)) y_axis) }
     {
-        let up = V3 {
-            x: 0.0,
-            y: 1.0,
-            z: 0.0,
-        };
-        s.unwrap_or(self.unit_of(own).unwrap_or(up))
+        s.unwrap_or(self.unit_of(own).unwrap_or(Y_AXIS))
     }
 }

@@ -9,7 +9,7 @@ use crate::sizes::PartSizes;
 use crate::turns::put_words;
 use crate::vert::Vert;
 use block::Pair;
-use math::V3;
+use math::{V3, Y_AXIS};
 use tables::narrow;
 
 // Height, radius and slices, top or bottom; the numbers of its first vertex and of its first pair. `top` is a bool, as FORMAT has it:
@@ -28,11 +28,7 @@ fn cap_normal(top: bool) -> V3
     ensures { result ≡ cap_normal top }
 {
     if top {
-        return V3 {
-            x: 0.0,
-            y: 1.0,
-            z: 0.0,
-        };
+        return Y_AXIS;
     }
     V3 {
         x: 0.0,

@@ -8,6 +8,7 @@ ghost use Rattle.mesh.specs.Words.{words4, point_words};
 ghost use Rattle.pointset.specs.PointSet.{colours_in, colour_at};
 
 use parts::put_words;
+use tables::{narrow, put_each};
 
 const ONE: u32 = 0x3f80_0000;
 
@@ -24,9 +25,7 @@ pub fn put_sources(sources: &mut [u32], n: usize)
     requires { (n < 2 ^ 32) × (n ≤ length sources.old) }
     ensures { sources.new ≡ spliced sources.old 0 (tab (λ k. k) n 0) }
 {
-    for k in 0..n {
-        sources[k] = k as u32;
-    }
+    put_each(sources, 0, n, narrow);
 }
 
 // Colour k, of three words, with alpha 1.
