@@ -34,17 +34,19 @@ pub struct Choice {
     pub colour: Colour,
 }
 
-fn call_of(choice: Choice) -> Call
-    ensures { result ≡ call_of choice }
-{
-    let c = choice.colour;
-    Call {
-        colour: Words4 {
-            r: c.r,
-            g: c.g,
-            b: c.b,
-            a: c.a,
-        },
+impl From<Choice> for Call {
+    ghost from_gives = { λ choice call. call ≡ call_of choice };
+
+    fn from(choice: Choice) -> Call {
+        let c = choice.colour;
+        Call {
+            colour: Words4 {
+                r: c.r,
+                g: c.g,
+                b: c.b,
+                a: c.a,
+            },
+        }
     }
 }
 
@@ -79,7 +81,7 @@ pub extern "C" fn sitemesh_convert(
         words,
         floats,
     };
-    let a = geometry::convert(call_of(choice), block, &mut b);
+    let a = geometry::convert(Call::from(choice), block, &mut b);
     answered(a, res)
 }
 

@@ -3,19 +3,16 @@ ghost use Rattle.std.specs.Prelude.{◌+◌, ◌^◌, ◌≤◌, ◌<◌, ◌≡
 ghost use Rattle.text.specs.Wrote.{Wrote, Printed};
 ghost use Rattle.text.specs.Answer.{one_if, counts_text, flags_text, head_line, mesh_text, refusal_text, long_text};
 
-use crate::digits::put_byte;
+use crate::digits::{put_byte, put_bytes};
 use crate::fields::put_field;
-use crate::lines::{Parts, put_indices, put_vertices};
+use crate::lines::{Parts, VertexSlices, put_indices, put_vertices};
 use lent::Report;
 
 fn put_counts(out: &mut [u8], at: usize, head: Report) -> usize
     requires { (at + 26 ≤ 2 ^ 50) × (head.vertices < 2 ^ 32) × (head.indices < 2 ^ 32) }
     ensures { Wrote out.old at (counts_text head) 26 out.new result }
 {
-    let mut p = put_byte(out, at, b'm');
-    p = put_byte(out, p, b'e');
-    p = put_byte(out, p, b's');
-    p = put_byte(out, p, b'h');
+    let mut p = put_bytes(out, at, b"mesh");
     p = put_field(out, p, false, head.vertices as u32);
     put_field(out, p, false, head.indices as u32)
 }
@@ -55,18 +52,15 @@ pub fn put_mesh(
         (mesh_text head parts (record { sources = sources.now; positions = positions.now; normals = normals.now; colours = colours.now; textures = textures.now; indices = indices.now }))
         out.new result }
 {
-    let mut p = put_head(out, 0, head);
-    p = put_vertices(
-        out,
-        p,
-        parts,
-        head.vertices,
+    let s = VertexSlices {
+        sources,
         positions,
         normals,
         colours,
         textures,
-        sources,
-    );
+    };
+    let mut p = put_head(out, 0, head);
+    p = put_vertices(out, p, parts, head.vertices, s);
     put_indices(out, p, parts.lines, head.indices, indices)
 }
 
@@ -74,8 +68,7 @@ pub fn put_mesh(
 pub fn put_refusal(number: u32, out: &mut [u8]) -> usize
     ensures { Printed out.old (refusal_text number) out.new result }
 {
-    let mut p = put_byte(out, 0, b'n');
-    p = put_byte(out, p, b'o');
+    let mut p = put_bytes(out, 0, b"no");
     p = put_field(out, p, false, number);
     put_byte(out, p, b'\n')
 }
@@ -84,9 +77,5 @@ pub fn put_refusal(number: u32, out: &mut [u8]) -> usize
 pub fn put_long(out: &mut [u8]) -> usize
     ensures { Printed out.old long_text out.new result }
 {
-    let mut p = put_byte(out, 0, b'l');
-    p = put_byte(out, p, b'o');
-    p = put_byte(out, p, b'n');
-    p = put_byte(out, p, b'g');
-    put_byte(out, p, b'\n')
+    put_bytes(out, 0, b"long\n")
 }

@@ -1,18 +1,29 @@
 // Bytes and digits put at a place of the buffer; each function returns the place after what it put.
-ghost use Rattle.std.specs.Prelude.{◌≡◌, ◌&&◌, [], ◌∷◌, ◌+◌, ◌^◌, ◌≤◌, ◌<◌, ltb};
+ghost use Rattle.std.specs.Prelude.{◌≡◌, ◌&&◌, [], ◌∷◌, ◌+◌, ◌^◌, ◌≤◌, ◌<◌, ltb, length};
 ghost use Rattle.text.specs.Wrote.{Wrote};
 ghost use Rattle.text.specs.Digits.{digit_byte, digits};
+
+use lists::put;
 
 // A byte, if the buffer has its place.
 pub fn put_byte(out: &mut [u8], at: usize, v: u8) -> usize
     requires { at + 1 ≤ 2 ^ 50 }
     ensures { Wrote out.old at (v ∷ []) 1 out.new result }
 {
-    if at < out.len() {
-        out[at] = v;
-        return at + 1;
-    }
+    put(out, at, v);
     at + 1
+}
+
+// Bytes one after the other, as far as the buffer goes.
+pub(crate) fn put_bytes(out: &mut [u8], at: usize, text: &[u8]) -> usize
+    requires { at + length text.now ≤ 2 ^ 50 }
+    ensures { Wrote out.old at text.now (length text.now) out.new result }
+{
+    let mut p = at;
+    for i in 0..text.len() {
+        p = put_byte(out, p, text[i]);
+    }
+    p
 }
 
 // The character of a digit.

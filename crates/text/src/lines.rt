@@ -19,87 +19,59 @@ pub struct Parts {
     pub lines: bool,
 }
 
+// What the vertex lines are read from.
+#[derive(Clone, Copy)]
+pub(crate) struct VertexSlices<'a> {
+    pub sources: &'a [u32],
+    pub positions: &'a [u32],
+    pub normals: &'a [u32],
+    pub colours: &'a [u32],
+    pub textures: &'a [u32],
+}
+
 // The start of a vertex line: the source and the position.
-fn put_place(
-    out: &mut [u8],
-    at: usize,
-    v: VertexNumber,
-    positions: &[u32],
-    sources: &[u32],
-) -> usize
+fn put_place(out: &mut [u8], at: usize, v: VertexNumber, s: VertexSlices) -> usize
     requires { (at + 45 ≤ 2 ^ 50) × (v.0 < 2 ^ 32) }
-    ensures { Wrote out.old at (place_text sources.now positions.now v.0) 45 out.new result }
+    ensures { Wrote out.old at (place_text s.entry.sources.now s.entry.positions.now v.0) 45 out.new result }
 {
     let mut p = put_byte(out, at, b'v');
-    p = put_field(out, p, false, get(sources, v.0));
-    put_fields(out, p, true, positions, 3 * v.0, 3)
+    p = put_field(out, p, false, get(s.sources, v.0));
+    put_fields(out, p, true, s.positions, 3 * v.0, 3)
 }
 
 // What was made for a vertex.
-fn put_made(
-    out: &mut [u8],
-    at: usize,
-    parts: Parts,
-    v: VertexNumber,
-    normals: &[u32],
-    colours: &[u32],
-    textures: &[u32],
-) -> usize
+fn put_made(out: &mut [u8], at: usize, parts: Parts, v: VertexNumber, s: VertexSlices) -> usize
     requires { (at + 105 ≤ 2 ^ 50) × (v.0 < 2 ^ 32) }
-    ensures { Wrote out.old at (made_text parts normals.now colours.now textures.now v.0) 105 out.new result }
+    ensures { Wrote out.old at (made_text parts s.entry.normals.now s.entry.colours.now s.entry.textures.now v.0) 105 out.new result }
 {
-    let mut p = put_attribute(out, at, parts.normals, b'n', normals, 3 * v.0, 3);
-    p = put_attribute(out, p, parts.colours, b'c', colours, 4 * v.0, 4);
-    put_attribute(out, p, parts.texture, b'u', textures, 2 * v.0, 2)
+    let mut p = put_attribute(out, at, parts.normals, b'n', s.normals, 3 * v.0, 3);
+    p = put_attribute(out, p, parts.colours, b'c', s.colours, 4 * v.0, 4);
+    put_attribute(out, p, parts.texture, b'u', s.textures, 2 * v.0, 2)
 }
 
-fn put_vertex(
-    out: &mut [u8],
-    at: usize,
-    parts: Parts,
-    v: VertexNumber,
-    positions: &[u32],
-    normals: &[u32],
-    colours: &[u32],
-    textures: &[u32],
-    sources: &[u32],
-) -> usize
+fn put_vertex(out: &mut [u8], at: usize, parts: Parts, v: VertexNumber, s: VertexSlices) -> usize
     requires { (at + 151 ≤ 2 ^ 50) × (v.0 < 2 ^ 32) }
-    ensures { Wrote out.old at (vertex_line parts sources.now positions.now normals.now colours.now textures.now v.0) 151 out.new result }
+    ensures { Wrote out.old at (vertex_line parts s.entry.sources.now s.entry.positions.now s.entry.normals.now s.entry.colours.now s.entry.textures.now v.0) 151 out.new result }
 {
-    let mut p = put_place(out, at, v, positions, sources);
-    p = put_made(out, p, parts, v, normals, colours, textures);
+    let mut p = put_place(out, at, v, s);
+    p = put_made(out, p, parts, v, s);
     put_byte(out, p, b'\n')
 }
 
 // The lines of n vertices.
-pub fn put_vertices(
+pub(crate) fn put_vertices(
     out: &mut [u8],
     at: usize,
     parts: Parts,
     n: usize,
-    positions: &[u32],
-    normals: &[u32],
-    colours: &[u32],
-    textures: &[u32],
-    sources: &[u32],
+    s: VertexSlices,
 ) -> usize
     requires { (at + 151 * n ≤ 2 ^ 50) × (n < 2 ^ 32) }
-    ensures { Wrote out.old at (flat (tab (vertex_line parts sources.now positions.now normals.now colours.now textures.now) n 0)) (151 * n) out.new result }
+    ensures { Wrote out.old at (flat (tab (vertex_line parts s.entry.sources.now s.entry.positions.now s.entry.normals.now s.entry.colours.now s.entry.textures.now) n 0)) (151 * n) out.new result }
 {
     let mut p = at;
     for i in 0..n {
-        p = put_vertex(
-            out,
-            p,
-            parts,
-            VertexNumber(i),
-            positions,
-            normals,
-            colours,
-            textures,
-            sources,
-        );
+        p = put_vertex(out, p, parts, VertexNumber(i), s);
     }
     p
 }

@@ -4,5 +4,4 @@ use Rattle.text.proofs.answer.put_counts.Goals as goal
 
 pub returns : goal.returns
 unfolding counts_text
-returns c =
-    then c.put_byte-p.ensures (then c.put_byte-p-2.ensures (then c.put_byte-p-3.ensures (then c.put_byte-p-4.ensures (then c.put_field-p.ensures c.put_field.ensures))))
+returns c = then c.put_bytes-p.ensures (then c.put_field-p.ensures c.put_field.ensures)

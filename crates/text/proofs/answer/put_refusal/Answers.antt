@@ -4,5 +4,4 @@ use Rattle.text.proofs.answer.put_refusal.Goals as goal
 
 pub returns : goal.returns
 unfolding refusal_text
-returns c =
-    printed (then c.put_byte-p.ensures (then c.put_byte-p-2.ensures (then c.put_field-p.ensures c.put_byte.ensures)))
+returns c = printed (then c.put_bytes-p.ensures (then c.put_field-p.ensures c.put_byte.ensures))

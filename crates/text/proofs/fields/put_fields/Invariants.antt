@@ -1,4 +1,4 @@
-use Prim.Native.Nat.{◌+◌, ◌-◌}
+use Prim.Native.Nat.{◌+◌}
 use lib.ListN.{get_or}
 use Rattle.text.specs.Fields.{field_of}
 use Rattle.text.proofs.Pieces.{Going}

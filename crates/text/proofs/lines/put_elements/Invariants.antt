@@ -1,4 +1,3 @@
-use Prim.Native.Nat.{◌-◌}
 use Rattle.text.specs.Lines.{element_line}
 use Rattle.text.proofs.Pieces.{Going}
 use Rattle.text.proofs.lines.put_elements.Given as goal
