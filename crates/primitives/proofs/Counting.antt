@@ -1,6 +1,6 @@
 -- FORMAT 6.4: the corners of a primitive one by one, and its stretch primitive by primitive. Assumes nothing.
 use Prim.Native.Nat.{ℕ, zero, suc, ◌+◌, ◌-◌, ◌*◌, ◌%◌, ◌≤◌, ◌<◌}
-use mathlib.Core.Path.{◌≡◌, refl, ap, ◌∙◌}
+use mathlib.Core.Path.{◌≡◌, refl, sym, ap, ◌∙◌}
 use mathlib.Core.Bool.{Bool, true, false, cond}
 use mathlib.Core.List.{List, [], ◌∷◌, ◌++◌}
 use native.Mathlib.Omega.{arith}
@@ -108,6 +108,10 @@ places_within Quads n k h = (omega arith, (omega arith, (omega arith, (omega ari
 primitive_at : (g : Topology) (es : List ℕ) (k i : ℕ) → i < width_of g → get_or (primitive_of g es k) i 0 ≡ get_or es (get_or (places_of g k) i 0) 0
 unfolding primitive_of
 primitive_at g es k i h = get_or_map_lt (λ (j : ℕ). get_or es j 0) (places_of g k) i 0 0 (let l = places_long g k in omega arith)
+
+-- as it is read
+pub entry_at : (g : Topology) (es : List ℕ) (k i : ℕ) {p w : ℕ} → i < width_of g → p ≡ get_or (places_of g k) i 0 → w ≡ get_or es p 0 → w ≡ get_or (primitive_of g es k) i 0
+entry_at g es k i h ep ew = ew ∙ ap (λ (j : ℕ). get_or es j 0) ep ∙ sym (primitive_at g es k i h)
 
 -- as its corners are read one by one
 pub present_each : (p : ℕ) (g : Topology) (es : List ℕ) (k : ℕ) → list_all (λ i. ltb (get_or es (get_or (places_of g k) i 0) 0) p) (range_with_len 0 (width_of g)) ≡ all_below p (primitive_of g es k)
