@@ -63,7 +63,7 @@ impl<'a> Textured<'a> {
     }
 
     // The texture words of a corner, by its face's number and its point.
-    fn corner_texture(&self, s: Settings, number: usize, point: PointNumber) -> Words2
+    pub fn corner_texture(&self, s: Settings, number: usize, point: PointNumber) -> Words2
         requires { (s ≡ settings_of self.now.source.block.now) × (point.0 < spine_count self.now.source.header * section_count self.now.source.header) }
         ensures { result ≡ (extrusion_corner (extrusion_of self.now.source.block.now) number (use_of point.0)).texture }
     {

@@ -19,7 +19,7 @@ pub struct Progress {
 }
 
 // The number of listed face `face`, and the first corner after it.
-fn put_row(work: &mut [u32], t: Plan, face: usize, number: usize, next: CornerNumber)
+pub fn put_row(work: &mut [u32], t: Plan, face: usize, number: usize, next: CornerNumber)
     requires { Room (length work.old) t × (face < t.faces) × (number ≤ most) × (next.0 ≤ most) }
     ensures { work.new ≡ set (set work.old (t.numbers + face) number) (t.starts + (face + 1)) next.0 }
 {

@@ -17,7 +17,7 @@ use soups::prepare;
 use tables::Plan;
 use texture::{fit_of, put_textures};
 
-// All tables but that of texture.
+// All tables but that of texture. Not one with primitiveshape's, for the reason that stands there.
 pub fn put_tables<'a>(
     block: &'a [u8],
     coord: &'a [u8],
