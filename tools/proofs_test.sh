@@ -17,11 +17,16 @@ for crate in lists "${tried[@]}"; do
     mkdir "$work/copy/crates/$crate"
     cp -r crates/$crate/{src,specs,proofs} "$work/copy/crates/$crate"
 done
+# The code that those proofs are of, and the laws that they cite, as they were when the proofs were written.
+cp tools/cases/lists/*.antt "$work/copy/crates/lists/proofs"
+cp tools/cases/math/order.rt "$work/copy/crates/math/src"
+cp tools/cases/math/*.antt "$work/copy/crates/math/proofs"
+cp tools/cases/bits/lib.rt "$work/copy/crates/bits/src"
 for crate in "${tried[@]}"; do
     for proof in tools/cases/"$crate"/*.proof; do
-        at=$(find "$work/copy/crates/$crate/proofs" -type d -name "$(basename "$proof" .proof)")
-        rm -r "$at"
-        mkdir "$at"
+        at=$work/copy/crates/$crate/proofs/$(sed -nE 's/^use Rattle\.[a-z]+\.proofs\.(.*)\.Tie as tie$/\1/p' "$proof" | tr . /)
+        rm -rf "$at"
+        mkdir -p "$at"
         cp "$proof" "$at/Proof.antt"
     done
 done
