@@ -18,10 +18,10 @@ for crate in lists "${tried[@]}"; do
     cp -r crates/$crate/{src,specs,proofs} "$work/copy/crates/$crate"
 done
 # The code that those proofs are of, and the laws that they cite, as they were when the proofs were written.
-cp tools/cases/lists/*.antt "$work/copy/crates/lists/proofs"
-cp tools/cases/math/order.rt "$work/copy/crates/math/src"
-cp tools/cases/math/*.antt "$work/copy/crates/math/proofs"
-cp tools/cases/bits/lib.rt "$work/copy/crates/bits/src"
+cp tools/cases/lists/Cuts.laws "$work/copy/crates/lists/proofs/Cuts.antt"
+cp tools/cases/math/order.code "$work/copy/crates/math/src/order.rt"
+cp tools/cases/math/Compare.laws "$work/copy/crates/math/proofs/Compare.antt"
+cp tools/cases/bits/lib.code "$work/copy/crates/bits/src/lib.rt"
 for crate in "${tried[@]}"; do
     for proof in tools/cases/"$crate"/*.proof; do
         at=$work/copy/crates/$crate/proofs/$(sed -nE 's/^use Rattle\.[a-z]+\.proofs\.(.*)\.Tie as tie$/\1/p' "$proof" | tr . /)
