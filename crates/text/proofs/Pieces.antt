@@ -11,59 +11,73 @@ use Rattle.lists.specs.Lists.{flat}
 use Rattle.lists.proofs.Stores.{sets_append}
 use Rattle.lists.proofs.Pieces.{flat_go, flat_end}
 use Rattle.lists.proofs.Putting.{Split, stores, Left, left_all, left_stored, left_end}
-use Rattle.text.specs.Wrote.{Wrote, Printed}
+use Rattle.text.specs.declared.writer.Writer.{Writer}
+use Rattle.text.specs.Wrote.{Wrote, Writes, Printed}
 
 -- one text after another
-pub then : {l m n s t : List ℕ} {a b c j k : ℕ} → Wrote l a s j m b → Wrote m b t k n c → Wrote l a (s ++ t) (j + k) n c
-then {l} {m} {n} {s} {t} {a} {b} {c} {j} {k} x y =
+pub then : {x y z : Writer} {s t : List ℕ} {j k : ℕ} → Writes x s j y → Writes y t k z → Writes x (s ++ t) (j + k) z
+then {x} {y} {z} {s} {t} {j} {k} v w =
     record {
-      bytes =
-          y.bytes ∙ ap (λ (q : List ℕ). sets q b t) x.bytes ∙ ap (λ (q : ℕ). sets (sets l a s) q t) x.next
-          ∙ sym (sets_append s t l a);
-      next =
-          let e : length (s ++ t) ≡ length s + length t = length-append s t in
-          let p : b ≡ a + length s = x.next in
-          let q : c ≡ b + length t = y.next in
-          omega arith;
-      near = let p : b ≤ a + j = x.near in let q : c ≤ b + k = y.near in omega arith;
+      same = w.same ∙ v.same;
+      wrote =
+          record {
+            bytes =
+                w.wrote.bytes ∙ ap (λ (q : List ℕ). sets q y.at t) v.wrote.bytes ∙ ap (λ (q : ℕ). sets (sets x.out.now x.at s) q t) v.wrote.next
+                ∙ sym (sets_append s t x.out.now x.at);
+            next =
+                let e : length (s ++ t) ≡ length s + length t = length-append s t in
+                let p : y.at ≡ x.at + length s = v.wrote.next in
+                let q : z.at ≡ y.at + length t = w.wrote.next in
+                omega arith;
+            near = let p : y.at ≤ x.at + j = v.wrote.near in let q : z.at ≤ y.at + k = w.wrote.near in omega arith;
+          };
     }
 
-pub nothing : (l : List ℕ) (a k : ℕ) → Wrote l a [] k l a
-nothing l a k = record { bytes = refl; next = sym (add-zero a); near = omega arith }
+pub nothing : (x : Writer) (k : ℕ) → Writes x [] k x
+nothing x k = record { same = refl; wrote = record { bytes = refl; next = sym (add-zero x.at); near = omega arith } }
 
-pub looser : {l m s : List ℕ} {a r j : ℕ} (k : ℕ) → j ≤ k → Wrote l a s j m r → Wrote l a s k m r
-looser k h x = record { bytes = x.bytes; next = x.next; near = let p = x.near in omega arith }
+pub looser : {x y : Writer} {s : List ℕ} {j : ℕ} (k : ℕ) → j ≤ k → Writes x s j y → Writes x s k y
+looser k h v = record { same = v.same; wrote = record { bytes = v.wrote.bytes; next = v.wrote.next; near = let p = v.wrote.near in omega arith } }
 
 -- ---- a loop: i of n texts are put
 
-pub record Going (f : ℕ → List ℕ) (k n : ℕ) (l₀ : List ℕ) (at : ℕ) (l : List ℕ) (p i : ℕ) : Type 0 where
-  pub left : Left sets (flat (tab f n 0)) at l₀ (flat (tab f (n - i) i)) p l
-  pub near : p ≤ at + k * i
+pub record Going (f : ℕ → List ℕ) (k n : ℕ) (x y : Writer) (i : ℕ) : Type 0 where
+  pub same : y.out.ghost_name ≡ x.out.ghost_name
+  pub left : Left sets (flat (tab f n 0)) x.at x.out.now (flat (tab f (n - i) i)) y.at y.out.now
+  pub near : y.at ≤ x.at + k * i
   pub most : i ≤ n
 
-pub going_start : (f : ℕ → List ℕ) (k n : ℕ) (l : List ℕ) (at : ℕ) → Going f k n l at l at 0
-going_start f k n l at = record { left = rw sub-zero (left_all sets); near = omega arith; most = omega arith }
+pub going_start : (f : ℕ → List ℕ) (k n : ℕ) (x : Writer) → Going f k n x x 0
+going_start f k n x = record { same = refl; left = rw sub-zero (left_all sets); near = omega arith; most = omega arith }
 
-pub going_step : {f : ℕ → List ℕ} {k n : ℕ} {l₀ l m : List ℕ} {at p r i : ℕ} → Going f k n l₀ at l p i → i < n → Wrote l p (f i) k m r → Going f k n l₀ at m r (i + 1)
+pub going_step : {f : ℕ → List ℕ} {k n : ℕ} {x y z : Writer} {i : ℕ} → Going f k n x y i → i < n → Writes y (f i) k z → Going f k n x z (i + 1)
 going_step {f} {k} {n} {i = i} g h w =
     let b : k * (i + 1) ≡ k * i + k = omega arith in
     let S : Split (flat (tab f (n - i) i)) (f i) (flat (tab f (n - (i + 1)) (i + 1))) = record { is = flat_go f n i h } in
     record {
-      left = left_stored g.left S (record { next = w.next; made = w.bytes });
-      near = omega (arith, w.near, g.near);
+      same = w.same ∙ g.same;
+      left = left_stored g.left S (record { next = w.wrote.next; made = w.wrote.bytes });
+      near = omega (arith, w.wrote.near, g.near);
       most = omega arith;
     }
 
-pub going_end : {f : ℕ → List ℕ} {k n : ℕ} {l₀ l : List ℕ} {at p i : ℕ} → Going f k n l₀ at l p i → n ≤ i → Wrote l₀ at (flat (tab f n 0)) (k * n) l p
-going_end {f} {k} {n} {at = at} {p = p} {i = i} g h =
+pub going_end : {f : ℕ → List ℕ} {k n : ℕ} {x y : Writer} {i : ℕ} → Going f k n x y i → n ≤ i → Writes x (flat (tab f n 0)) (k * n) y
+going_end {f} {k} {n} {x} {y} {i} g h =
     let A = left_end g.left stores (flat_end f n i h) in
     let e : i ≡ n = (let q : i ≤ n = g.most in omega arith) in
-    record { bytes = A.made; next = A.next; near = subst (λ (q : ℕ). p ≤ at + k * q) e g.near }
+    record { same = g.same; wrote = record { bytes = A.made; next = A.next; near = subst (λ (q : ℕ). y.at ≤ x.at + k * q) e g.near } }
 
--- ---- a whole text
+-- ---- a whole text: m is what the buffer holds at the end
 
-pub printed : {l m s : List ℕ} {k r : ℕ} → Wrote l 0 s k m r → Printed l s m r
-printed {l} {m} {s} {k} {r} w =
+pub left_in : {x y : Writer} {s m : List ℕ} {k : ℕ} → Writes x s k y → m ≡ y.out.now → Wrote x.out.now x.at s k m y.at
+left_in v q = rw q v.wrote
+
+pub printed : {x y : Writer} {s m : List ℕ} {k : ℕ} → x.at ≡ 0 → Writes x s k y → m ≡ y.out.now → Printed x.out.now s m y.at
+printed {x} {y} {s} {m} {k} e v q =
+    let w : Wrote x.out.now x.at s k m y.at = left_in v q in
+    of (rw e at w) where
+  of : {l m : List ℕ} {k r : ℕ} → Wrote l 0 s k m r → Printed l s m r
+  of {l} w =
     record {
       bytes = w.bytes;
       long = w.next ∙ zero-add (length s);

@@ -7,7 +7,8 @@ use native.Mathlib.Omega.{arith}
 use lib.Dec.{ltb}
 use Rattle.lists.specs.Loops.{pick}
 use Rattle.text.specs.Digits.{digit_byte, digits}
-use Rattle.text.specs.Wrote.{Wrote}
+use Rattle.text.specs.declared.writer.Writer.{Writer}
+use Rattle.text.specs.Wrote.{Writes}
 use Rattle.text.proofs.Pieces.{then, looser, nothing}
 
 module _ (short : Bool) (b k n : ℕ) where
@@ -31,17 +32,17 @@ module _ (short : Bool) (b k n : ℕ) where
 
 -- ---- the same of digits that are put
 
-pub put_none : {l : List ℕ} {at : ℕ} (short : Bool) (b k n : ℕ) → k ≡ 0 → Wrote l at (digits short b k n) k l at
-put_none {l} {at} short b k n e = rw (digits_none short b k n e) (nothing l at k)
+pub put_none : {x : Writer} (short : Bool) (b k n : ℕ) → k ≡ 0 → Writes x (digits short b k n) k x
+put_none {x} short b k n e = rw (digits_none short b k n e) (nothing x k)
 
-module _ {l m : List ℕ} {at r : ℕ} (short : Bool) (b k n : ℕ) where
-  pub put_last : (short && ltb n b) ≡ true → (k ≡ 0 → ⊥) → Wrote l at (digit_byte (n % b) ∷ []) 1 m r → Wrote l at (digits short b k n) k m r
+module _ {x y : Writer} (short : Bool) (b k n : ℕ) where
+  pub put_last : (short && ltb n b) ≡ true → (k ≡ 0 → ⊥) → Writes x (digit_byte (n % b) ∷ []) 1 y → Writes x (digits short b k n) k y
   put_last e h w =
       let p : 1 ≤ k = omega arith in
       rw (digits_last short b k n e p) (looser k p w)
 
-  pub put_more : {o : List ℕ} {q : ℕ} → (short && ltb n b) ≡ false → (k ≡ 0 → ⊥) → Wrote l at (digits short b (k - 1) (n / b)) (k - 1) m r
-      → Wrote m r (digit_byte (n % b) ∷ []) 1 o q → Wrote l at (digits short b k n) k o q
+  pub put_more : {z : Writer} → (short && ltb n b) ≡ false → (k ≡ 0 → ⊥) → Writes x (digits short b (k - 1) (n / b)) (k - 1) y
+      → Writes y (digit_byte (n % b) ∷ []) 1 z → Writes x (digits short b k n) k z
   put_more e h v w =
       let p : 1 ≤ k = omega arith in
       rw (digits_more short b k n e p) (looser k (omega arith) (then v w))

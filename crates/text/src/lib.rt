@@ -5,7 +5,8 @@ mod answer;
 mod digits;
 mod fields;
 mod lines;
+mod writer;
 
 pub use answer::{put_long, put_mesh, put_refusal};
-pub use digits::{put_byte, put_digits};
 pub use lines::Parts;
+pub use writer::Writer;

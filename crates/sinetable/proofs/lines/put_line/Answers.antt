@@ -5,4 +5,4 @@ use Rattle.sinetable.proofs.lines.put_line.Goals as goal
 
 pub returns : goal.returns
 unfolding entry_line decimal
-returns c = rw c.entry.ensures at (then c.put_digits-p.ensures c.put_byte.ensures)
+returns c = rw c.entry.ensures at (then c.put_digits.ensures c.put_byte.ensures)

@@ -1,8 +1,0 @@
-use Rattle.text.specs.Answer.{flags_text}
-use Rattle.text.proofs.Pieces.{then}
-use Rattle.text.proofs.answer.put_flags.Goals as goal
-
-pub returns : goal.returns
-unfolding flags_text
-returns c =
-    then (rw c.from.ensures at c.put_field-p.ensures) (then (rw c.from-2.ensures at c.put_field-p-2.ensures) (then (rw c.from-3.ensures at c.put_field-p-3.ensures) c.put_byte.ensures))

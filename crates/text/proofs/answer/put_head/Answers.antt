@@ -1,7 +1,0 @@
-use Rattle.text.specs.Answer.{head_line}
-use Rattle.text.proofs.Pieces.{then}
-use Rattle.text.proofs.answer.put_head.Goals as goal
-
-pub returns : goal.returns
-unfolding head_line
-returns c = then c.put_counts-p.ensures c.put_flags.ensures

@@ -1,5 +1,0 @@
-use Rattle.text.proofs.digits.+put_digits.Given as goal
-
--- the measure is k
-abbrev pub decreases-put_digits : goal.decreases-put_digits
-decreases-put_digits l = l.k

@@ -1,6 +1,0 @@
-use Rattle.text.specs.Lines.{element_line}
-use Rattle.text.proofs.Pieces.{Going}
-use Rattle.text.proofs.lines.put_elements.Given as goal
-
-abbrev pub invariant-loop-i : goal.invariant-loop-i
-invariant-loop-i l = Going (element_line l.letter l.m l.indices) 35 l.n l.initial.out l.at l.out l.p l.i

@@ -1,8 +1,0 @@
-use Rattle.text.specs.Lines.{made_text}
-use Rattle.text.proofs.Pieces.{then}
-use Rattle.text.proofs.lines.put_made.Goals as goal
-
-pub returns : goal.returns
-unfolding made_text
-returns c =
-    then c.put_attribute-p.ensures (then c.put_attribute-p-2.ensures c.put_attribute.ensures)

@@ -1,7 +1,0 @@
-use Rattle.text.specs.Lines.{vertex_line}
-use Rattle.text.proofs.Pieces.{then}
-use Rattle.text.proofs.lines.put_vertex.Goals as goal
-
-pub returns : goal.returns
-unfolding vertex_line
-returns c = then c.put_place-p.ensures (then c.put_made-p.ensures c.put_byte.ensures)
