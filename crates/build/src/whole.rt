@@ -27,7 +27,8 @@ pub fn build<'a>(
     let tables = corner_tables(
         t.count, t.points, t.spots, t.corners, t.named, t.places, t.owners,
     );
-    // What two calls are lent goes under a name of its own: the check of borrows takes no field that is read while another is lent.
+    // Fields that one call writes and another reads have names of their own: the check of borrows does not take two fields of `b` in one call, one to be
+    // written and one to be read.
     let words = &mut *b.words;
     let floats = &mut *b.floats;
     let positions = &mut *b.positions;

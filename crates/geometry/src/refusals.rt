@@ -9,7 +9,7 @@ use crate::answer::Lengths;
 use block::{Header, Refusal};
 use sizes::Sizes;
 
-// Row 8.
+// Row 8. One slice after another: in one chain of || (tried) each goal of the proof holds every way to come to it.
 fn is_short(z: Sizes, l: Lengths) -> bool
     requires { (z.points ≤ most) × (z.corners ≤ most) }
     ensures { result ≡ is_short (record { points = z.points; corners = z.corners; indices = z.indices }) l }

@@ -10,6 +10,7 @@ use lib.Dec.{eqb, ltb}
 use lib.Ieee.{Float}
 use lib.ListN.{length, get_or, take}
 use lib.Seq.{take_all}
+use Rattle.std.specs.Int.{from_bool}
 use Rattle.std.specs.List.{list_any}
 use borrow.Author.Tests.{eq-eqb, lt-ltb, le-ltb, ltb-false}
 use Rattle.lists.specs.Loops.{pick, run, first}
@@ -28,6 +29,12 @@ pub one_small : (b : Bool) → one_where b ≤ 1
 unfolding one_where
 one_small true = omega arith
 one_small false = omega arith
+
+-- the library's number of a bool
+pub one_from : {n : ℕ} (b : Bool) → n ≡ from_bool b → n ≡ one_where b
+unfolding one_where
+one_from true e = e
+one_from false e = e
 
 -- of m rays j are looked at
 pub record Counting (rays : List Float) (tri : Triangle) (m j count : ℕ) : Type 0 where

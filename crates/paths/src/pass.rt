@@ -2,7 +2,7 @@
 ghost use Rattle.std.specs.Prelude.{◌≡◌, false, ◌||◌, ℕ, ◌/◌, ◌≤◌, ◌<◌, eqb, leb, length};
 ghost use Rattle.lists.specs.Loops.{any, run};
 ghost use Rattle.paths.specs.Pass.{next_answer, step_at, updated, turn_of};
-ghost use Rattle.paths.specs.Pass.{one_where, hit_count, any_clear};
+ghost use Rattle.paths.specs.Pass.{hit_count, any_clear};
 
 use crate::intersect::{Triangle, hits};
 use crate::rays::{Rays, ray_at};
@@ -35,29 +35,19 @@ fn mark(rays: &Rays, tri: Triangle, number: u64, answers: &mut [u64])
     ensures { answers.new
         ≡ updated (step_at rays.now tri number) (length answers.old) answers.old }
 {
-    for j in 0..answers.len() {
-        answers[j] = verdict(rays, j, tri, number, answers[j]);
+    for (j, answer) in answers.iter_mut().enumerate() {
+        *answer = verdict(rays, j, tri, number, *answer);
     }
 }
 
-// A number, so that counting is no branch.
-fn one_where(hit: bool) -> u32
-    ensures { result ≡ one_where hit }
-{
-    if hit {
-        return 1;
-    }
-    0
-}
-
-// How many of the first m rays hit a triangle. Most time goes here, so it reads the rays alone.
+// How many of the first m rays hit a triangle. Most time goes here, so it reads the rays alone, and no branch counts.
 fn count_hits(rays: &Rays, m: usize, tri: Triangle) -> u32
     requires { m ≤ 64 }
     ensures { result ≡ hit_count rays.now tri m }
 {
     let mut count: u32 = 0;
     for j in 0..m {
-        count += one_where(hits(ray_at(rays, j), tri));
+        count += u32::from(hits(ray_at(rays, j), tri));
     }
     count
 }

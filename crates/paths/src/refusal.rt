@@ -10,7 +10,7 @@ fn any_beyond(n: usize, indices: &[u32]) -> bool
     indices.iter().any(|i| n <= *i as usize)
 }
 
-// With `room` answers lent.
+// With `room` answers lent. One ground after another, as FORMAT 19.3 lists them: in one chain of || (tried) two goals stay open, each with all joins before it.
 pub fn is_refused(positions: &[u32], indices: &[u32], paths: &[u32], room: usize) -> bool
     ensures { result ≡ is_refused positions.now indices.now
         paths.now room }

@@ -14,11 +14,12 @@ impl From<io::Error> for BadFile {
     }
 }
 
+// A case, in the buffers that it was read to.
 #[derive(Clone, Copy)]
-pub(crate) struct Stored {
+pub(crate) struct Stored<'a> {
     pub corners: u32,
-    pub block: usize,
-    pub text: usize,
+    pub block: &'a [u8],
+    pub text: &'a [u8],
 }
 
 // The next number, or none where the file ends before it.
@@ -32,21 +33,22 @@ fn read_number<R: Read>(from: &mut R) -> Result<Option<u32>, BadFile> {
 }
 
 // A length, and so many bytes, to the start of the buffer.
-fn read_part<R: Read>(from: &mut R, buffer: &mut [u8]) -> Result<usize, BadFile> {
+fn read_part<'a, R: Read>(from: &mut R, buffer: &'a mut [u8]) -> Result<&'a [u8], BadFile> {
     let n = read_number(from)?.ok_or(BadFile)? as usize;
     if n > buffer.len() {
         return Err(BadFile);
     }
-    from.read_exact(&mut buffer[..n])?;
-    Ok(n)
+    let part = &mut buffer[..n];
+    from.read_exact(part)?;
+    Ok(part)
 }
 
 // The next case, or none where the file ends before it.
-pub(crate) fn read_case<R: Read>(
+pub(crate) fn read_case<'a, R: Read>(
     from: &mut R,
-    block: &mut [u8],
-    text: &mut [u8],
-) -> Result<Option<Stored>, BadFile> {
+    block: &'a mut [u8],
+    text: &'a mut [u8],
+) -> Result<Option<Stored<'a>>, BadFile> {
     let Some(corners) = read_number(from)? else {
         return Ok(None);
     };
