@@ -4,7 +4,7 @@ ghost use Rattle.std.proofs.lemmas.List.Edits.{sets};
 ghost use Rattle.std.specs.Float.Ieee.{le};
 ghost use Rattle.lists.specs.Loops.{pick, first};
 ghost use Rattle.polygon.specs.Ears.{+0, triple, corner, cross2, point_in_tri, blocks, is_ear, first_ear};
-ghost use Rattle.polygon.specs.Memo.{xy, dot_of, spot_of, in_way, hits, Clear, Tells, ear_of, Known, Sound, entry, found, Searched};
+ghost use Rattle.polygon.specs.Memo.{xy, dot_of, spot_of, in_way, hits, Clear, Tells, ear_of, finding, word, Known, Sound, entry, found, Searched};
 
 use lists::{get, get_or, put};
 
@@ -225,8 +225,41 @@ pub fn corner_at(order: &[u32], i: usize) -> Corner
     }
 }
 
+// ---- what an earlier search found
+
+// Of a corner between two others: nothing yet; that it is reflex or degenerate; or the first corner that is left and lies in it.
+#[derive(Clone, Copy)]
+pub enum Finding {
+    Unknown,
+    Bent,
+    Blocked(usize),
+}
+
+// What a word that is kept says.
+fn finding_of(word: u32) -> Finding
+    ensures { result ≡ finding word }
+{
+    match word {
+        0 => Finding::Unknown,
+        1 => Finding::Bent,
+        _ => Finding::Blocked(word as usize - 2),
+    }
+}
+
+// The word that says it.
+fn word_of(f: Finding) -> u32
+    requires { word f < 2 ^ 32 }
+    ensures { result ≡ word f }
+{
+    match f {
+        Finding::Unknown => 0,
+        Finding::Bent => 1,
+        Finding::Blocked(k) => k as u32 + 2,
+    }
+}
+
 // What ears are looked for in: the coordinates of a polygon; a word for each corner, 1 while it is left; and three words for each of what an
-// earlier search found.
+// earlier search found: its two neighbours then, and the finding.
 #[derive(Drop)]
 pub struct Search<'p, 'w> {
     pub p: &'p [f32],
@@ -235,18 +268,14 @@ pub struct Search<'p, 'w> {
 }
 
 impl<'p, 'w> Search<'p, 'w> {
-    // A word, not an enum: it is kept in the lent words.
-    fn look(&self, q: Corner) -> u32
+    fn look(&self, q: Corner) -> Finding
         ensures { result ≡ entry self.now.memo.now q.a q.b q.c }
     {
         let k = q.b as usize * 3;
-        if get(self.memo, k) != q.a {
-            return 0;
+        if get(self.memo, k) == q.a && get(self.memo, k + 1) == q.c {
+            return finding_of(get(self.memo, k + 2));
         }
-        if get(self.memo, k + 1) != q.c {
-            return 0;
-        }
-        get(self.memo, k + 2)
+        Finding::Unknown
     }
 
     fn flag_of(&self, k: usize) -> u32
@@ -255,13 +284,14 @@ impl<'p, 'w> Search<'p, 'w> {
         get(self.left, k)
     }
 
-    fn store(&mut self, q: Corner, s: u32)
-        ensures { (self.new.memo.now ≡ sets self.old.memo.now (q.b * 3) (q.a ∷ q.c ∷ s ∷ [])) × (self.new.left.now ≡ self.old.left.now) × (self.new.p ≡ self.old.p) }
+    fn store(&mut self, q: Corner, f: Finding)
+        requires { word f < 2 ^ 32 }
+        ensures { (self.new.memo.now ≡ sets self.old.memo.now (q.b * 3) (q.a ∷ q.c ∷ word f ∷ [])) × (self.new.left.now ≡ self.old.left.now) × (self.new.p ≡ self.old.p) }
     {
         let k = q.b as usize * 3;
         put(self.memo, k, q.a);
         put(self.memo, k + 1, q.c);
-        put(self.memo, k + 2, s);
+        put(self.memo, k + 2, word_of(f));
     }
 
     // Whether q, which is convex, is an ear; no corner before `from` that is left lies in it.
@@ -274,30 +304,32 @@ impl<'p, 'w> Search<'p, 'w> {
         let Some(k) = other_hit(self.p, self.left, from, q) else {
             return true;
         };
-        self.store(q, k as u32 + 2);
+        self.store(q, Finding::Blocked(k));
         false
     }
 
-    // Whether q, of which s is known, is an ear.
-    fn decide(&mut self, q: Corner, s: u32) -> bool
-        requires { (length self.old.left.now ≤ 2 ^ 31) × Known (xy self.old.p.now) self.old.left.now q.a q.b q.c s × Sound (xy self.old.p.now) self.old.left.now self.old.memo.now }
+    // Whether q, of which f was found, is an ear.
+    fn decide(&mut self, q: Corner, f: Finding) -> bool
+        requires { (length self.old.left.now ≤ 2 ^ 31) × Known (xy self.old.p.now) self.old.left.now q.a q.b q.c f × Sound (xy self.old.p.now) self.old.left.now self.old.memo.now }
         ensures { (result ≡ ear_of (xy self.old.p.now) self.old.left.now q.a q.b q.c)
             × Searched (xy self.old.p.now) self.old.left.now self.new.left.now self.new.memo.now × (self.new.p ≡ self.old.p) }
     {
-        if s == 1 {
-            return false;
-        }
-        if s == 0 {
-            if is_bent(self.p, q) {
-                self.store(q, 1);
-                return false;
+        match f {
+            Finding::Unknown => {
+                if is_bent(self.p, q) {
+                    self.store(q, Finding::Bent);
+                    return false;
+                }
+                return self.search(q, 0);
             }
-            return self.search(q, 0);
+            Finding::Bent => return false,
+            Finding::Blocked(k) => {
+                if self.flag_of(k) == 1 {
+                    return false;
+                }
+                return self.search(q, k + 1);
+            }
         }
-        if self.flag_of(s as usize - 2) == 1 {
-            return false;
-        }
-        self.search(q, s as usize - 1)
     }
 
     fn is_ear(&mut self, order: &[u32], i: usize) -> bool
@@ -306,8 +338,8 @@ impl<'p, 'w> Search<'p, 'w> {
             × Searched (xy self.old.p.now) self.old.left.now self.new.left.now self.new.memo.now × (self.new.p ≡ self.old.p) }
     {
         let q = corner_at(order, i);
-        let s = self.look(q);
-        self.decide(q, s)
+        let f = self.look(q);
+        self.decide(q, f)
     }
 
     // The place of the first ear in a working order.

@@ -4,7 +4,7 @@ use Rattle.polygon.proofs.Turns.{ear_in}
 use Rattle.polygon.proofs.memo.Search.is_ear.Goals as goal
 
 pub decide-requires : goal.decide-requires
-decide-requires c = (c.requires.1, known_read _ _ _ _ _ _ _ c.look-s.ensures c.requires.3, c.requires.3)
+decide-requires c = (c.requires.1, known_read _ _ _ _ _ _ _ c.look-f.ensures c.requires.3, c.requires.3)
 
 pub returns : goal.returns
 returns c =
