@@ -1,7 +1,7 @@
 // FORMAT 12.3, ear_clip: the triangles of a polygon in the plane.
-ghost use Rattle.std.specs.Prelude.{◌≡◌, [], ◌∷◌, map, ◌+◌, ◌-◌, ◌*◌, ◌^◌, ◌≤◌, ◌<◌, length, take};
+ghost use Rattle.std.specs.Prelude.{◌≡◌, [], ◌∷◌, map, ◌+◌, ◌-◌, ◌*◌, ◌/◌, ◌^◌, ◌≤◌, ◌<◌, length, take};
 ghost use Rattle.std.proofs.lemmas.List.Edits.{sets};
-ghost use Rattle.polygon.specs.Ears.{triple, remove, corner, fan, clip, area_term, area, place, order, turn, ear_clip_by, flat};
+ghost use Rattle.polygon.specs.Ears.{triple, remove, corner, fan, clip, area, place, order, turn, ear_clip_by, flat};
 ghost use Rattle.polygon.specs.Memo.{xy, Gone, Held};
 
 use crate::memo::{Search, corner_at, dot_at};
@@ -53,24 +53,18 @@ fn set_order(idx: &mut [u32], rev: bool)
     }
 }
 
-fn area_of(p: &[f32], n: usize) -> f32
-    requires { n ≤ 2 ^ 31 }
-    ensures { result ≡ area (xy p.now) n }
+fn area_of(p: &[f32]) -> f32
+    requires { length p.now ≤ 2 ^ 32 }
+    ensures { result ≡ area (xy p.now) (length p.now / 2) }
 {
+    let n = p.len() / 2;
     let mut s: f32 = 0.0;
     for i in 0..n {
-        s = area_step(p, n, i, s);
+        let a = dot_at(p, i as u32);
+        let b = dot_at(p, ((i + 1) % n) as u32);
+        s += a.x * b.y - b.x * a.y;
     }
     s
-}
-
-fn area_step(p: &[f32], n: usize, i: usize, s: f32) -> f32
-    requires { (n ≤ 2 ^ 31) × (i < n) }
-    ensures { result ≡ area_term (xy p.now) n i s }
-{
-    let a = dot_at(p, i as u32);
-    let b = dot_at(p, ((i + 1) % n) as u32);
-    s + (a.x * b.y - b.x * a.y)
 }
 
 // A fan over the whole of a working order, from the t'th place of `out` on.
@@ -97,7 +91,7 @@ fn cut(s: &mut Search, order: &mut [u32], m: usize, i: usize, out: &mut [u32], t
 }
 
 fn clip_all(s: &mut Search, order: &mut [u32], out: &mut [u32], rev: bool)
-    requires { (length order.old ≤ 2 ^ 31) × (length s.old.left.now ≤ 2 ^ 31) × Held (xy s.old.p.now) order.old s.old.left.now s.old.memo.now }
+    requires { (length order.old ≤ 2 ^ 31) × Held (xy s.old.p.now) order.old s.old.left.now s.old.memo.now }
     ensures { out.new ≡ sets out.old 0 (flat (map (turn rev) (clip (xy s.old.p.now) (length order.old * length order.old) order.old))) }
 {
     let n = order.len();
@@ -115,13 +109,14 @@ fn clip_all(s: &mut Search, order: &mut [u32], out: &mut [u32], rev: bool)
     put_fan(&order[..m], out, n - m, rev);
 }
 
-// The n - 2 triangles of the polygon whose coordinates are `p`, to the front of `out`. `w` is room to work in, five words a corner: the working
+// The triangles of the polygon whose coordinates are `p`, two a corner, to the front of `out`. `w` is room to work in, five words a corner: the working
 // order, and the two tables of the search. (Fewer would do, and be slower.)
-pub fn ear_clip(p: &[f32], n: usize, w: &mut [u32], out: &mut [u32])
-    requires { (n ≤ 2 ^ 31) × (n * 2 ≤ length w.old) }
-    ensures { out.new ≡ sets out.old 0 (flat (ear_clip_by (xy p.now) n)) }
+pub fn ear_clip(p: &[f32], w: &mut [u32], out: &mut [u32])
+    requires { (length p.now ≤ 2 ^ 32) × (length p.now ≤ length w.old) }
+    ensures { out.new ≡ sets out.old 0 (flat (ear_clip_by (xy p.now) (length p.now / 2))) }
 {
-    let rev = area_of(p, n) < 0.0;
+    let n = p.len() / 2;
+    let rev = area_of(p) < 0.0;
     let (order, rest) = w.split_at_mut(n);
     let (left, memo) = rest.split_at_mut(n);
     set_order(order, rev);

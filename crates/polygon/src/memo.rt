@@ -72,27 +72,6 @@ fn is_in_way(k: Dot, t: Triangle) -> bool
     k.j != t.a.j && k.j != t.b.j && k.j != t.c.j && in_tri(k, t)
 }
 
-// ---- the corners that are left: a word for each, 1 while it is
-
-fn is_hit(p: &[f32], left: &[u32], k: usize, t: Triangle) -> bool
-    requires { k < 2 ^ 31 }
-    ensures { result ≡ hits left.now (λ j. in_way (dot_of (xy p.now) j) t.a t.b t.c) k }
-{
-    get(left, k) == 1 && is_in_way(dot_at(p, k as u32), t)
-}
-
-// The first of the corners from `from` up to `to` that is left and lies in the triangle t.
-fn scan(p: &[f32], left: &[u32], from: usize, to: usize, t: Triangle) -> Option<usize>
-    requires { to ≤ 2 ^ 31 }
-    ensures { result ≡ found to (first (hits left.now (λ j. in_way (dot_of (xy p.now) j) t.a t.b t.c)) (to - from) from) }
-{
-    (from..to).find(
-        |&k|
-            requires { k < 2 ^ 31 }
-        { is_hit(p, left, k, t) },
-    )
-}
-
 // The corner k, whose coordinates are there.
 fn dot_in(p: &[f32], k: usize) -> Dot
     requires { (k < 2 ^ 31) × (k * 2 + 1 < length p.now) }
@@ -112,60 +91,87 @@ fn is_near(f: u32, d: Dot, t: Triangle) -> bool
     f == 1 && cross(t.b, t.c, d) >= 0.0 && cross(t.c, t.a, d) >= 0.0
 }
 
-// How many of the corners from `from` up to `to` are near: the machine counts several at once. Where there is none, none of them lies in the triangle t.
-fn count_near(p: &[f32], left: &[u32], from: usize, to: usize, t: Triangle) -> u32
-    requires { (to ≤ 2 ^ 31) × (to ≤ length left.now) × (to * 2 ≤ length p.now) }
-    ensures { result ≡ 0 → (j : ℕ) → from ≤ j → j < to → hits left.now (λ i. in_way (dot_of (xy p.now) i) t.a t.b t.c) j ≡ false }
-{
-    let mut s: u32 = 0;
-    for k in from..to {
-        s += u32::from(is_near(left[k], dot_in(p, k), t));
-    }
-    s
+// ---- the corners that are left
+
+// The coordinates of a polygon, two for each corner; and a word for each, 1 while it is left.
+#[derive(Clone, Copy)]
+struct Field<'a> {
+    p: &'a [f32],
+    left: &'a [u32],
+    ghost few: { length left.now ≤ 2 ^ 31 },
+    ghost placed: { length left.now * 2 ≤ length p.now },
 }
 
-// As `scan`, of a block of corners: it is passed as a whole where none of them is near. The last block may be short: then some before it are counted again.
-fn scan_block(p: &[f32], left: &[u32], from: usize, to: usize, t: Triangle) -> Option<usize>
-    requires { (from ≤ to) × (to ≤ from + 16) × (to ≤ 2 ^ 31) × (to ≤ length left.now) × (to * 2 ≤ length p.now) }
-    ensures { result ≡ found to (first (hits left.now (λ j. in_way (dot_of (xy p.now) j) t.a t.b t.c)) (to - from) from) }
-{
-    if BLOCK <= to {
-        if count_near(p, left, to - BLOCK, to, t) == 0 {
-            return None;
+impl<'a> Field<'a> {
+    fn is_hit(&self, k: usize, t: Triangle) -> bool
+        requires { k < 2 ^ 31 }
+        ensures { result ≡ hits self.now.left.now (λ j. in_way (dot_of (xy self.now.p.now) j) t.a t.b t.c) k }
+    {
+        get(self.left, k) == 1 && is_in_way(dot_at(self.p, k as u32), t)
+    }
+
+    // The first of the corners from `from` up to `to` that is left and lies in the triangle t.
+    fn scan(&self, from: usize, to: usize, t: Triangle) -> Option<usize>
+        requires { to ≤ length self.now.left.now }
+        ensures { result ≡ found to (first (hits self.now.left.now (λ j. in_way (dot_of (xy self.now.p.now) j) t.a t.b t.c)) (to - from) from) }
+    {
+        (from..to).find(
+            |&k|
+                requires { k < 2 ^ 31 }
+            { self.is_hit(k, t) },
+        )
+    }
+
+    // How many of the corners from `from` up to `to` are near: the machine counts several at once. Where there is none, none of them lies in the triangle t.
+    fn count_near(&self, from: usize, to: usize, t: Triangle) -> u32
+        requires { to ≤ length self.now.left.now }
+        ensures { result ≡ 0 → (j : ℕ) → from ≤ j → j < to → hits self.now.left.now (λ i. in_way (dot_of (xy self.now.p.now) i) t.a t.b t.c) j ≡ false }
+    {
+        let mut s: u32 = 0;
+        for k in from..to {
+            s += u32::from(is_near(self.left[k], dot_in(self.p, k), t));
         }
+        s
     }
-    scan(p, left, from, to, t)
-}
 
-// As `scan`, of all corners from `from` on, block by block.
-fn scan_blocks(p: &[f32], left: &[u32], from: usize, t: Triangle) -> Option<usize>
-    requires { (length left.now ≤ 2 ^ 31) × (length left.now * 2 ≤ length p.now) }
-    ensures { result ≡ found (length left.now) (first (hits left.now (λ j. in_way (dot_of (xy p.now) j) t.a t.b t.c)) (length left.now - from) from) }
-{
-    let n = left.len();
-    for k in (from..n).step_by(BLOCK) {
-        let e = n.min(k + BLOCK);
-        if let Some(h) = scan_block(p, left, k, e, t) {
-            return Some(h);
+    // As `scan`, of a block of corners: it is passed as a whole where none of them is near. The last block may be short: then some before it are counted again.
+    fn scan_block(&self, from: usize, to: usize, t: Triangle) -> Option<usize>
+        requires { (from ≤ to) × (to ≤ from + 16) × (to ≤ length self.now.left.now) }
+        ensures { result ≡ found to (first (hits self.now.left.now (λ j. in_way (dot_of (xy self.now.p.now) j) t.a t.b t.c)) (to - from) from) }
+    {
+        if BLOCK <= to {
+            if self.count_near(to - BLOCK, to, t) == 0 {
+                return None;
+            }
         }
+        self.scan(from, to, t)
     }
-    None
-}
 
-// The first corner from `from` on that is left and lies in the triangle q, which is read once.
-fn next_hit(p: &[f32], left: &[u32], from: usize, q: Corner) -> Option<usize>
-    requires { length left.now ≤ 2 ^ 31 }
-    ensures { result ≡ found (length left.now) (first (hits left.now (blocks (xy p.now) q.a q.b q.c)) (length left.now - from) from) }
-{
-    let t = Triangle {
-        a: dot_at(p, q.a),
-        b: dot_at(p, q.b),
-        c: dot_at(p, q.c),
-    };
-    if p.len() / 2 < left.len() {
-        return scan(p, left, from, left.len(), t);
+    // As `scan`, of all corners from `from` on, block by block.
+    fn scan_blocks(&self, from: usize, t: Triangle) -> Option<usize>
+        ensures { result ≡ found (length self.now.left.now) (first (hits self.now.left.now (λ j. in_way (dot_of (xy self.now.p.now) j) t.a t.b t.c)) (length self.now.left.now - from) from) }
+    {
+        let n = self.left.len();
+        for k in (from..n).step_by(BLOCK) {
+            let e = n.min(k + BLOCK);
+            if let Some(h) = self.scan_block(k, e, t) {
+                return Some(h);
+            }
+        }
+        None
     }
-    scan_blocks(p, left, from, t)
+
+    // The first corner from `from` on that is left and lies in the triangle q, which is read once.
+    fn next_hit(&self, from: usize, q: Corner) -> Option<usize>
+        ensures { result ≡ found (length self.now.left.now) (first (hits self.now.left.now (blocks (xy self.now.p.now) q.a q.b q.c)) (length self.now.left.now - from) from) }
+    {
+        let t = Triangle {
+            a: dot_at(self.p, q.a),
+            b: dot_at(self.p, q.b),
+            c: dot_at(self.p, q.c),
+        };
+        self.scan_blocks(from, t)
+    }
 }
 
 // A word becomes 0. What it was.
@@ -175,21 +181,6 @@ fn take_word(s: &mut [u32], k: usize) -> u32
     let x = get(s, k);
     put(s, k, 0);
     x
-}
-
-// As `next_hit`, with the flags of its corners put out meanwhile: they are always near, and would keep their blocks from being passed.
-fn other_hit(p: &[f32], left: &mut [u32], from: usize, q: Corner) -> Option<usize>
-    requires { length left.old ≤ 2 ^ 31 }
-    ensures { (result ≡ found (length left.old) (first (hits left.old (blocks (xy p.now) q.a q.b q.c)) (length left.old - from) from)) × (left.new ≡ left.old) }
-{
-    let x = take_word(left, q.a as usize);
-    let y = take_word(left, q.b as usize);
-    let z = take_word(left, q.c as usize);
-    let k = next_hit(p, left, from, q);
-    put(left, q.c as usize, z);
-    put(left, q.b as usize, y);
-    put(left, q.a as usize, x);
-    k
 }
 
 fn place_before(m: usize, i: usize) -> usize
@@ -265,6 +256,8 @@ pub struct Search<'p, 'w> {
     pub p: &'p [f32],
     pub left: &'w mut [u32],
     pub memo: &'w mut [u32],
+    ghost few: { length left.now ≤ 2 ^ 31 },
+    ghost placed: { length left.now * 2 ≤ length p.now },
 }
 
 impl<'p, 'w> Search<'p, 'w> {
@@ -294,14 +287,30 @@ impl<'p, 'w> Search<'p, 'w> {
         put(self.memo, k + 2, word_of(f));
     }
 
+    // As `next_hit`, with the flags of its corners put out meanwhile: they are always near, and would keep their blocks from being passed.
+    fn other_hit(&mut self, from: usize, q: Corner) -> Option<usize>
+        ensures { (result ≡ found (length self.old.left.now) (first (hits self.old.left.now (blocks (xy self.old.p.now) q.a q.b q.c)) (length self.old.left.now - from) from))
+            × (self.new.left.now ≡ self.old.left.now) × (self.new.memo.now ≡ self.old.memo.now) × (self.new.p ≡ self.old.p) }
+    {
+        let left = &mut *self.left;
+        let x = take_word(left, q.a as usize);
+        let y = take_word(left, q.b as usize);
+        let z = take_word(left, q.c as usize);
+        let k = Field { p: self.p, left }.next_hit(from, q);
+        put(left, q.c as usize, z);
+        put(left, q.b as usize, y);
+        put(left, q.a as usize, x);
+        k
+    }
+
     // Whether q, which is convex, is an ear; no corner before `from` that is left lies in it.
     fn search(&mut self, q: Corner, from: usize) -> bool
-        requires { (length self.old.left.now ≤ 2 ^ 31) × (from ≤ length self.old.left.now) × (le (cross2 (xy self.old.p.now q.a) (xy self.old.p.now q.b) (xy self.old.p.now q.c)) +0 ≡ false)
+        requires { (from ≤ length self.old.left.now) × (le (cross2 (xy self.old.p.now q.a) (xy self.old.p.now q.b) (xy self.old.p.now q.c)) +0 ≡ false)
             × Clear (xy self.old.p.now) self.old.left.now q.a q.b q.c from × Sound (xy self.old.p.now) self.old.left.now self.old.memo.now }
         ensures { (result ≡ ear_of (xy self.old.p.now) self.old.left.now q.a q.b q.c)
             × Searched (xy self.old.p.now) self.old.left.now self.new.left.now self.new.memo.now × (self.new.p ≡ self.old.p) }
     {
-        let Some(k) = other_hit(self.p, self.left, from, q) else {
+        let Some(k) = self.other_hit(from, q) else {
             return true;
         };
         self.store(q, Finding::Blocked(k));
@@ -310,7 +319,7 @@ impl<'p, 'w> Search<'p, 'w> {
 
     // Whether q, of which f was found, is an ear.
     fn decide(&mut self, q: Corner, f: Finding) -> bool
-        requires { (length self.old.left.now ≤ 2 ^ 31) × Known (xy self.old.p.now) self.old.left.now q.a q.b q.c f × Sound (xy self.old.p.now) self.old.left.now self.old.memo.now }
+        requires { Known (xy self.old.p.now) self.old.left.now q.a q.b q.c f × Sound (xy self.old.p.now) self.old.left.now self.old.memo.now }
         ensures { (result ≡ ear_of (xy self.old.p.now) self.old.left.now q.a q.b q.c)
             × Searched (xy self.old.p.now) self.old.left.now self.new.left.now self.new.memo.now × (self.new.p ≡ self.old.p) }
     {
@@ -333,7 +342,7 @@ impl<'p, 'w> Search<'p, 'w> {
     }
 
     fn is_ear(&mut self, order: &[u32], i: usize) -> bool
-        requires { (i < length order.now) × (length self.old.left.now ≤ 2 ^ 31) × Tells self.old.left.now order.now × Sound (xy self.old.p.now) self.old.left.now self.old.memo.now }
+        requires { (i < length order.now) × Tells self.old.left.now order.now × Sound (xy self.old.p.now) self.old.left.now self.old.memo.now }
         ensures { (result ≡ is_ear (xy self.old.p.now) order.now i)
             × Searched (xy self.old.p.now) self.old.left.now self.new.left.now self.new.memo.now × (self.new.p ≡ self.old.p) }
     {
@@ -344,7 +353,7 @@ impl<'p, 'w> Search<'p, 'w> {
 
     // The place of the first ear in a working order.
     pub fn first_ear(&mut self, order: &[u32]) -> Option<usize>
-        requires { (length self.old.left.now ≤ 2 ^ 31) × Tells self.old.left.now order.now × Sound (xy self.old.p.now) self.old.left.now self.old.memo.now }
+        requires { Tells self.old.left.now order.now × Sound (xy self.old.p.now) self.old.left.now self.old.memo.now }
         ensures { (result ≡ found (length order.now) (first_ear (xy self.old.p.now) order.now))
             × Searched (xy self.old.p.now) self.old.left.now self.new.left.now self.new.memo.now × (self.new.p ≡ self.old.p) }
     {

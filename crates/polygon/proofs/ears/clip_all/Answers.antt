@@ -3,7 +3,7 @@ use mathlib.Core.Path.{◌≡◌, refl, sym, ap, ◌∙◌}
 use Prim.Native.Nat.{ℕ, ◌-◌, ◌*◌, ◌≤◌, ◌<◌}
 use native.Mathlib.Nat.{sub-zero}
 use native.Mathlib.Omega.{arith}
-use lib.ListN.{length, take, get_or, length-set}
+use lib.ListN.{length, take}
 use lib.Seq.{sets, length-take-le, take_all}
 use Rattle.polygon.specs.Ears.{Tri, flat, turn, fan, clip, first_ear}
 use Rattle.polygon.specs.Memo.{xy}
@@ -31,11 +31,11 @@ stops c =
 pub loop-t-init : goal.loop-t-init
 loop-t-init c =
     let e : take (length c.args.order.now) c.args.order.now ≡ c.args.order.now = take_all _ c.args.order.now (omega arith) in
-    (omega arith, rw (e, sub-zero), rw e c.requires.2, refl, c.requires.1)
+    (omega arith, rw (e, sub-zero), rw e c.requires.1, refl)
 
 pub first_ear-requires : goal.first_ear-requires
 first_ear-requires c =
-    let H = c.loop-t.invariant.2 in rw c.loop-t.invariant.3 (c.loop-t.invariant.4, H.tells, H.sound)
+    let H = c.loop-t.invariant.2 in rw c.loop-t.invariant.3 (H.tells, H.sound)
 
 pub cut-requires : goal.cut-requires
 cut-requires c =
@@ -60,7 +60,6 @@ loop-t-preserved c =
           (omega arith) (omega arith) c.loop-t-test.true some.0 G.0.order G.3 ∙ c.loop-t.invariant.1,
       rw G.1 (held_turn P m c.in-Some.i w _ _ _ _ _ hi hm H.tells H.once F.1 G.0),
       G.2 ∙ F.2,
-      omega (arith, ap length G.0.left, ap length F.1.left, length-set c.first_ear.new.self.left.now (get_or (take m w) c.in-Some.i 0) 0, c.loop-t.invariant.4),
     )
 
 pub returns : goal.returns

@@ -1,6 +1,6 @@
 use mathlib.Core.List.{map}
 use mathlib.Core.Path.{◌≡◌}
-use Prim.Native.Nat.{◌+◌, ◌-◌, ◌*◌, ◌^◌, ◌≤◌}
+use Prim.Native.Nat.{◌+◌, ◌-◌, ◌*◌}
 use lib.ListN.{length, take}
 use lib.Seq.{sets}
 use Rattle.polygon.specs.Ears.{flat, turn, clip}
@@ -11,4 +11,4 @@ abbrev pub invariant-loop-t : goal.invariant-loop-t
 invariant-loop-t l = (l.t + l.m ≡ length l.initial.order)
     × (sets l.out (l.t * 3) (flat (map (turn l.rev) (clip (xy l.initial.s.p.now) (length l.initial.order * length l.initial.order - l.t) (take l.m l.order))))
     ≡ sets l.initial.out 0 (flat (map (turn l.rev) (clip (xy l.initial.s.p.now) (length l.initial.order * length l.initial.order) l.initial.order))))
-    × Held (xy l.initial.s.p.now) (take l.m l.order) l.s.left.now l.s.memo.now × (l.s.p ≡ l.initial.s.p) × (length l.s.left.now ≤ 2 ^ 31)
+    × Held (xy l.initial.s.p.now) (take l.m l.order) l.s.left.now l.s.memo.now × (l.s.p ≡ l.initial.s.p)

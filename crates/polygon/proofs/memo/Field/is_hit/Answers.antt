@@ -2,7 +2,7 @@ use mathlib.Core.Path.{ap, ◌∙◌}
 use borrow.Author.Tests.{eq-eqb, ne_eqb}
 use Rattle.polygon.specs.Memo.{hits, in_way}
 use Rattle.polygon.specs.declared.memo.Dot.{Dot}
-use Rattle.polygon.proofs.memo.is_hit.Goals as goal
+use Rattle.polygon.proofs.memo.Field.is_hit.Goals as goal
 
 pub returns-then-get-eq1 : goal.returns-then-get-eq1
 unfolding hits
