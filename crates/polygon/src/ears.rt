@@ -30,8 +30,8 @@ fn take_out(idx: &mut [u32], i: usize)
     idx.copy_within(i + 1.., i);
 }
 
-// `rev` says that the corners go round clockwise, which is found once of each polygon, and no step to run: the order and the triangles of such a
-// polygon are its own turned back, and a closure for each of both would say that twice.
+// `rev` says that the corners go round clockwise; it is found once of each polygon. A flag and not a closure: it turns the order here and each triangle in
+// `put_tri`, so it would take two closures that say the same.
 fn place_of(rev: bool, n: usize, i: usize) -> u32
     requires { (n ≤ 2 ^ 31) × (i < n) }
     ensures { result ≡ place rev n i }
@@ -90,22 +90,30 @@ fn cut(s: &mut Search, order: &mut [u32], m: usize, i: usize, out: &mut [u32], t
     take_out(&mut order[..m], i);
 }
 
+// Ears are clipped as long as more than three corners are left and there is one. How many corners are left then, in front of the order.
+fn clip_ears(s: &mut Search, order: &mut [u32], out: &mut [u32], rev: bool) -> usize
+    requires { (length order.old ≤ 2 ^ 31) × Held (xy s.old.p.now) order.old s.old.left.now s.old.memo.now }
+    ensures { (result ≤ length order.old)
+        × (sets out.new ((length order.old - result) * 3) (flat (map (turn rev) (fan (take result order.new))))
+        ≡ sets out.old 0 (flat (map (turn rev) (clip (xy s.old.p.now) (length order.old * length order.old) order.old)))) }
+{
+    let n = order.len();
+    for t in 0..n.saturating_sub(3) {
+        let m = n - t;
+        let Some(i) = s.first_ear(&order[..m]) else {
+            return m;
+        };
+        cut(s, order, m, i, out, t, rev);
+    }
+    n.min(3)
+}
+
 fn clip_all(s: &mut Search, order: &mut [u32], out: &mut [u32], rev: bool)
     requires { (length order.old ≤ 2 ^ 31) × Held (xy s.old.p.now) order.old s.old.left.now s.old.memo.now }
     ensures { out.new ≡ sets out.old 0 (flat (map (turn rev) (clip (xy s.old.p.now) (length order.old * length order.old) order.old))) }
 {
     let n = order.len();
-    let mut m = n;
-    for t in 0..n * n {
-        if m <= 3 {
-            break;
-        }
-        let Some(i) = s.first_ear(&order[..m]) else {
-            break;
-        };
-        cut(s, order, m, i, out, t, rev);
-        m -= 1;
-    }
+    let m = clip_ears(s, order, out, rev);
     put_fan(&order[..m], out, n - m, rev);
 }
 
