@@ -59,6 +59,7 @@ fn tri_normal(a: V3, b: V3, c: V3) -> Option<V3>
 // ---- the first usable triangle of each vertex
 
 // The triangle that a word of the table names: the word is one more than its number, 0 for none.
+#[tactic(auto, using(crate::proofs::Table::named_sub))]
 fn named_by(word: u32) -> Option<u32>
     ensures { result ≡ named_by word }
 {
@@ -185,6 +186,7 @@ fn scaled(w: Words3, u: V3, l: f32) -> Words3
 }
 
 // Whether the square of a length, by its bits, is 1 but for some roundings, as that of a vector that was scaled is.
+#[tactic(auto, unfolding(crate::specs::Mend::near_one))]
 fn is_near_one(square: u32) -> bool
     ensures { result ≡ near_one square }
 {

@@ -227,6 +227,7 @@ pub enum Finding {
 }
 
 // What a word that is kept says.
+#[tactic(auto, using(crate::proofs::Tables::finding_far), unfolding(crate::specs::Memo::finding))]
 fn finding_of(word: u32) -> Finding
     ensures { result ≡ finding word }
 {
@@ -238,6 +239,7 @@ fn finding_of(word: u32) -> Finding
 }
 
 // The word that says it.
+#[tactic(auto, unfolding(crate::specs::Memo::word))]
 fn word_of(f: Finding) -> u32
     requires { word f < 2 ^ 32 }
     ensures { result ≡ word f }

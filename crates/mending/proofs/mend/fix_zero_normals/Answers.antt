@@ -13,9 +13,6 @@ use Rattle.mending.proofs.mend.fix_zero_normals.Goals.{in-Some, in-None}
 pub loop-v-init : goal.loop-v-init
 loop-v-init c = (mending_start _ _ _ _, none_made _ _ _ _)
 
-pub put_words-requires : goal.put_words-requires
-put_words-requires c = omega (arith, c.loop-v.invariant.0.long)
-
 pub loop-v-preserved : goal.loop-v-preserved
 loop-v-preserved c =
     let w = c.words_at-w.result in

@@ -17,9 +17,6 @@ loop-t-init c =
     let e : take (length c.args.order.now) c.args.order.now ≡ c.args.order.now = take_all _ c.args.order.now (omega arith) in
     (rw (sub-zero (length c.args.order.now * length c.args.order.now), sub-zero (length c.args.order.now), e), rw (sub-zero, e) c.requires.1, refl)
 
-pub first_ear-requires : goal.first_ear-requires
-first_ear-requires c = let H = c.loop-t.invariant.1 in rw c.loop-t.invariant.2 (H.tells, H.sound)
-
 pub returns-in_default : goal.returns-in_default
 returns-in_default c =
     let P = xy c.args.s.now.p.now in

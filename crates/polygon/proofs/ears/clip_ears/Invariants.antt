@@ -1,6 +1,6 @@
 use mathlib.Core.List.{map}
 use mathlib.Core.Path.{◌≡◌}
-use Prim.Native.Nat.{◌+◌, ◌-◌, ◌*◌}
+use Prim.Native.Nat.{◌-◌, ◌*◌}
 use lib.ListN.{length, take}
 use lib.Seq.{sets}
 use Rattle.polygon.specs.Ears.{flat, turn, clip}
