@@ -41,7 +41,7 @@ fn face_tris(plane: &[f32], convex: bool, scratch: &mut [u32], out: &mut [u32])
 }
 
 // The triangles of a face of n corners, from place `at` of `out` on, as triples of its own corners. `plane` begins with its points in the plane, but
-// for a fan. `scratch` is room to work in.
+// for a fan; it may be longer, so n stands beside it. `scratch` is room to work in.
 pub fn triangulate(
     plane: &[f32],
     n: usize,

@@ -91,86 +91,90 @@ fn is_near(f: u32, d: Dot, t: Triangle) -> bool
     f == 1 && cross(t.b, t.c, d) >= 0.0 && cross(t.c, t.a, d) >= 0.0
 }
 
+// The triangle q, which is read once for all corners.
+fn triangle_at(p: &[f32], q: Corner) -> Triangle
+    ensures a { result.a ≡ dot_of (xy p.now) q.a }
+    ensures b { result.b ≡ dot_of (xy p.now) q.b }
+    ensures c { result.c ≡ dot_of (xy p.now) q.c }
+{
+    Triangle {
+        a: dot_at(p, q.a),
+        b: dot_at(p, q.b),
+        c: dot_at(p, q.c),
+    }
+}
+
 // ---- the corners that are left
 
-// The coordinates of a polygon, two for each corner; and a word for each, 1 while it is left.
+// Where a corner in the way is looked for: the coordinates of a polygon, two for each corner; a word for each corner, 1 while it is left; and the triangle.
 #[derive(Clone, Copy)]
 struct Field<'a> {
     p: &'a [f32],
     left: &'a [u32],
+    t: Triangle,
     ghost few: { length left.now ≤ 2 ^ 31 },
     ghost placed: { length left.now * 2 ≤ length p.now },
 }
 
 impl<'a> Field<'a> {
-    fn is_hit(&self, k: usize, t: Triangle) -> bool
+    fn is_hit(&self, k: usize) -> bool
         requires { k < 2 ^ 31 }
-        ensures { result ≡ hits self.now.left.now (λ j. in_way (dot_of (xy self.now.p.now) j) t.a t.b t.c) k }
+        ensures { result ≡ hits self.now.left.now (λ j. in_way (dot_of (xy self.now.p.now) j) self.now.t.a self.now.t.b self.now.t.c) k }
     {
-        get(self.left, k) == 1 && is_in_way(dot_at(self.p, k as u32), t)
+        get(self.left, k) == 1 && is_in_way(dot_at(self.p, k as u32), self.t)
     }
 
-    // The first of the corners from `from` up to `to` that is left and lies in the triangle t.
-    fn scan(&self, from: usize, to: usize, t: Triangle) -> Option<usize>
+    // The first of the corners from `from` up to `to` that is left and lies in the triangle. Not inlined: in `scan_blocks` it took the registers of
+    // the blocks that are passed (measured).
+    #[inline(never)]
+    fn scan(&self, from: usize, to: usize) -> Option<usize>
         requires { to ≤ length self.now.left.now }
-        ensures { result ≡ found to (first (hits self.now.left.now (λ j. in_way (dot_of (xy self.now.p.now) j) t.a t.b t.c)) (to - from) from) }
+        ensures { result ≡ found to (first (hits self.now.left.now (λ j. in_way (dot_of (xy self.now.p.now) j) self.now.t.a self.now.t.b self.now.t.c)) (to - from) from) }
     {
         (from..to).find(
             |&k|
                 requires { k < 2 ^ 31 }
-            { self.is_hit(k, t) },
+            { self.is_hit(k) },
         )
     }
 
-    // How many of the corners from `from` up to `to` are near: the machine counts several at once. Where there is none, none of them lies in the triangle t.
-    fn count_near(&self, from: usize, to: usize, t: Triangle) -> u32
+    // How many of the corners from `from` up to `to` are near. Where there is none, none of them lies in the triangle.
+    fn count_near(&self, from: usize, to: usize) -> u32
         requires { to ≤ length self.now.left.now }
-        ensures { result ≡ 0 → (j : ℕ) → from ≤ j → j < to → hits self.now.left.now (λ i. in_way (dot_of (xy self.now.p.now) i) t.a t.b t.c) j ≡ false }
+        ensures { result ≡ 0 → (j : ℕ) → from ≤ j → j < to → hits self.now.left.now (λ i. in_way (dot_of (xy self.now.p.now) i) self.now.t.a self.now.t.b self.now.t.c) j ≡ false }
     {
         let mut s: u32 = 0;
         for k in from..to {
-            s += u32::from(is_near(self.left[k], dot_in(self.p, k), t));
+            s += u32::from(is_near(self.left[k], dot_in(self.p, k), self.t));
         }
         s
     }
 
     // As `scan`, of a block of corners: it is passed as a whole where none of them is near. The last block may be short: then some before it are counted again.
-    fn scan_block(&self, from: usize, to: usize, t: Triangle) -> Option<usize>
+    fn scan_block(&self, from: usize, to: usize) -> Option<usize>
         requires { (from ≤ to) × (to ≤ from + 16) × (to ≤ length self.now.left.now) }
-        ensures { result ≡ found to (first (hits self.now.left.now (λ j. in_way (dot_of (xy self.now.p.now) j) t.a t.b t.c)) (to - from) from) }
+        ensures { result ≡ found to (first (hits self.now.left.now (λ j. in_way (dot_of (xy self.now.p.now) j) self.now.t.a self.now.t.b self.now.t.c)) (to - from) from) }
     {
         if BLOCK <= to {
-            if self.count_near(to - BLOCK, to, t) == 0 {
+            if self.count_near(to - BLOCK, to) == 0 {
                 return None;
             }
         }
-        self.scan(from, to, t)
+        self.scan(from, to)
     }
 
     // As `scan`, of all corners from `from` on, block by block.
-    fn scan_blocks(&self, from: usize, t: Triangle) -> Option<usize>
-        ensures { result ≡ found (length self.now.left.now) (first (hits self.now.left.now (λ j. in_way (dot_of (xy self.now.p.now) j) t.a t.b t.c)) (length self.now.left.now - from) from) }
+    fn scan_blocks(&self, from: usize) -> Option<usize>
+        ensures { result ≡ found (length self.now.left.now) (first (hits self.now.left.now (λ j. in_way (dot_of (xy self.now.p.now) j) self.now.t.a self.now.t.b self.now.t.c)) (length self.now.left.now - from) from) }
     {
         let n = self.left.len();
         for k in (from..n).step_by(BLOCK) {
             let e = n.min(k + BLOCK);
-            if let Some(h) = self.scan_block(k, e, t) {
+            if let Some(h) = self.scan_block(k, e) {
                 return Some(h);
             }
         }
         None
-    }
-
-    // The first corner from `from` on that is left and lies in the triangle q, which is read once.
-    fn next_hit(&self, from: usize, q: Corner) -> Option<usize>
-        ensures { result ≡ found (length self.now.left.now) (first (hits self.now.left.now (blocks (xy self.now.p.now) q.a q.b q.c)) (length self.now.left.now - from) from) }
-    {
-        let t = Triangle {
-            a: dot_at(self.p, q.a),
-            b: dot_at(self.p, q.b),
-            c: dot_at(self.p, q.c),
-        };
-        self.scan_blocks(from, t)
     }
 }
 
@@ -289,7 +293,8 @@ impl<'p, 'w> Search<'p, 'w> {
         put(self.memo, k + 2, word_of(f));
     }
 
-    // As `next_hit`, with the flags of its corners put out meanwhile: they are always near, and would keep their blocks from being passed.
+    // The first corner from `from` on that is left and lies in the triangle q. The flags of its corners are put out meanwhile: they are always near, and
+    // would keep their blocks from being passed.
     fn other_hit(&mut self, from: usize, q: Corner) -> Option<usize>
         ensures { (result ≡ found (length self.old.left.now) (first (hits self.old.left.now (blocks (xy self.old.p.now) q.a q.b q.c)) (length self.old.left.now - from) from))
             × (self.new.left.now ≡ self.old.left.now) × (self.new.memo.now ≡ self.old.memo.now) × (self.new.p ≡ self.old.p) }
@@ -298,7 +303,12 @@ impl<'p, 'w> Search<'p, 'w> {
         let x = take_word(left, q.a as usize);
         let y = take_word(left, q.b as usize);
         let z = take_word(left, q.c as usize);
-        let k = Field { p: self.p, left }.next_hit(from, q);
+        let k = Field {
+            p: self.p,
+            left,
+            t: triangle_at(self.p, q),
+        }
+        .scan_blocks(from);
         put(left, q.c as usize, z);
         put(left, q.b as usize, y);
         put(left, q.a as usize, x);

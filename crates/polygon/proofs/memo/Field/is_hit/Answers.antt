@@ -7,7 +7,7 @@ use Rattle.polygon.proofs.memo.Field.is_hit.Goals as goal
 pub returns-then-get-eq1 : goal.returns-then-get-eq1
 unfolding hits
 returns-then-get-eq1 c =
-    simp (← c.get.ensures, eq-eqb _ _ c.if-get-eq1.true) (c.is_in_way.ensures ∙ ap (λ (d : Dot). in_way d c.args.t.a c.args.t.b c.args.t.c) c.dot_at.ensures)
+    simp (← c.get.ensures, eq-eqb _ _ c.if-get-eq1.true) (c.is_in_way.ensures ∙ ap (λ (d : Dot). in_way d c.args.self.now.t.a c.args.self.now.t.b c.args.self.now.t.c) c.dot_at.ensures)
 
 pub returns-else-get-eq1 : goal.returns-else-get-eq1
 unfolding hits

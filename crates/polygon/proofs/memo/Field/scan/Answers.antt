@@ -9,7 +9,7 @@ find-requires c = record { can = tt; finite = tt; callable = serves_from_Range (
 
 pub returns : goal.returns
 returns c =
-    let f = hits c.args.self.now.left.now (λ j. in_way (dot_of (xy c.args.self.now.p.now) j) c.args.t.a c.args.t.b c.args.t.c) in
+    let f = hits c.args.self.now.left.now (λ j. in_way (dot_of (xy c.args.self.now.p.now) j) c.args.self.now.t.a c.args.self.now.t.b c.args.self.now.t.c) in
     found_by f c.args.from c.args.to _
     (first_from_Range _ _ _ _ (λ i. f i ≡ true) (λ i. f i ≡ false) c.find.ensures.ran
     (λ x q k. search (rules, tests))

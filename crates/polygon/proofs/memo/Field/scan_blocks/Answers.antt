@@ -16,7 +16,7 @@ returns-in-Some c =
 
 pub loop-k-preserved : goal.loop-k-preserved
 loop-k-preserved c =
-    let f = hits c.args.self.now.left.now (λ j. in_way (dot_of (xy c.args.self.now.p.now) j) c.args.t.a c.args.t.b c.args.t.c) in
+    let f = hits c.args.self.now.left.now (λ j. in_way (dot_of (xy c.args.self.now.p.now) j) c.args.self.now.t.a c.args.self.now.t.b c.args.self.now.t.c) in
     let e : c.min-e.result ≡ c.loop-k.k + 16 = omega arith in
     (sym (block_past f _ _ _ _ (omega arith) (omega arith) refl (none_found _ _ (sym c.in_default.is ∙ c.scan_block.ensures)) ∙ ap (λ (k : ℕ). first f (length c.args.self.now.left.now - k) k) e) ∙ c.loop-k.invariant)
 
