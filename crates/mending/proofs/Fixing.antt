@@ -23,7 +23,7 @@ use Rattle.mesh.specs.Mend.{visible, or_words, renorm, vertex_spot, first_normal
 use Rattle.mesh.specs.Mesh.{mesh_of}
 use Rattle.lists.proofs.Lists.{All_of, length_words, length_map_n}
 use Rattle.lists.proofs.Totals.{map_n_tab}
-use Rattle.mending.specs.Mend.{lent_frame, lent_key, lent_keys, mended_words, found, Firsts, Served}
+use Rattle.mending.specs.Mend.{lent_frame, lent_key, lent_keys, mended_words, named_by, found, Firsts, Served}
 use Rattle.mending.proofs.Threes.{Threes, threes_start, threes_go, threes_end}
 use Rattle.mending.proofs.Lent.{first_same, spot_in, spot_out}
 
@@ -50,9 +50,9 @@ mend_none w n other l en el eu =
 
 -- then it is what the table has
 pub found_first : (ps is t : List ℕ) (count v k : ℕ) (o : V3) → v < length t → Firsts (lent_frame ps) (lent_keys [] count) is t → k ≡ get_or t v 0
-    → o ≡ found (lent_frame ps) (lent_keys [] count) is k y_axis → o ≡ first_normal (lent_frame ps) (lent_keys [] count) v is
+    → o ≡ found (lent_frame ps) (lent_keys [] count) is (named_by k) y_axis → o ≡ first_normal (lent_frame ps) (lent_keys [] count) v is
 unfolding Firsts
-found_first ps is t count v k o h F ek eo = eo ∙ ap (λ (k : ℕ). found (lent_frame ps) (lent_keys [] count) is k y_axis) ek ∙ F v h
+found_first ps is t count v k o h F ek eo = eo ∙ ap (λ (k : ℕ). found (lent_frame ps) (lent_keys [] count) is (named_by k) y_axis) ek ∙ F v h
 
 -- ---- the table
 

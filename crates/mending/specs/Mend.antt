@@ -1,5 +1,5 @@
 -- FORMAT 10.3, fix_zero_normals: what is lent to it, as a mesh; and how the first usable triangle of each vertex is held in a table.
-use Rattle.std.specs.Prelude.{◌≡◌, Bool, true, ◌&&◌, cond, List, [], map, ℕ, zero, suc, ◌+◌, ◌*◌, ◌<◌, leb, ltb, eqb, length, get_or, set}
+use Rattle.std.specs.Prelude.{◌≡◌, Bool, true, ◌&&◌, List, [], map, ℕ, zero, suc, ◌+◌, ◌*◌, ◌<◌, leb, ltb, length, get_or, set}
 use Rattle.math.specs.declared.vector.V3.{V3}
 use Rattle.std.specs.Prelude.{Option}
 use Rattle.std.specs.Prelude.{Some, None}
@@ -37,18 +37,27 @@ unfoldable pub triangle_normal : Frame → List Key → List ℕ → ℕ → (Op
 triangle_normal F vs is n =
     tri_normal (vertex_spot F vs (get_or is (n * 3 + 0) 0)) (vertex_spot F vs (get_or is (n * 3 + 1) 0)) (vertex_spot F vs (get_or is (n * 3 + 2) 0))
 
--- FORMAT 10.3: the normal that an entry stands for; `rest` where there is none yet
-abbrev pub found : Frame → List Key → List ℕ → ℕ → V3 → V3
-found F vs is zero rest = rest
-found F vs is (suc n) rest = or_else (triangle_normal F vs is n) y_axis
+-- FORMAT 10.3: the triangle that a word of the table names
+unfoldable pub named_by : ℕ → Option ℕ
+named_by zero = None
+named_by (suc n) = Some n
+
+-- FORMAT 10.3: the normal of the triangle that is named; `rest` where none is yet
+abbrev pub found : Frame → List Key → List ℕ → Option ℕ → V3 → V3
+found F vs is None rest = rest
+found F vs is (Some n) rest = or_else (triangle_normal F vs is n) y_axis
 
 -- FORMAT 10.3, fix_zero_normals (is_none): the first is kept
+abbrev pub marked_by : Option ℕ → List ℕ → ℕ → ℕ → List ℕ
+marked_by None t v n = set t v (n + 1)
+marked_by (Some m) t v n = t
+
 unfoldable pub marked : List ℕ → ℕ → ℕ → List ℕ
-marked t v k = cond (eqb (get_or t v 0) 0) (set t v k) t
+marked t v n = marked_by (named_by (get_or t v 0)) t v n
 
 -- FORMAT 10.3: the corners of triangle n
 unfoldable pub marked_all : List ℕ → List ℕ → ℕ → List ℕ
-marked_all is t n = marked (marked (marked t (get_or is (n * 3 + 0) 0) (n + 1)) (get_or is (n * 3 + 1) 0) (n + 1)) (get_or is (n * 3 + 2) 0) (n + 1)
+marked_all is t n = marked (marked (marked t (get_or is (n * 3 + 0) 0) n) (get_or is (n * 3 + 1) 0) n) (get_or is (n * 3 + 2) 0) n
 
 -- FORMAT 10.3: only a triangle that has a normal counts
 abbrev pub noted_by : (Option V3) → List ℕ → List ℕ → ℕ → List ℕ
@@ -61,7 +70,7 @@ noted F vs is t n = noted_by (triangle_normal F vs is n) is t n
 
 -- FORMAT 10.3: all triangles are met
 unfoldable pub Firsts : Frame → List Key → List ℕ → List ℕ → Type 0
-Firsts F vs is t = (v : ℕ) → v < length t → found F vs is (get_or t v 0) y_axis ≡ first_normal F vs v is
+Firsts F vs is t = (v : ℕ) → v < length t → found F vs is (named_by (get_or t v 0)) y_axis ≡ first_normal F vs v is
 
 -- FORMAT 10.3: where the table is made, it has the first usable triangle of each vertex
 unfoldable pub Served : Bool → List ℕ → List ℕ → ℕ → List ℕ → Type 0

@@ -1,23 +1,24 @@
 // FORMAT 10.3, fix_zero_normals: a pass over the vertices; at the first normal that cannot be scaled, a pass over the triangles notes the first usable one of
 // each vertex.
 ghost use Rattle.std.specs.Prelude.{◌≡◌, true, cond, [], ◌∷◌, unwrap_or, ◌++◌, ◌+◌, ◌*◌, ◌^◌, ◌≤◌, ◌<◌, length, get_or, drop};
-ghost use Rattle.std.proofs.lemmas.List.Edits.{sets};
 ghost use Rattle.std.specs.Float.{binary32};
 ghost use Rattle.std.specs.Float.Ieee.{sub, lt};
+ghost use Rattle.lists.specs.Parts.{spliced};
 ghost use Rattle.math.specs.Vector.{one_f, y_axis, unit_of};
 ghost use Rattle.math.specs.Order.{magnitude};
 ghost use Rattle.mesh.specs.Words.{words3, floats, bits, point_words};
 ghost use Rattle.mesh.specs.Mend.{visible, vertex_spot, tri_normal, first_normal, mend_by};
-ghost use Rattle.mending.specs.Mend.{lent_frame, lent_keys, mended_words, triangle_normal, found, marked, marked_all, noted, Firsts, Served, near_one};
+ghost use Rattle.mending.specs.Mend.{lent_frame, lent_keys, mended_words, triangle_normal, named_by, found, marked, marked_all, noted, Firsts, Served, near_one};
 
 use bits::Words3;
 use block::VertexNumber;
-use lists::{get, put};
+use lists::{get, put, put_all};
 use math::{V3, Y_AXIS};
 use mesh::{floats_of, words_of};
 
 // ---- the words of a vertex
 
+// A read past the end is 0: so no three words need be there, as a pattern or a slice would ask.
 fn words_at(l: &[u32], v: VertexNumber) -> Words3
     requires { v.0 < 2 ^ 32 }
     ensures { result ≡ point_words l.now v.0 }
@@ -31,13 +32,10 @@ fn words_at(l: &[u32], v: VertexNumber) -> Words3
 }
 
 fn put_words(out: &mut [u32], v: VertexNumber, w: Words3)
-    requires { v.0 < 2 ^ 32 }
-    ensures { out.new ≡ sets out.old (v.0 * 3) (words3 w) }
+    requires { v.0 * 3 + 3 ≤ length out.old }
+    ensures { out.new ≡ spliced out.old (v.0 * 3) (words3 w) }
 {
-    let k = v.0 * 3;
-    put(out, k, w.x);
-    put(out, k + 1, w.y);
-    put(out, k + 2, w.z);
+    put_all(out, v.0 * 3, &[w.x, w.y, w.z]);
 }
 
 // ---- what is lent
@@ -60,13 +58,29 @@ fn tri_normal(a: V3, b: V3, c: V3) -> Option<V3>
 
 // ---- the first usable triangle of each vertex
 
-// The first triangle's number is kept.
-fn mark(table: &mut [u32], v: VertexNumber, k: u32)
-    ensures { table.new ≡ marked table.old v.0 k }
+// The triangle that a word of the table names: the word is one more than its number, 0 for none.
+#[tactic(auto, using(crate::proofs::Table::named_sub))]
+fn named_by(word: u32) -> Option<u32>
+    ensures { result ≡ named_by word }
 {
-    let old = get(table, v.0);
-    if old == 0 {
-        put(table, v.0, k);
+    word.checked_sub(1)
+}
+
+// The word that names triangle n.
+fn word_of(n: usize) -> u32
+    requires { n + 1 < 2 ^ 32 }
+    ensures { result ≡ n + 1 }
+{
+    (n + 1) as u32
+}
+
+// Triangle n is noted where none is.
+fn mark(table: &mut [u32], v: VertexNumber, n: usize)
+    requires { n + 1 < 2 ^ 32 }
+    ensures { table.new ≡ marked table.old v.0 n }
+{
+    if named_by(get(table, v.0)).is_none() {
+        put(table, v.0, word_of(n));
     }
 }
 
@@ -103,10 +117,9 @@ impl<'a> Lent<'a> {
         requires { n + 1 < 2 ^ 32 }
         ensures { table.new ≡ marked_all self.now.indices.now table.old n }
     {
-        let k = (n + 1) as u32;
-        mark(table, self.corner(n, 0), k);
-        mark(table, self.corner(n, 1), k);
-        mark(table, self.corner(n, 2), k);
+        mark(table, self.corner(n, 0), n);
+        mark(table, self.corner(n, 1), n);
+        mark(table, self.corner(n, 2), n);
     }
 
     fn note(&self, n: usize, table: &mut [u32])
@@ -128,15 +141,14 @@ impl<'a> Lent<'a> {
         }
     }
 
-    // What the table's entry `k` stands for.
-    fn found_at(&self, k: u32) -> V3
-        ensures { result ≡ found (lent_frame self.now.positions.now) (lent_keys [] self.now.count) self.now.indices.now k y_axis }
+    // The normal that a word of the table stands for.
+    fn found_at(&self, word: u32) -> V3
+        ensures { result ≡ found (lent_frame self.now.positions.now) (lent_keys [] self.now.count) self.now.indices.now (named_by word) y_axis }
     {
-        if k == 0 {
+        let Some(n) = named_by(word) else {
             return Y_AXIS;
-        }
-        let n = (k - 1) as usize;
-        self.triangle_normal(n).unwrap_or(Y_AXIS)
+        };
+        self.triangle_normal(n as usize).unwrap_or(Y_AXIS)
     }
 
     // The table is made when the first normal that cannot be scaled is met. `made` is a flag, as in `fix_zero_normals`.
@@ -174,13 +186,11 @@ fn scaled(w: Words3, u: V3, l: f32) -> Words3
 }
 
 // Whether the square of a length, by its bits, is 1 but for some roundings, as that of a vector that was scaled is.
+#[tactic(auto, unfolding(crate::specs::Mend::near_one))]
 fn is_near_one(square: u32) -> bool
     ensures { result ≡ near_one square }
 {
-    if square < 0x3f7f_ffc0 {
-        return false;
-    }
-    square < 0x3f80_0021
+    0x3f7f_ffc0 <= square && square < 0x3f80_0021
 }
 
 // The normal `w`, kept or scaled, with one root at most; none where it cannot be scaled.

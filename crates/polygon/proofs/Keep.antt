@@ -3,8 +3,9 @@ use mathlib.Core.Path.{◌≡◌, refl, sym, ap, ◌∙◌, subst, fun_ext}
 use mathlib.Core.Bool.{Bool, true, false, not, ◌&&◌}
 use mathlib.Core.List.{List, [], ◌∷◌}
 use mathlib.Core.Logic.{⊎_elim}
-use Prim.Native.Nat.{ℕ, zero, suc, ◌+◌, ◌-◌, ◌*◌, ◌≤◌, ◌<◌}
+use Prim.Native.Nat.{ℕ, zero, suc, ◌+◌, ◌*◌, ◌≤◌, ◌<◌}
 use native.Mathlib.Nat.{eq-or-lt_of_le}
+use native.Mathlib.Numerals.{add-two}
 use native.Mathlib.Omega.{arith}
 use borrow.Author.Tests.{ltb-true, ltb-false, eqb-true, eqb-false, lt-ltb, le-ltb, eq-eqb, ne_eqb}
 use lib.Dec.{ltb, eqb}
@@ -14,7 +15,9 @@ use lib.Ieee.{le}
 use Rattle.lists.specs.Loops.{pick, any, tab, first}
 use Rattle.lists.proofs.Stores.{flag_gone}
 use Rattle.polygon.specs.Ears.{Pt, +0, cross2, blocks, is_ear, before, here, after, remove, place, order}
-use Rattle.polygon.specs.Memo.{hits, hit, Tells, Once, ear_of, Known, Sound, entry}
+use Rattle.polygon.specs.Memo.{hits, hit, Tells, Once, ear_of, Clear, Stands, Known, word, finding, Sound, entry}
+use Rattle.polygon.specs.declared.memo.Finding.{Finding}
+use Rattle.polygon.specs.declared.memo.Finding.TheVariants.{Unknown, Bent, Blocked}
 use Rattle.lists.proofs.Tests.{both, never, and_yes, and_right, and_no, and_over, and_drop, none_head, none_tail, eqb_other}
 use Rattle.lists.proofs.Searches.{first_has, first_find, first_below, any_at, Found, any_tab_find, any_tab_has}
 
@@ -108,19 +111,22 @@ tells_gone left l i t o h g =
     ∙ ap (λ (k : ℕ). ltb (first (hits (set left x 0) g) k 0) k) n
 
 module _ (P : ℕ → Pt) (left : List ℕ) (x : ℕ) where
-  known_gone : (a b c s : ℕ) → Known P left a b c s → Known P (set left x 0) a b c s
-  known_gone a b c s k =
+  known_gone : (a b c : ℕ) (f : Finding) → Known P left a b c f → Known P (set left x 0) a b c f
+  unfolding Known
+  known_gone a b c Unknown k = tt
+  known_gone a b c Bent k = k
+  known_gone a b c (Blocked s) k =
+      let e : length (set left x 0) ≡ length left = length-set left x 0 in
       record {
-        inside = let e : length (set left x 0) ≡ length left = length-set left x 0 in let h = k.inside in omega arith;
-        bent = k.bent;
+        inside = omega (arith, k.inside);
         round = k.round;
-        stands = k.stands;
-        passed = λ (j : ℕ) (h : j + 2 < s). hits_less left x (blocks P a b c) j (k.passed j h);
+        blocked = k.blocked;
+        clear = λ (j : ℕ) (h : j < s). hits_less left x (blocks P a b c) j (k.clear j h);
       }
 
   pub sound_gone : (memo : List ℕ) → Sound P left memo → Sound P (set left x 0) memo
   unfolding Sound
-  sound_gone memo s b = known_gone (get_or memo (b * 3) 0) b (get_or memo (b * 3 + 1) 0) (get_or memo (b * 3 + 2) 0) (s b)
+  sound_gone memo s b = known_gone (get_or memo (b * 3) 0) b (get_or memo (b * 3 + 1) 0) (finding (get_or memo (b * 3 + 2) 0)) (s b)
 
 -- ---- at the start
 
@@ -185,21 +191,9 @@ tells_start left rev n e on g = both (any g (tab (place rev n) n 0)) (ltb (first
         any_tab_has g (place rev n) n 0 (place rev n j) (omega arith) (omega arith) (ap g (place_place rev n j v) ∙ q)
 
 module _ (P : ℕ → Pt) (left : List ℕ) where
-  -- nothing is known
-  pub known_none : (a b c : ℕ) → Known P left a b c 0
-  known_none a b c =
-      record {
-        inside = omega arith;
-        bent = λ (e : ◌≡◌ {A = ℕ} 0 1). let z : ⊥ = omega arith in absurd z;
-        round = λ (e : 1 < 0). let z : ⊥ = omega arith in absurd z;
-        stands = λ (e : 1 < 0). let z : ⊥ = omega arith in absurd z;
-        passed = λ (j : ℕ) (e : j + 2 < 0). let z : ⊥ = omega arith in absurd z;
-      }
-
   pub sound_start : (memo : List ℕ) → ((j : ℕ) → j < length memo → get_or memo j 0 ≡ 0) → Sound P left memo
-  unfolding Sound
-  sound_start memo h b =
-      rw (zero_at (b * 3 + 2)) (known_none (get_or memo (b * 3) 0) b (get_or memo (b * 3 + 1) 0))
+  unfolding Sound Known finding
+  sound_start memo h b = rw (zero_at (b * 3 + 2)) tt
     where
       by : (j : ℕ) (q : Bool) → ltb j (length memo) ≡ q → get_or memo j 0 ≡ 0
       by j true e = h j (ltb-true j (length memo) e)
@@ -210,39 +204,37 @@ module _ (P : ℕ → Pt) (left : List ℕ) where
 
   -- ---- what is found
 
-  pub known_bent : (a b c : ℕ) → le (cross2 (P a) (P b) (P c)) +0 ≡ true → Known P left a b c 1
-  known_bent a b c y =
-      record {
-        inside = omega arith;
-        bent = λ (e : ◌≡◌ {A = ℕ} 1 1). y;
-        round = λ (e : 1 < 1). let z : ⊥ = omega arith in absurd z;
-        stands = λ (e : 1 < 1). let z : ⊥ = omega arith in absurd z;
-        passed = λ (j : ℕ) (e : j + 2 < 1). let z : ⊥ = omega arith in absurd z;
-      }
-
   hit_blocks : (g : ℕ → Bool) (k : ℕ) → hits left g k ≡ true → g k ≡ true
   unfolding hits
   hit_blocks g k y = and_right (eqb (get_or left k 0) 1) (g k) y
 
-  pub known_hit : (a b c k : ℕ) → le (cross2 (P a) (P b) (P c)) +0 ≡ false → k ≡ first (hits left (blocks P a b c)) (length left) 0 → k < length left
-      → Known P left a b c (k + 2)
-  known_hit a b c k y e h =
+  pub stands_hit : (a b c k : ℕ) → le (cross2 (P a) (P b) (P c)) +0 ≡ false → k ≡ first (hits left (blocks P a b c)) (length left) 0 → k < length left
+      → Stands P left a b c k
+  stands_hit a b c k y e h =
       let f = hits left (blocks P a b c) in
-      let w : k + 2 - 2 ≡ k = omega arith in
       let v : first f (length left) 0 < 0 + length left = omega arith in
       record {
-        inside = omega arith;
-        bent = λ (q : k + 2 ≡ 1). let z : ⊥ = omega arith in absurd z;
-        round = λ (q : 1 < k + 2). y;
-        stands = λ (q : 1 < k + 2). ap (blocks P a b c) w ∙ hit_blocks (blocks P a b c) k (ap f e ∙ first_find f (length left) 0 v);
-        passed = λ (j : ℕ) (q : j + 2 < k + 2). first_below f (length left) 0 j (omega arith) (omega arith);
+        inside = h;
+        round = y;
+        blocked = hit_blocks (blocks P a b c) k (ap f e ∙ first_find f (length left) 0 v);
+        clear = λ (j : ℕ) (q : j < k). first_below f (length left) 0 j (omega arith) (omega arith);
       }
 
   -- one entry is stored; where there is no room for it, nothing is known
-  pub sound_store : (memo : List ℕ) (a b c s : ℕ) → Sound P left memo → Known P left a b c s → Sound P left (sets memo (b * 3) (a ∷ c ∷ s ∷ []))
-  unfolding Sound
-  sound_store memo a b c s o k q = go (eqb q b) refl
+  -- a word says what it was made of
+  finding_word : (f : Finding) → finding (word f) ≡ f
+  unfolding finding word
+  finding_word Unknown = refl
+  finding_word Bent = refl
+  finding_word (Blocked k) = rw add-two
+
+  pub sound_store : (memo : List ℕ) (a b c : ℕ) (f : Finding) → Sound P left memo → Known P left a b c f → Sound P left (sets memo (b * 3) (a ∷ c ∷ word f ∷ []))
+  unfolding Sound Known finding
+  sound_store memo a b c f o k q = go (eqb q b) refl
     where
+      s : ℕ
+      s = word f
+
       m1 : List ℕ
       m1 = set memo (b * 3) a
 
@@ -255,7 +247,7 @@ module _ (P : ℕ → Pt) (left : List ℕ) where
       kept : (j : ℕ) → (j ≡ b * 3 → ⊥) → (j ≡ suc (b * 3) → ⊥) → (j ≡ suc (suc (b * 3)) → ⊥) → get_or m3 j 0 ≡ get_or memo j 0
       kept j x y z = get_or-set_other m2 (suc (suc (b * 3))) j s 0 z ∙ get_or-set_other m1 (suc (b * 3)) j c 0 y ∙ get_or-set_other memo (b * 3) j a 0 x
 
-      at_b : (t : Bool) → ltb (suc (suc (b * 3))) (length memo) ≡ t → Known P left (get_or m3 (b * 3) 0) b (get_or m3 (b * 3 + 1) 0) (get_or m3 (b * 3 + 2) 0)
+      at_b : (t : Bool) → ltb (suc (suc (b * 3))) (length memo) ≡ t → Known P left (get_or m3 (b * 3) 0) b (get_or m3 (b * 3 + 1) 0) (finding (get_or m3 (b * 3 + 2) 0))
       at_b true e =
           let h : suc (suc (b * 3)) < length memo = ltb-true (suc (suc (b * 3))) (length memo) e in
           let n1 : length m1 ≡ length memo = length-set memo (b * 3) a in
@@ -271,7 +263,7 @@ module _ (P : ℕ → Pt) (left : List ℕ) where
           ∙ get_or-set_other m2 (suc (suc (b * 3))) (suc (b * 3)) s 0 (λ (z : suc (b * 3) ≡ suc (suc (b * 3))). omega arith)
           ∙ get_or-set_same m1 (suc (b * 3)) c 0 (omega arith) in
           let es : get_or m3 (b * 3 + 2) 0 ≡ s = ap (λ (j : ℕ). get_or m3 j 0) i2 ∙ get_or-set_same m2 (suc (suc (b * 3))) s 0 (omega arith) in
-          rw (ea, ec, es) k
+          rw (ea, ec, es, finding_word f) k
       at_b false e =
           let h : length memo ≤ suc (suc (b * 3)) = ltb-false (suc (suc (b * 3))) (length memo) e in
           let n1 : length m1 ≡ length memo = length-set memo (b * 3) a in
@@ -279,11 +271,11 @@ module _ (P : ℕ → Pt) (left : List ℕ) where
           let n3 : length m3 ≡ length m2 = length-set m2 (suc (suc (b * 3))) s in
           let u : length m3 ≤ b * 3 + 2 = omega arith in
           let es : get_or m3 (b * 3 + 2) 0 ≡ 0 = get_or-eq_default m3 0 u in
-          rw es (known_none (get_or m3 (b * 3) 0) b (get_or m3 (b * 3 + 1) 0))
+          rw es tt
 
-      go : (t : Bool) → eqb q b ≡ t → Known P left (get_or m3 (q * 3) 0) q (get_or m3 (q * 3 + 1) 0) (get_or m3 (q * 3 + 2) 0)
+      go : (t : Bool) → eqb q b ≡ t → Known P left (get_or m3 (q * 3) 0) q (get_or m3 (q * 3 + 1) 0) (finding (get_or m3 (q * 3 + 2) 0))
       go true e =
-          subst (λ (r : ℕ). Known P left (get_or m3 (r * 3) 0) r (get_or m3 (r * 3 + 1) 0) (get_or m3 (r * 3 + 2) 0)) (sym (eqb-true q b e))
+          subst (λ (r : ℕ). Known P left (get_or m3 (r * 3) 0) r (get_or m3 (r * 3 + 1) 0) (finding (get_or m3 (r * 3 + 2) 0))) (sym (eqb-true q b e))
           (at_b (ltb (suc (suc (b * 3))) (length memo)) refl)
       go false e =
           let n : q ≡ b → ⊥ = eqb-false q b e in
@@ -296,20 +288,17 @@ module _ (P : ℕ → Pt) (left : List ℕ) where
           rw (r0, r1, r2) (o q)
 
   -- what is kept of b between a and c is so
-  entry_known : (memo : List ℕ) (a b c : ℕ) → Sound P left memo → Known P left a b c (entry memo a b c)
-  unfolding Sound entry
-  entry_known memo a b c o = go (eqb (get_or memo (b * 3) 0) a) refl (eqb (get_or memo (b * 3 + 1) 0) c) refl
+  pub known_read : (memo : List ℕ) (a b c : ℕ) (f : Finding) → f ≡ entry memo a b c → Sound P left memo → Known P left a b c f
+  unfolding Sound entry Known
+  known_read memo a b c f e o = rw e (go (eqb (get_or memo (b * 3) 0) a) refl (eqb (get_or memo (b * 3 + 1) 0) c) refl)
     where
-      go : (t : Bool) → eqb (get_or memo (b * 3) 0) a ≡ t → (u : Bool) → eqb (get_or memo (b * 3 + 1) 0) c ≡ u → Known P left a b c (pick (t && u) (get_or memo (b * 3 + 2) 0) 0)
+      go : (t : Bool) → eqb (get_or memo (b * 3) 0) a ≡ t → (u : Bool) → eqb (get_or memo (b * 3 + 1) 0) c ≡ u → Known P left a b c (pick (t && u) (finding (get_or memo (b * 3 + 2) 0)) Unknown)
       go true e true f =
           let ea : get_or memo (b * 3) 0 ≡ a = eqb-true (get_or memo (b * 3) 0) a e in
           let ec : get_or memo (b * 3 + 1) 0 ≡ c = eqb-true (get_or memo (b * 3 + 1) 0) c f in
           rw (ea, ec) at (o b)
-      go true e false f = known_none a b c
-      go false e u f = known_none a b c
-
-  pub known_read : (memo : List ℕ) (a b c s : ℕ) → s ≡ entry memo a b c → Sound P left memo → Known P left a b c s
-  known_read memo a b c s e o = rw e (entry_known memo a b c o)
+      go true e false f = tt
+      go false e u f = tt
 
   -- ---- the answers
 
@@ -318,29 +307,26 @@ module _ (P : ℕ → Pt) (left : List ℕ) where
   ear_bent a b c e = rw e
 
   -- a corner that is left lies in it
-  pub ear_blocked : (a b c s : ℕ) → Known P left a b c s → 1 < s → get_or left (s - 2) 0 ≡ 1 → false ≡ ear_of P left a b c
+  pub ear_blocked : (a b c k : ℕ) → Stands P left a b c k → get_or left k 0 ≡ 1 → false ≡ ear_of P left a b c
   unfolding ear_of hit hits
-  ear_blocked a b c s k h e =
+  ear_blocked a b c k s e =
       let f = hits left (blocks P a b c) in
-      let u : s ≤ length left + 1 = k.inside in
-      let y : f (s - 2) ≡ true = and_yes (eqb (get_or left (s - 2) 0) 1) (blocks P a b c (s - 2)) (eq-eqb (get_or left (s - 2) 0) 1 e) (k.stands h) in
-      let w : first f (length left) 0 < 0 + length left = first_has f (length left) 0 (s - 2) (omega arith) (omega arith) y in
+      let u : k < length left = s.inside in
+      let y : f k ≡ true = and_yes (eqb (get_or left k 0) 1) (blocks P a b c k) (eq-eqb (get_or left k 0) 1 e) s.blocked in
+      let w : first f (length left) 0 < 0 + length left = first_has f (length left) 0 k (omega arith) (omega arith) y in
       let z : ltb (first f (length left) 0) (length left) ≡ true = lt-ltb (first f (length left) 0) (length left) (omega arith) in
       sym (ap (λ (t : Bool). not (le (cross2 (P a) (P b) (P c)) +0) && not t) z ∙ and_no (not (le (cross2 (P a) (P b) (P c)) +0)))
 
   -- the search goes on where it stopped
-  pub go_on : (a b c s : ℕ) → Known P left a b c s → 1 < s → (get_or left (s - 2) 0 ≡ 1 → ⊥) → (j : ℕ) → j < s - 1 → hits left (blocks P a b c) j ≡ false
+  pub go_on : (a b c k : ℕ) → Stands P left a b c k → (get_or left k 0 ≡ 1 → ⊥) → Clear P left a b c (k + 1)
   unfolding hits
-  go_on a b c s k h g j q = ⊎_elim last less (eq-or-lt_of_le v)
+  go_on a b c k s g j q = ⊎_elim last (s.clear j) (eq-or-lt_of_le v)
     where
-      v : j ≤ s - 2
+      v : j ≤ k
       v = omega arith
 
-      last : j ≡ s - 2 → (eqb (get_or left j 0) 1 && blocks P a b c j) ≡ false
+      last : j ≡ k → (eqb (get_or left j 0) 1 && blocks P a b c j) ≡ false
       last e = ap (λ (t : Bool). t && blocks P a b c j) (ne_eqb (get_or left j 0) 1 (λ (z : get_or left j 0 ≡ 1). g (ap (λ (i : ℕ). get_or left i 0) (sym e) ∙ z)))
-
-      less : j < s - 2 → (eqb (get_or left j 0) 1 && blocks P a b c j) ≡ false
-      less e = k.passed j (omega arith)
 
   -- the search found k
   pub ear_found : (a b c k : ℕ) → le (cross2 (P a) (P b) (P c)) +0 ≡ false → k ≡ first (hits left (blocks P a b c)) (length left) 0 → k < length left → false ≡ ear_of P left a b c

@@ -137,12 +137,8 @@ module _ (P : ℕ → Pt) (rev : Bool) (O : List ℕ) (T N : ℕ) (l : List ℕ)
       ∙ sym (sets_tri rev O T (corner l i) (clip P (N - (T + 1)) (remove i l)))
       ∙ ap (λ (q : List Tri). sets O (T * 3) (flat (map (turn rev) q))) (sym c)
 
--- the three ways out of the loop
+-- the two ways out of the loop
 module _ (P : ℕ → Pt) (K : ℕ) (l : List ℕ) where
-  pub clip_out : K ≤ 0 → clip P K l ≡ fan l
-  unfolding clip
-  clip_out h = let z : K ≡ 0 = omega arith in ap (λ (k : ℕ). clip P k l) z
-
   pub clip_short : length l ≤ 3 → clip P K l ≡ fan l
   clip_short h = clip_stop P K l (goes_short P l h)
 

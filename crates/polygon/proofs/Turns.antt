@@ -2,7 +2,7 @@
 use mathlib.Core.Path.{◌≡◌, sym, ap, ◌∙◌, subst}
 use mathlib.Core.Bool.{Bool, true, false}
 use mathlib.Core.List.{List, [], ◌∷◌, ◌++◌}
-use Prim.Native.Nat.{ℕ, ◌+◌, ◌-◌, ◌*◌, ◌≤◌, ◌<◌}
+use Prim.Native.Nat.{ℕ, ◌-◌, ◌*◌, ◌≤◌, ◌<◌}
 use native.Mathlib.Omega.{arith}
 use lib.ListN.{length, get_or, set, take, drop, replicate, length-set, get_or-replicate}
 use lib.Seq.{sets, length-take-le, take-append-le}
@@ -13,8 +13,9 @@ use Rattle.lists.proofs.Stores.{put_back}
 use Rattle.lists.proofs.Searches.{first_from}
 use Rattle.lists.specs.Parts.{Full}
 use Rattle.polygon.specs.Ears.{Pt, Tri, triple, +0, cross2, blocks, is_ear, corner, remove, order}
-use Rattle.polygon.specs.Memo.{hits, Tells, Once, ear_of, Sound, Clear, found, Searched, Gone, Held}
-use Rattle.polygon.proofs.Keep.{known_bent, known_hit, sound_store, sound_start, sound_gone, tells_start, tells_gone, once_start, once_remove, hits_others, ear_bent, ear_found, ear_free, ear_is}
+use Rattle.polygon.specs.Memo.{hits, Tells, Once, ear_of, Known, word, Sound, Clear, found, Searched, Gone, Held}
+use Rattle.polygon.specs.declared.memo.Finding.TheVariants.{Bent, Blocked}
+use Rattle.polygon.proofs.Keep.{stands_hit, sound_store, sound_start, sound_gone, tells_start, tells_gone, once_start, once_remove, hits_others, ear_bent, ear_found, ear_free, ear_is}
 
 -- ---- the corners at a place of the order
 
@@ -49,13 +50,15 @@ module _ (P : ℕ → Pt) (left memo : List ℕ) (s : Sound P left memo) (a b c 
     pub search_free : length left ≤ k → true ≡ ear_of P left a b c
     search_free g = ear_free P left a b c k y hit_first g
 
-    pub search_hit : (memo' : List ℕ) → k < length left → memo' ≡ sets memo (b * 3) (a ∷ c ∷ (k + 2) ∷ []) → (false ≡ ear_of P left a b c) × Sound P left memo'
-    search_hit memo' g r = (ear_found P left a b c k y hit_first g, rw r (sound_store P left memo a b c (k + 2) s (known_hit P left a b c k y hit_first g)))
+    pub search_hit : (memo' : List ℕ) → k < length left → memo' ≡ sets memo (b * 3) (a ∷ c ∷ word (Blocked k) ∷ []) → (false ≡ ear_of P left a b c) × Sound P left memo'
+    unfolding Known
+    search_hit memo' g r = (ear_found P left a b c k y hit_first g, rw r (sound_store P left memo a b c (Blocked k) s (stands_hit P left a b c k y hit_first g)))
 
   -- what is known decides
 
-  pub decide_new : (memo' : List ℕ) → le (cross2 (P a) (P b) (P c)) +0 ≡ true → memo' ≡ sets memo (b * 3) (a ∷ c ∷ 1 ∷ []) → (false ≡ ear_of P left a b c) × Sound P left memo'
-  decide_new memo' y r = (ear_bent P left a b c y, rw r (sound_store P left memo a b c 1 s (known_bent P left a b c y)))
+  pub decide_new : (memo' : List ℕ) → le (cross2 (P a) (P b) (P c)) +0 ≡ true → memo' ≡ sets memo (b * 3) (a ∷ c ∷ word Bent ∷ []) → (false ≡ ear_of P left a b c) × Sound P left memo'
+  unfolding Known
+  decide_new memo' y r = (ear_bent P left a b c y, rw r (sound_store P left memo a b c Bent s y))
 
 -- ---- after searches
 

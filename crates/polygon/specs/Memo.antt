@@ -1,10 +1,12 @@
 -- FORMAT 12.3, how the code clips ears: the tables of its working slice, what it keeps of earlier searches, and what each thing that it keeps says.
-use Rattle.std.specs.Prelude.{ℕ, ◌+◌, ◌-◌, ◌*◌, ◌≤◌, ◌<◌, ◌≡◌, Bool, true, false, not, ◌&&◌, List, [], ◌∷◌, length, get_or, take, set, ltb, eqb, Option, Some, None, Float}
+use Rattle.std.specs.Prelude.{ℕ, zero, suc, ◌+◌, ◌-◌, ◌*◌, ◌<◌, ◌≡◌, Bool, true, false, not, ◌&&◌, List, [], ◌∷◌, length, get_or, take, set, ltb, eqb, Option, Some, None, Float}
 use Rattle.std.specs.Float.{nan}
 use Rattle.std.specs.Float.Ieee.{le}
 use Rattle.lists.specs.Loops.{pick, any, first}
 use Rattle.polygon.specs.Ears.{Pt, +0, cross2, point_in_tri, blocks, remove}
 use Rattle.polygon.specs.declared.memo.Dot.{Dot}
+use Rattle.polygon.specs.declared.memo.Finding.{Finding}
+use Rattle.polygon.specs.declared.memo.Finding.TheVariants.{Unknown, Bent, Blocked}
 
 -- the point of corner j in a list of coordinates
 abbrev pub xy : List Float → ℕ → Pt
@@ -46,25 +48,41 @@ Once (x ∷ l) = (any (eqb x) l ≡ false) × Once l
 unfoldable pub ear_of : (ℕ → Pt) → List ℕ → ℕ → ℕ → ℕ → Bool
 ear_of P left a b c = not (le (cross2 (P a) (P b) (P c)) +0) && not (ltb (hit left (blocks P a b c)) (length left))
 
--- What a word s says of the corner b between a and c. 0: nothing. 1: reflex or degenerate. k + 2: it is neither, the corner k lies in it, and no corner before k that is left does.
-pub record Known (P : ℕ → Pt) (left : List ℕ) (a b c s : ℕ) : Type 0 where
-  pub inside : s ≤ length left + 1
-  pub bent : s ≡ 1 → le (cross2 (P a) (P b) (P c)) +0 ≡ true
-  pub round : 1 < s → le (cross2 (P a) (P b) (P c)) +0 ≡ false
-  pub stands : 1 < s → blocks P a b c (s - 2) ≡ true
-  pub passed : (j : ℕ) → j + 2 < s → hits left (blocks P a b c) j ≡ false
-
--- `memo` has three words for each corner: between which two it was when it was looked at, and what was found
-unfoldable pub Sound : (ℕ → Pt) → List ℕ → List ℕ → Type 0
-Sound P left memo = (b : ℕ) → Known P left (get_or memo (b * 3) 0) b (get_or memo (b * 3 + 1) 0) (get_or memo (b * 3 + 2) 0)
-
--- what it has of b between a and c; 0 where it was last looked at between others
-unfoldable pub entry : List ℕ → ℕ → ℕ → ℕ → ℕ
-entry memo a b c = pick (eqb (get_or memo (b * 3) 0) a && eqb (get_or memo (b * 3 + 1) 0) c) (get_or memo (b * 3 + 2) 0) 0
-
 -- no corner before k that is left lies in a b c
 abbrev pub Clear : (ℕ → Pt) → List ℕ → ℕ → ℕ → ℕ → ℕ → Type 0
 Clear P left a b c k = (j : ℕ) → j < k → hits left (blocks P a b c) j ≡ false
+
+-- the corner b between a and c is neither reflex nor degenerate, the corner k lies in it, and no corner before k that is left does
+pub record Stands (P : ℕ → Pt) (left : List ℕ) (a b c k : ℕ) : Type 0 where
+  pub inside : k < length left
+  pub round : le (cross2 (P a) (P b) (P c)) +0 ≡ false
+  pub blocked : blocks P a b c k ≡ true
+  pub clear : Clear P left a b c k
+
+-- what was found of the corner b between a and c is so
+unfoldable pub Known : (ℕ → Pt) → List ℕ → ℕ → ℕ → ℕ → Finding → Type 0
+Known P left a b c Unknown = Unit
+Known P left a b c Bent = le (cross2 (P a) (P b) (P c)) +0 ≡ true
+Known P left a b c (Blocked k) = Stands P left a b c k
+
+-- what is found, as a word, and what a word says
+unfoldable pub word : Finding → ℕ
+word Unknown = 0
+word Bent = 1
+word (Blocked k) = k + 2
+
+unfoldable pub finding : ℕ → Finding
+finding zero = Unknown
+finding (suc zero) = Bent
+finding (suc (suc k)) = Blocked k
+
+-- `memo` has three words for each corner: between which two it was when it was looked at, and what was found
+unfoldable pub Sound : (ℕ → Pt) → List ℕ → List ℕ → Type 0
+Sound P left memo = (b : ℕ) → Known P left (get_or memo (b * 3) 0) b (get_or memo (b * 3 + 1) 0) (finding (get_or memo (b * 3 + 2) 0))
+
+-- what it has of b between a and c; nothing where it was last looked at between others
+unfoldable pub entry : List ℕ → ℕ → ℕ → ℕ → Finding
+entry memo a b c = pick (eqb (get_or memo (b * 3) 0) a && eqb (get_or memo (b * 3 + 1) 0) c) (finding (get_or memo (b * 3 + 2) 0)) Unknown
 
 -- ---- the tables: the working order, a flag for each corner, and what is kept
 

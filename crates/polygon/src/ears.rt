@@ -1,7 +1,7 @@
 // FORMAT 12.3, ear_clip: the triangles of a polygon in the plane.
-ghost use Rattle.std.specs.Prelude.{◌≡◌, [], ◌∷◌, map, ◌+◌, ◌-◌, ◌*◌, ◌^◌, ◌≤◌, ◌<◌, length, take};
+ghost use Rattle.std.specs.Prelude.{◌≡◌, [], ◌∷◌, map, ◌+◌, ◌-◌, ◌*◌, ◌/◌, ◌^◌, ◌≤◌, ◌<◌, length, take};
 ghost use Rattle.std.proofs.lemmas.List.Edits.{sets};
-ghost use Rattle.polygon.specs.Ears.{triple, remove, corner, fan, clip, area_term, area, place, order, turn, ear_clip_by, flat};
+ghost use Rattle.polygon.specs.Ears.{triple, remove, corner, fan, clip, area, place, order, turn, ear_clip_by, flat};
 ghost use Rattle.polygon.specs.Memo.{xy, Gone, Held};
 
 use crate::memo::{Search, corner_at, dot_at};
@@ -30,8 +30,8 @@ fn take_out(idx: &mut [u32], i: usize)
     idx.copy_within(i + 1.., i);
 }
 
-// `rev` says that the corners go round clockwise, which is found once of each polygon, and no step to run: the order and the triangles of such a
-// polygon are its own turned back, and a closure for each of both would say that twice.
+// `rev` says that the corners go round clockwise; it is found once of each polygon. A flag and not a closure: it turns the order here and each triangle in
+// `put_tri`, so it would take two closures that say the same.
 fn place_of(rev: bool, n: usize, i: usize) -> u32
     requires { (n ≤ 2 ^ 31) × (i < n) }
     ensures { result ≡ place rev n i }
@@ -53,24 +53,18 @@ fn set_order(idx: &mut [u32], rev: bool)
     }
 }
 
-fn area_of(p: &[f32], n: usize) -> f32
-    requires { n ≤ 2 ^ 31 }
-    ensures { result ≡ area (xy p.now) n }
+fn area_of(p: &[f32]) -> f32
+    requires { length p.now ≤ 2 ^ 32 }
+    ensures { result ≡ area (xy p.now) (length p.now / 2) }
 {
+    let n = p.len() / 2;
     let mut s: f32 = 0.0;
     for i in 0..n {
-        s = area_step(p, n, i, s);
+        let a = dot_at(p, i as u32);
+        let b = dot_at(p, ((i + 1) % n) as u32);
+        s += a.x * b.y - b.x * a.y;
     }
     s
-}
-
-fn area_step(p: &[f32], n: usize, i: usize, s: f32) -> f32
-    requires { (n ≤ 2 ^ 31) × (i < n) }
-    ensures { result ≡ area_term (xy p.now) n i s }
-{
-    let a = dot_at(p, i as u32);
-    let b = dot_at(p, ((i + 1) % n) as u32);
-    s + (a.x * b.y - b.x * a.y)
 }
 
 // A fan over the whole of a working order, from the t'th place of `out` on.
@@ -96,32 +90,41 @@ fn cut(s: &mut Search, order: &mut [u32], m: usize, i: usize, out: &mut [u32], t
     take_out(&mut order[..m], i);
 }
 
+// Ears are clipped as long as more than three corners are left and there is one. How many corners are left then, in front of the order.
+fn clip_ears(s: &mut Search, order: &mut [u32], out: &mut [u32], rev: bool) -> usize
+    requires { (length order.old ≤ 2 ^ 31) × Held (xy s.old.p.now) order.old s.old.left.now s.old.memo.now }
+    ensures { (result ≤ length order.old)
+        × (sets out.new ((length order.old - result) * 3) (flat (map (turn rev) (fan (take result order.new))))
+        ≡ sets out.old 0 (flat (map (turn rev) (clip (xy s.old.p.now) (length order.old * length order.old) order.old)))) }
+{
+    let n = order.len();
+    for t in 0..n.saturating_sub(3) {
+        let m = n - t;
+        let Some(i) = s.first_ear(&order[..m]) else {
+            return m;
+        };
+        cut(s, order, m, i, out, t, rev);
+    }
+    n.min(3)
+}
+
 fn clip_all(s: &mut Search, order: &mut [u32], out: &mut [u32], rev: bool)
-    requires { (length order.old ≤ 2 ^ 31) × (length s.old.left.now ≤ 2 ^ 31) × Held (xy s.old.p.now) order.old s.old.left.now s.old.memo.now }
+    requires { (length order.old ≤ 2 ^ 31) × Held (xy s.old.p.now) order.old s.old.left.now s.old.memo.now }
     ensures { out.new ≡ sets out.old 0 (flat (map (turn rev) (clip (xy s.old.p.now) (length order.old * length order.old) order.old))) }
 {
     let n = order.len();
-    let mut m = n;
-    for t in 0..n * n {
-        if m <= 3 {
-            break;
-        }
-        let Some(i) = s.first_ear(&order[..m]) else {
-            break;
-        };
-        cut(s, order, m, i, out, t, rev);
-        m -= 1;
-    }
+    let m = clip_ears(s, order, out, rev);
     put_fan(&order[..m], out, n - m, rev);
 }
 
-// The n - 2 triangles of the polygon whose coordinates are `p`, to the front of `out`. `w` is room to work in, five words a corner: the working
+// The triangles of the polygon whose coordinates are `p`, two a corner, to the front of `out`. `w` is room to work in, five words a corner: the working
 // order, and the two tables of the search. (Fewer would do, and be slower.)
-pub fn ear_clip(p: &[f32], n: usize, w: &mut [u32], out: &mut [u32])
-    requires { (n ≤ 2 ^ 31) × (n * 2 ≤ length w.old) }
-    ensures { out.new ≡ sets out.old 0 (flat (ear_clip_by (xy p.now) n)) }
+pub fn ear_clip(p: &[f32], w: &mut [u32], out: &mut [u32])
+    requires { (length p.now ≤ 2 ^ 32) × (length p.now ≤ length w.old) }
+    ensures { out.new ≡ sets out.old 0 (flat (ear_clip_by (xy p.now) (length p.now / 2))) }
 {
-    let rev = area_of(p, n) < 0.0;
+    let n = p.len() / 2;
+    let rev = area_of(p) < 0.0;
     let (order, rest) = w.split_at_mut(n);
     let (left, memo) = rest.split_at_mut(n);
     set_order(order, rev);

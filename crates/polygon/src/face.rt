@@ -1,5 +1,5 @@
 // FORMAT 12.1, triangulate: the triangles of one face.
-ghost use Rattle.std.specs.Prelude.{◌≡◌, ◌+◌, ◌-◌, ◌*◌, ◌^◌, ◌≤◌, ◌<◌, length, take};
+ghost use Rattle.std.specs.Prelude.{◌≡◌, ◌+◌, ◌-◌, ◌*◌, ◌/◌, ◌^◌, ◌≤◌, ◌<◌, length, take};
 ghost use Rattle.std.proofs.lemmas.List.Edits.{sets};
 ghost use Rattle.polygon.specs.Ears.{outline, fan, flat};
 ghost use Rattle.polygon.specs.Plane.{pairs};
@@ -27,21 +27,21 @@ fn put_outline_fan(n: usize, out: &mut [u32])
     }
 }
 
-// The face's triangles, to the front of `out`.
-fn face_tris(plane: &[f32], n: usize, convex: bool, scratch: &mut [u32], out: &mut [u32])
-    requires { (n ≤ 2 ^ 31) × (length plane.now ≡ n * 2) × (n * 5 ≤ length scratch.old) }
+// The face's triangles, to the front of `out`. `plane` has its points in the plane, two coordinates each.
+fn face_tris(plane: &[f32], convex: bool, scratch: &mut [u32], out: &mut [u32])
+    requires { (length plane.now ≤ 2 ^ 32) × (length plane.now ≡ length plane.now / 2 * 2) × (length plane.now / 2 * 5 ≤ length scratch.old) }
     ensures { out.new ≡ sets out.old 0 (flat (face_tris convex (pairs plane.now))) }
 {
+    let n = plane.len() / 2;
     if is_fan(n, convex) {
         put_outline_fan(n, out);
         return;
     }
-    let e = n * 5;
-    ear_clip(plane, n, &mut scratch[..e], out);
+    ear_clip(plane, &mut scratch[..n * 5], out);
 }
 
 // The triangles of a face of n corners, from place `at` of `out` on, as triples of its own corners. `plane` begins with its points in the plane, but
-// for a fan. `scratch` is room to work in.
+// for a fan; it may be longer, so n stands beside it. `scratch` is room to work in.
 pub fn triangulate(
     plane: &[f32],
     n: usize,
@@ -53,6 +53,5 @@ pub fn triangulate(
     requires { (n ≤ 2 ^ 31) × (n * 2 ≤ length plane.now) × (n * 5 ≤ length scratch.old) × (at + (n - 2) * 3 ≤ length out.old) }
     ensures { out.new ≡ sets out.old at (flat (face_tris convex (pairs (take (n * 2) plane.now)))) }
 {
-    let m = n * 2;
-    face_tris(&plane[..m], n, convex, scratch, &mut out[at..]);
+    face_tris(&plane[..n * 2], convex, scratch, &mut out[at..]);
 }

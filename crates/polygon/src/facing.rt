@@ -3,7 +3,8 @@ ghost use Rattle.std.specs.Prelude.{◌≡◌};
 ghost use Rattle.polygon.specs.Points.{spots};
 ghost use Rattle.polygon.specs.Facing.{edge_sum, newell};
 
-use crate::points::{point_number, spot};
+use crate::points::spot;
+use block::PointNumber;
 use math::V3;
 
 fn add_edge(n: V3, a: V3, b: V3) -> V3
@@ -28,10 +29,10 @@ pub fn newell(points: &[u32], names: &[u32]) -> V3
     let [start, rest @ ..] = names else {
         return n;
     };
-    let first = spot(points, point_number(*start));
+    let first = spot(points, PointNumber(*start as usize));
     let mut a = first;
     for name in rest {
-        let b = spot(points, point_number(*name));
+        let b = spot(points, PointNumber(*name as usize));
         n = add_edge(n, a, b);
         a = b;
     }

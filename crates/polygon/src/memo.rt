@@ -4,7 +4,7 @@ ghost use Rattle.std.proofs.lemmas.List.Edits.{sets};
 ghost use Rattle.std.specs.Float.Ieee.{le};
 ghost use Rattle.lists.specs.Loops.{pick, first};
 ghost use Rattle.polygon.specs.Ears.{+0, triple, corner, cross2, point_in_tri, blocks, is_ear, first_ear};
-ghost use Rattle.polygon.specs.Memo.{xy, dot_of, spot_of, in_way, hits, Clear, Tells, ear_of, Known, Sound, entry, found, Searched};
+ghost use Rattle.polygon.specs.Memo.{xy, dot_of, spot_of, in_way, hits, Clear, Tells, ear_of, finding, word, Known, Sound, entry, found, Searched};
 
 use lists::{get, get_or, put};
 
@@ -72,27 +72,6 @@ fn is_in_way(k: Dot, t: Triangle) -> bool
     k.j != t.a.j && k.j != t.b.j && k.j != t.c.j && in_tri(k, t)
 }
 
-// ---- the corners that are left: a word for each, 1 while it is
-
-fn is_hit(p: &[f32], left: &[u32], k: usize, t: Triangle) -> bool
-    requires { k < 2 ^ 31 }
-    ensures { result ≡ hits left.now (λ j. in_way (dot_of (xy p.now) j) t.a t.b t.c) k }
-{
-    get(left, k) == 1 && is_in_way(dot_at(p, k as u32), t)
-}
-
-// The first of the corners from `from` up to `to` that is left and lies in the triangle t.
-fn scan(p: &[f32], left: &[u32], from: usize, to: usize, t: Triangle) -> Option<usize>
-    requires { to ≤ 2 ^ 31 }
-    ensures { result ≡ found to (first (hits left.now (λ j. in_way (dot_of (xy p.now) j) t.a t.b t.c)) (to - from) from) }
-{
-    (from..to).find(
-        |&k|
-            requires { k < 2 ^ 31 }
-        { is_hit(p, left, k, t) },
-    )
-}
-
 // The corner k, whose coordinates are there.
 fn dot_in(p: &[f32], k: usize) -> Dot
     requires { (k < 2 ^ 31) × (k * 2 + 1 < length p.now) }
@@ -112,60 +91,91 @@ fn is_near(f: u32, d: Dot, t: Triangle) -> bool
     f == 1 && cross(t.b, t.c, d) >= 0.0 && cross(t.c, t.a, d) >= 0.0
 }
 
-// How many of the corners from `from` up to `to` are near: the machine counts several at once. Where there is none, none of them lies in the triangle t.
-fn count_near(p: &[f32], left: &[u32], from: usize, to: usize, t: Triangle) -> u32
-    requires { (to ≤ 2 ^ 31) × (to ≤ length left.now) × (to * 2 ≤ length p.now) }
-    ensures { result ≡ 0 → (j : ℕ) → from ≤ j → j < to → hits left.now (λ i. in_way (dot_of (xy p.now) i) t.a t.b t.c) j ≡ false }
+// The triangle q, which is read once for all corners.
+fn triangle_at(p: &[f32], q: Corner) -> Triangle
+    ensures a { result.a ≡ dot_of (xy p.now) q.a }
+    ensures b { result.b ≡ dot_of (xy p.now) q.b }
+    ensures c { result.c ≡ dot_of (xy p.now) q.c }
 {
-    let mut s: u32 = 0;
-    for k in from..to {
-        s += u32::from(is_near(left[k], dot_in(p, k), t));
-    }
-    s
-}
-
-// As `scan`, of a block of corners: it is passed as a whole where none of them is near. The last block may be short: then some before it are counted again.
-fn scan_block(p: &[f32], left: &[u32], from: usize, to: usize, t: Triangle) -> Option<usize>
-    requires { (from ≤ to) × (to ≤ from + 16) × (to ≤ 2 ^ 31) × (to ≤ length left.now) × (to * 2 ≤ length p.now) }
-    ensures { result ≡ found to (first (hits left.now (λ j. in_way (dot_of (xy p.now) j) t.a t.b t.c)) (to - from) from) }
-{
-    if BLOCK <= to {
-        if count_near(p, left, to - BLOCK, to, t) == 0 {
-            return None;
-        }
-    }
-    scan(p, left, from, to, t)
-}
-
-// As `scan`, of all corners from `from` on, block by block.
-fn scan_blocks(p: &[f32], left: &[u32], from: usize, t: Triangle) -> Option<usize>
-    requires { (length left.now ≤ 2 ^ 31) × (length left.now * 2 ≤ length p.now) }
-    ensures { result ≡ found (length left.now) (first (hits left.now (λ j. in_way (dot_of (xy p.now) j) t.a t.b t.c)) (length left.now - from) from) }
-{
-    let n = left.len();
-    for k in (from..n).step_by(BLOCK) {
-        let e = n.min(k + BLOCK);
-        if let Some(h) = scan_block(p, left, k, e, t) {
-            return Some(h);
-        }
-    }
-    None
-}
-
-// The first corner from `from` on that is left and lies in the triangle q, which is read once.
-fn next_hit(p: &[f32], left: &[u32], from: usize, q: Corner) -> Option<usize>
-    requires { length left.now ≤ 2 ^ 31 }
-    ensures { result ≡ found (length left.now) (first (hits left.now (blocks (xy p.now) q.a q.b q.c)) (length left.now - from) from) }
-{
-    let t = Triangle {
+    Triangle {
         a: dot_at(p, q.a),
         b: dot_at(p, q.b),
         c: dot_at(p, q.c),
-    };
-    if p.len() / 2 < left.len() {
-        return scan(p, left, from, left.len(), t);
     }
-    scan_blocks(p, left, from, t)
+}
+
+// ---- the corners that are left
+
+// Where a corner in the way is looked for: the coordinates of a polygon, two for each corner; a word for each corner, 1 while it is left; and the triangle.
+#[derive(Clone, Copy)]
+struct Field<'a> {
+    p: &'a [f32],
+    left: &'a [u32],
+    t: Triangle,
+    ghost few: { length left.now ≤ 2 ^ 31 },
+    ghost placed: { length left.now * 2 ≤ length p.now },
+}
+
+impl<'a> Field<'a> {
+    fn is_hit(&self, k: usize) -> bool
+        requires { k < 2 ^ 31 }
+        ensures { result ≡ hits self.now.left.now (λ j. in_way (dot_of (xy self.now.p.now) j) self.now.t.a self.now.t.b self.now.t.c) k }
+    {
+        get(self.left, k) == 1 && is_in_way(dot_at(self.p, k as u32), self.t)
+    }
+
+    // The first of the corners from `from` up to `to` that is left and lies in the triangle. Not inlined: in `scan_blocks` it took the registers of
+    // the blocks that are passed (measured).
+    #[inline(never)]
+    fn scan(&self, from: usize, to: usize) -> Option<usize>
+        requires { to ≤ length self.now.left.now }
+        ensures { result ≡ found to (first (hits self.now.left.now (λ j. in_way (dot_of (xy self.now.p.now) j) self.now.t.a self.now.t.b self.now.t.c)) (to - from) from) }
+    {
+        (from..to).find(
+            |&k|
+                requires { k < 2 ^ 31 }
+            { self.is_hit(k) },
+        )
+    }
+
+    // How many of the corners from `from` up to `to` are near. Where there is none, none of them lies in the triangle.
+    fn count_near(&self, from: usize, to: usize) -> u32
+        requires { to ≤ length self.now.left.now }
+        ensures { result ≡ 0 → (j : ℕ) → from ≤ j → j < to → hits self.now.left.now (λ i. in_way (dot_of (xy self.now.p.now) i) self.now.t.a self.now.t.b self.now.t.c) j ≡ false }
+    {
+        let mut s: u32 = 0;
+        for k in from..to {
+            s += u32::from(is_near(self.left[k], dot_in(self.p, k), self.t));
+        }
+        s
+    }
+
+    // As `scan`, of a block of corners: it is passed as a whole where none of them is near. The last block may be short: then some before it are counted again.
+    fn scan_block(&self, from: usize, to: usize) -> Option<usize>
+        requires { (from ≤ to) × (to ≤ from + 16) × (to ≤ length self.now.left.now) }
+        ensures { result ≡ found to (first (hits self.now.left.now (λ j. in_way (dot_of (xy self.now.p.now) j) self.now.t.a self.now.t.b self.now.t.c)) (to - from) from) }
+    {
+        if BLOCK <= to {
+            if self.count_near(to - BLOCK, to) == 0 {
+                return None;
+            }
+        }
+        self.scan(from, to)
+    }
+
+    // As `scan`, of all corners from `from` on, block by block.
+    fn scan_blocks(&self, from: usize) -> Option<usize>
+        ensures { result ≡ found (length self.now.left.now) (first (hits self.now.left.now (λ j. in_way (dot_of (xy self.now.p.now) j) self.now.t.a self.now.t.b self.now.t.c)) (length self.now.left.now - from) from) }
+    {
+        let n = self.left.len();
+        for k in (from..n).step_by(BLOCK) {
+            let e = n.min(k + BLOCK);
+            if let Some(h) = self.scan_block(k, e) {
+                return Some(h);
+            }
+        }
+        None
+    }
 }
 
 // A word becomes 0. What it was.
@@ -175,21 +185,6 @@ fn take_word(s: &mut [u32], k: usize) -> u32
     let x = get(s, k);
     put(s, k, 0);
     x
-}
-
-// As `next_hit`, with the flags of its corners put out meanwhile: they are always near, and would keep their blocks from being passed.
-fn other_hit(p: &[f32], left: &mut [u32], from: usize, q: Corner) -> Option<usize>
-    requires { length left.old ≤ 2 ^ 31 }
-    ensures { (result ≡ found (length left.old) (first (hits left.old (blocks (xy p.now) q.a q.b q.c)) (length left.old - from) from)) × (left.new ≡ left.old) }
-{
-    let x = take_word(left, q.a as usize);
-    let y = take_word(left, q.b as usize);
-    let z = take_word(left, q.c as usize);
-    let k = next_hit(p, left, from, q);
-    put(left, q.c as usize, z);
-    put(left, q.b as usize, y);
-    put(left, q.a as usize, x);
-    k
 }
 
 fn place_before(m: usize, i: usize) -> usize
@@ -225,28 +220,61 @@ pub fn corner_at(order: &[u32], i: usize) -> Corner
     }
 }
 
+// ---- what an earlier search found
+
+// Of a corner between two others: nothing yet; that it is reflex or degenerate; or the first corner that is left and lies in it.
+#[derive(Clone, Copy)]
+pub enum Finding {
+    Unknown,
+    Bent,
+    Blocked(usize),
+}
+
+// What a word that is kept says.
+#[tactic(auto, using(crate::proofs::Tables::finding_far), unfolding(crate::specs::Memo::finding))]
+fn finding_of(word: u32) -> Finding
+    ensures { result ≡ finding word }
+{
+    match word {
+        0 => Finding::Unknown,
+        1 => Finding::Bent,
+        _ => Finding::Blocked(word as usize - 2),
+    }
+}
+
+// The word that says it.
+#[tactic(auto, unfolding(crate::specs::Memo::word))]
+fn word_of(f: Finding) -> u32
+    requires { word f < 2 ^ 32 }
+    ensures { result ≡ word f }
+{
+    match f {
+        Finding::Unknown => 0,
+        Finding::Bent => 1,
+        Finding::Blocked(k) => k as u32 + 2,
+    }
+}
+
 // What ears are looked for in: the coordinates of a polygon; a word for each corner, 1 while it is left; and three words for each of what an
-// earlier search found.
+// earlier search found: its two neighbours then, and the finding.
 #[derive(Drop)]
 pub struct Search<'p, 'w> {
     pub p: &'p [f32],
     pub left: &'w mut [u32],
     pub memo: &'w mut [u32],
+    ghost few: { length left.now ≤ 2 ^ 31 },
+    ghost placed: { length left.now * 2 ≤ length p.now },
 }
 
 impl<'p, 'w> Search<'p, 'w> {
-    // A word, not an enum: it is kept in the lent words.
-    fn look(&self, q: Corner) -> u32
+    fn look(&self, q: Corner) -> Finding
         ensures { result ≡ entry self.now.memo.now q.a q.b q.c }
     {
         let k = q.b as usize * 3;
-        if get(self.memo, k) != q.a {
-            return 0;
+        if get(self.memo, k) == q.a && get(self.memo, k + 1) == q.c {
+            return finding_of(get(self.memo, k + 2));
         }
-        if get(self.memo, k + 1) != q.c {
-            return 0;
-        }
-        get(self.memo, k + 2)
+        Finding::Unknown
     }
 
     fn flag_of(&self, k: usize) -> u32
@@ -255,64 +283,89 @@ impl<'p, 'w> Search<'p, 'w> {
         get(self.left, k)
     }
 
-    fn store(&mut self, q: Corner, s: u32)
-        ensures { (self.new.memo.now ≡ sets self.old.memo.now (q.b * 3) (q.a ∷ q.c ∷ s ∷ [])) × (self.new.left.now ≡ self.old.left.now) × (self.new.p ≡ self.old.p) }
+    fn store(&mut self, q: Corner, f: Finding)
+        requires { word f < 2 ^ 32 }
+        ensures { (self.new.memo.now ≡ sets self.old.memo.now (q.b * 3) (q.a ∷ q.c ∷ word f ∷ [])) × (self.new.left.now ≡ self.old.left.now) × (self.new.p ≡ self.old.p) }
     {
         let k = q.b as usize * 3;
         put(self.memo, k, q.a);
         put(self.memo, k + 1, q.c);
-        put(self.memo, k + 2, s);
+        put(self.memo, k + 2, word_of(f));
+    }
+
+    // The first corner from `from` on that is left and lies in the triangle q. The flags of its corners are put out meanwhile: they are always near, and
+    // would keep their blocks from being passed.
+    fn other_hit(&mut self, from: usize, q: Corner) -> Option<usize>
+        ensures { (result ≡ found (length self.old.left.now) (first (hits self.old.left.now (blocks (xy self.old.p.now) q.a q.b q.c)) (length self.old.left.now - from) from))
+            × (self.new.left.now ≡ self.old.left.now) × (self.new.memo.now ≡ self.old.memo.now) × (self.new.p ≡ self.old.p) }
+    {
+        let left = &mut *self.left;
+        let x = take_word(left, q.a as usize);
+        let y = take_word(left, q.b as usize);
+        let z = take_word(left, q.c as usize);
+        let k = Field {
+            p: self.p,
+            left,
+            t: triangle_at(self.p, q),
+        }
+        .scan_blocks(from);
+        put(left, q.c as usize, z);
+        put(left, q.b as usize, y);
+        put(left, q.a as usize, x);
+        k
     }
 
     // Whether q, which is convex, is an ear; no corner before `from` that is left lies in it.
     fn search(&mut self, q: Corner, from: usize) -> bool
-        requires { (length self.old.left.now ≤ 2 ^ 31) × (from ≤ length self.old.left.now) × (le (cross2 (xy self.old.p.now q.a) (xy self.old.p.now q.b) (xy self.old.p.now q.c)) +0 ≡ false)
+        requires { (from ≤ length self.old.left.now) × (le (cross2 (xy self.old.p.now q.a) (xy self.old.p.now q.b) (xy self.old.p.now q.c)) +0 ≡ false)
             × Clear (xy self.old.p.now) self.old.left.now q.a q.b q.c from × Sound (xy self.old.p.now) self.old.left.now self.old.memo.now }
         ensures { (result ≡ ear_of (xy self.old.p.now) self.old.left.now q.a q.b q.c)
             × Searched (xy self.old.p.now) self.old.left.now self.new.left.now self.new.memo.now × (self.new.p ≡ self.old.p) }
     {
-        let Some(k) = other_hit(self.p, self.left, from, q) else {
+        let Some(k) = self.other_hit(from, q) else {
             return true;
         };
-        self.store(q, k as u32 + 2);
+        self.store(q, Finding::Blocked(k));
         false
     }
 
-    // Whether q, of which s is known, is an ear.
-    fn decide(&mut self, q: Corner, s: u32) -> bool
-        requires { (length self.old.left.now ≤ 2 ^ 31) × Known (xy self.old.p.now) self.old.left.now q.a q.b q.c s × Sound (xy self.old.p.now) self.old.left.now self.old.memo.now }
+    // Whether q, of which f was found, is an ear.
+    fn decide(&mut self, q: Corner, f: Finding) -> bool
+        requires { Known (xy self.old.p.now) self.old.left.now q.a q.b q.c f × Sound (xy self.old.p.now) self.old.left.now self.old.memo.now }
         ensures { (result ≡ ear_of (xy self.old.p.now) self.old.left.now q.a q.b q.c)
             × Searched (xy self.old.p.now) self.old.left.now self.new.left.now self.new.memo.now × (self.new.p ≡ self.old.p) }
     {
-        if s == 1 {
-            return false;
-        }
-        if s == 0 {
-            if is_bent(self.p, q) {
-                self.store(q, 1);
-                return false;
+        match f {
+            Finding::Unknown => {
+                if is_bent(self.p, q) {
+                    self.store(q, Finding::Bent);
+                    return false;
+                }
+                return self.search(q, 0);
             }
-            return self.search(q, 0);
+            Finding::Bent => return false,
+            Finding::Blocked(k) => {
+                if self.flag_of(k) == 1 {
+                    return false;
+                }
+                return self.search(q, k + 1);
+            }
         }
-        if self.flag_of(s as usize - 2) == 1 {
-            return false;
-        }
-        self.search(q, s as usize - 1)
     }
 
     fn is_ear(&mut self, order: &[u32], i: usize) -> bool
-        requires { (i < length order.now) × (length self.old.left.now ≤ 2 ^ 31) × Tells self.old.left.now order.now × Sound (xy self.old.p.now) self.old.left.now self.old.memo.now }
+        requires { (i < length order.now) × Tells self.old.left.now order.now × Sound (xy self.old.p.now) self.old.left.now self.old.memo.now }
         ensures { (result ≡ is_ear (xy self.old.p.now) order.now i)
             × Searched (xy self.old.p.now) self.old.left.now self.new.left.now self.new.memo.now × (self.new.p ≡ self.old.p) }
     {
         let q = corner_at(order, i);
-        let s = self.look(q);
-        self.decide(q, s)
+        let f = self.look(q);
+        self.decide(q, f)
     }
 
     // The place of the first ear in a working order.
     pub fn first_ear(&mut self, order: &[u32]) -> Option<usize>
-        requires { (length self.old.left.now ≤ 2 ^ 31) × Tells self.old.left.now order.now × Sound (xy self.old.p.now) self.old.left.now self.old.memo.now }
+        requires { Tells self.old.left.now order.now × Sound (xy self.old.p.now) self.old.left.now self.old.memo.now }
         ensures { (result ≡ found (length order.now) (first_ear (xy self.old.p.now) order.now))
             × Searched (xy self.old.p.now) self.old.left.now self.new.left.now self.new.memo.now × (self.new.p ≡ self.old.p) }
     {

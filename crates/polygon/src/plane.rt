@@ -4,7 +4,8 @@ ghost use Rattle.std.proofs.lemmas.List.Edits.{sets};
 ghost use Rattle.polygon.specs.Points.{spots};
 ghost use Rattle.polygon.specs.Plane.{entry, handed, most, axis_of, projected, projection, flat2};
 
-use crate::points::{point_number, spot};
+use crate::points::spot;
+use block::PointNumber;
 use lists::put;
 use math::V3;
 
@@ -53,8 +54,8 @@ fn axis_of(n: V3) -> u32
     2
 }
 
-// `flip` says that the face is seen from behind, which is found once of each face, and no step to run: it turns the one thing that is done with a point,
-// and the two orders stand here side by side, which a closure for each would only move.
+// `flip` says that the face is seen from behind; it is found once of each face. A flag and not a closure: it only swaps the two coordinates, and both
+// orders stand here.
 fn put_projected(out: &mut [f32], k: usize, p: V3, axis: u32, flip: bool)
     requires { (k < 2 ^ 40) × (axis < 3) }
     ensures { out.new ≡ sets out.old k (flat2 (projected axis flip p ∷ [])) }
@@ -75,7 +76,7 @@ fn put_projection(points: &[u32], names: &[u32], axis: u32, flip: bool, out: &mu
     ensures { out.new ≡ sets out.old 0 (flat2 (map (projected axis flip) (spots points.now names.now))) }
 {
     for (i, name) in names.iter().enumerate() {
-        let p = spot(points, point_number(*name));
+        let p = spot(points, PointNumber(*name as usize));
         put_projected(out, i * 2, p, axis, flip);
     }
 }

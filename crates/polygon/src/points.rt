@@ -6,13 +6,6 @@ use block::PointNumber;
 use lists::get;
 use math::V3;
 
-// The point that an entry of a face names.
-pub fn point_number(name: u32) -> PointNumber
-    ensures { (result.0 ≡ name) × (result.0 < 2 ^ 32) }
-{
-    PointNumber(name as usize)
-}
-
 pub fn spot(points: &[u32], p: PointNumber) -> V3
     requires { p.0 < 2 ^ 32 }
     ensures { result ≡ spot points.now p.0 }

@@ -1,4 +1,5 @@
 use mathlib.Core.Path.{◌≡◌, ap, ◌∙◌}
+use Prim.Native.Nat.{◌/◌}
 use native.Mathlib.Omega.{arith}
 use borrow.Author.Rules.{rules}
 use lib.Ieee.{Float, lt}
@@ -10,14 +11,15 @@ use Rattle.polygon.proofs.ears.ear_clip.Goals as goal
 
 pub clip_all-requires : goal.clip_all-requires
 clip_all-requires c =
-    let n = c.args.n in
+    let n = length c.args.p.now / 2 in
     let lo : length c.set_order.new.idx ≡ n = omega (arith, c.set_order.auto.idx, c.split_at_mut-order.ensures.front_len) in
     let ll : length c.fill.new.self ≡ n = omega (arith, c.fill.auto.self, c.split_at_mut-left.ensures.front_len) in
-    (omega arith, omega arith, held_start _ n _ _ _ _ (c.set_order.ensures ∙ ap (order _) c.split_at_mut-order.ensures.front_len) ll (full_of 1 n _ (search rules)) (full_of 0 _ _ (search rules)))
+    (omega arith, held_start _ n _ _ _ _ (c.set_order.ensures ∙ ap (order _) c.split_at_mut-order.ensures.front_len) ll (full_of 1 n _ (search rules)) (full_of 0 _ _ (search rules)))
 
 pub returns : goal.returns
 unfolding is_reversed
 returns c =
-    let lo : length c.set_order.new.idx ≡ c.args.n = omega (arith, c.set_order.auto.idx, c.split_at_mut-order.ensures.front_len) in
+    let n = length c.args.p.now / 2 in
+    let lo : length c.set_order.new.idx ≡ n = omega (arith, c.set_order.auto.idx, c.split_at_mut-order.ensures.front_len) in
     c.clip_all.ensures
-    ∙ whole c.args.p.now c.args.n _ _ _ _ (ap (λ (y : Float). lt y +0) c.area_of-rev.ensures) lo (c.set_order.ensures ∙ ap (order _) c.split_at_mut-order.ensures.front_len)
+    ∙ whole c.args.p.now n _ _ _ _ (ap (λ (y : Float). lt y +0) c.area_of-rev.ensures) lo (c.set_order.ensures ∙ ap (order _) c.split_at_mut-order.ensures.front_len)

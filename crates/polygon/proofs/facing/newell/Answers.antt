@@ -6,11 +6,11 @@ pub returns-in_default : goal.returns-in_default
 returns-in_default c = newell_none _ _ c.in_default.len_below
 
 pub loop-name-init : goal.loop-name-init
-loop-name-init c = newell_start _ _ _ c.in-len1-up.len_at_least (rw c.point_number.ensures.0 at c.spot-first.ensures)
+loop-name-init c = newell_start _ _ _ c.in-len1-up.len_at_least c.spot-first.ensures
 
 pub loop-name-preserved : goal.loop-name-preserved
 loop-name-preserved c =
-    newell_go _ _ _ _ _ _ _ _ c.loop-name-test.true (rw c.point_number-in-loop-name.ensures.0 at c.spot-b.ensures) c.add_edge-n.ensures ∙ c.loop-name.invariant
+    newell_go _ _ _ _ _ _ _ _ c.loop-name-test.true c.spot-b.ensures c.add_edge-n.ensures ∙ c.loop-name.invariant
 
 pub returns : goal.returns
 returns c = c.add_edge.ensures ∙ sym (newell_end _ _ _ _ _ _ c.loop-name-test.false) ∙ c.loop-name.invariant

@@ -5,7 +5,7 @@ use Rattle.polygon.proofs.plane.put_projection.Goals as goal
 
 pub loop-i-preserved : goal.loop-i-preserved
 loop-i-preserved c =
-    rw (c.put_projected.ensures, c.spot-p.ensures, c.point_number.ensures.0) (projected_go _ _ _ _ _ c.loop-i-test.true ∙ c.loop-i.invariant)
+    rw (c.put_projected.ensures, c.spot-p.ensures) (projected_go _ _ _ _ _ c.loop-i-test.true ∙ c.loop-i.invariant)
 
 pub returns : goal.returns
 returns c =

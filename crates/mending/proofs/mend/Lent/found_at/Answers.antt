@@ -1,8 +1,6 @@
-use mathlib.Core.Path.{sym, ◌∙◌}
-use Rattle.mesh.proofs.Options.{unwrap_or_is}
-use Rattle.mending.proofs.Table.{found_is}
 use Rattle.mending.proofs.mend.Lent.found_at.Goals as goal
+use mathlib.Core.Path.{◌∙◌}
+use Rattle.mesh.proofs.Options.{unwrap_or_is}
 
 pub returns : goal.returns
-returns c =
-    c.unwrap_or.ensures ∙ unwrap_or_is _ _ ∙ sym (found_is _ _ _ c.args.k _ c.if-k-eq0.false c.triangle_normal.ensures)
+returns c = rw (← c.named_by.ensures, c.in-Some.is, ← c.triangle_normal.ensures) (c.unwrap_or.ensures ∙ unwrap_or_is _ _)

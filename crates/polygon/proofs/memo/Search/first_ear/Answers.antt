@@ -1,7 +1,6 @@
-use mathlib.Core.Path.{refl, sym, ap, ◌∙◌}
+use mathlib.Core.Path.{refl, sym, ◌∙◌}
 use native.Mathlib.Nat.{sub-zero}
 use native.Mathlib.Omega.{arith}
-use lib.ListN.{length}
 use Rattle.polygon.specs.Ears.{first_ear}
 use Rattle.lists.proofs.Loops.{first_go, first_stop, first_end}
 use Rattle.polygon.proofs.Turns.{searched_tells, searched_sound, searched_then}
@@ -10,12 +9,12 @@ use Rattle.polygon.proofs.memo.Search.first_ear.Goals as goal
 
 pub loop-i-init : goal.loop-i-init
 unfolding first_ear
-loop-i-init c = (rw sub-zero, record { left = refl; sound = c.requires.2 }, refl)
+loop-i-init c = (rw sub-zero, record { left = refl; sound = c.requires.1 }, refl)
 
 pub is_ear-requires : goal.is_ear-requires
 is_ear-requires c =
     let S = c.loop-i.invariant.1 in
-    rw c.loop-i.invariant.2 (c.loop-i-test.true, omega (arith, ap length S.left), searched_tells _ _ _ _ S _ c.requires.1, searched_sound _ _ _ _ S)
+    rw c.loop-i.invariant.2 (c.loop-i-test.true, searched_tells _ _ _ _ S _ c.requires.0, searched_sound _ _ _ _ S)
 
 pub returns-then-is_ear : goal.returns-then-is_ear
 returns-then-is_ear c =

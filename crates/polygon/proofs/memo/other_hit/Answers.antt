@@ -1,9 +1,0 @@
-use Rattle.polygon.specs.Memo.{xy}
-use Rattle.polygon.proofs.Turns.{others_found, others_back}
-use Rattle.polygon.proofs.memo.other_hit.Goals as goal
-
-pub returns : goal.returns
-returns c = (
-  others_found (xy c.args.p.now) _ _ _ _ _ _ _ c.take_word-x.ensures.1 c.take_word-y.ensures.1 c.take_word-z.ensures.1 _ _ c.next_hit-k.ensures,
-  others_back (xy c.args.p.now) _ _ _ _ _ _ _ c.take_word-x.ensures.1 c.take_word-y.ensures.1 c.take_word-z.ensures.1 _ _ _ _ _ _ c.take_word-x.ensures.0 c.take_word-y.ensures.0 c.take_word-z.ensures.0 c.put.ensures c.put-2.ensures c.put-3.ensures,
-)
