@@ -74,7 +74,7 @@ impl<'a> Source<'a> {
         requires { k < 2 ^ 61 }
         ensures { result ≡ all_below self.now.points (primitive_of self.now.g (entries self.now.list.now) k) }
     {
-        (0..width_of(self.g)).all(|i| point_at(self.list, place_of(self.g, k, i)).0
-            < self.points as usize)
+        let points = self.points as usize;
+        (0..width_of(self.g)).all(|i| point_at(self.list, place_of(self.g, k, i)).0 < points)
     }
 }
