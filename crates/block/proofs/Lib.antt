@@ -8,6 +8,7 @@ pub mod TextureRows
 pub mod SettingsRows
 pub mod RunLaws
 pub mod Walks
+pub mod Tally
 pub mod Ends
 pub mod ValueLaws
 pub mod StreamLaws

@@ -130,8 +130,9 @@ fn found_at<'a>(
     )
 }
 
-// What an attribute has at a corner. `block` and `coord` are two slices here and above, and no struct: those who list faces, primitives and lines read
-// `coord` alone, and no clause says a fact of both that would go.
+// What an attribute has at a corner. `block` and `coord` are two slices here and above, and no struct with the fact that `coord` is the block's list 1, which
+// facesetshape and primitiveshape ask: a grid and an extrusion have no coordIndex, and an empty slice goes for it. `place` and `face` are two numbers, and
+// `number_at` reads the one or the other: a struct of both would be built at each call only to be taken apart.
 pub fn get<'a, V: Value>(
     block: &'a [u8],
     coord: &'a [u8],

@@ -1,5 +1,5 @@
 -- A pass over the runs: one run more, and all of them.
-use mathlib.Core.Path.{◌≡◌, refl, sym, ap, ◌∙◌}
+use mathlib.Core.Path.{◌≡◌, refl, sym, ap, subst, ◌∙◌}
 use mathlib.Core.Bool.{Bool, true, false, cond}
 use mathlib.Core.List.{List, [], ◌∷◌}
 use Prim.Native.Nat.{ℕ, suc, ◌+◌, ◌/◌, ◌≤◌}
@@ -9,14 +9,16 @@ use lib.ListN.{length, get_or, set, drop, length-drop}
 use lib.Seq.{drop-cons}
 use Rattle.bits.specs.Bits.{entries}
 use Rattle.bits.proofs.Entries.{entries_length}
+use Rattle.block.specs.declared.runs.Runs.{Runs}
 use Rattle.block.specs.Runs.{Run, run_of, runs, kept, faces, corners, sum_over}
+use Rattle.block.specs.Walk.{rest, RunGiven}
 use Rattle.block.proofs.RunLaws.{kept_below, face_kept, face_lost}
-use Rattle.block.proofs.Walks.{sum_first, sum_end}
+use Rattle.block.proofs.Walks.{Walks, walks_on, sum_first, sum_end}
 use Rattle.lists.specs.Lists.{map_n, join_n}
 use Rattle.lists.proofs.Lists.{length_map_n}
 use Rattle.tables.specs.declared.layout.Plan.{Plan}
 use Rattle.tables.specs.Listed.{Use, no_listing, Beside}
-use Rattle.tables.proofs.Besides.{beside_all}
+use Rattle.tables.proofs.Besides.{beside_all, beside_then}
 use Rattle.faceset.specs.declared.listing.Progress.{Progress}
 use Rattle.faceset.specs.Listings.{use_of, listing_of, listed, listings_of}
 use Rattle.faceset.specs.Adding.{Fits, face_added, after_face, words_after, progress_after}
@@ -131,3 +133,39 @@ module _ {points : ℕ} {bs : List ℕ} (w : List ℕ) {t : Plan} (L : Planned p
         listed = listed_all (rw B.len L.room) (length_listings points 0 (runs (entries bs)) ∙ sym L.faces) (sum_end (faces points) h U.faces) (sum_end (corners points) h U.corners) U.made;
         beside = B;
       }
+
+-- ---- as far as a walk over the runs has come: the words were w₀ at its start
+
+pub record Along (points : ℕ) (bs w₀ w : List ℕ) (t : Plan) (walk : Runs) (number : ℕ) (p : Progress) : Type 0 where
+  pub planned : Planned points bs (length w) t
+  pub beside : Beside t w₀ w
+  pub there : Walks bs walk.list.now walk.start
+  pub few : number ≤ walk.start
+  pub underway : Underway points bs w t number p (rest walk)
+
+-- it gives the run r, whose number is n
+module _ {points : ℕ} {bs w₀ w : List ℕ} {t : Plan} {walk walk' : Runs} {number : ℕ} {p : Progress} (A : Along points bs w₀ w t walk number p) {s : ℕ} {r : List ℕ}
+    (G : RunGiven walk walk' s r) {n : ℕ} (q : n ≡ number) where
+  turn : Underway points bs w t number p (run_of s (entries r) ∷ rest walk')
+  turn = subst (Underway points bs w t number p) G.first A.underway
+
+  within : s + length r / 4 ≤ length bs / 4
+  within = let l = ap length A.there.list in omega (arith, G.here, G.part.within, G.passes.there)
+
+  passed : number ≤ s
+  passed = omega (arith, G.here, A.few)
+
+  pub along_fits : RunFits points (length w) t s r n p
+  along_fits = run_fits r A.planned turn within passed q
+
+  pub along_more : {w' : List ℕ} {p' : Progress} {m : ℕ} → w' ≡ words_after (kept points (entries r)) t p n (map_n use_of s (entries r)) w
+      → p' ≡ progress_after (kept points (entries r)) p (length r / 4) → m ≡ number + 1 → Along points bs w₀ w' t walk' m p'
+  along_more {w'} {p'} ew ep em =
+      let P : Beside t w w' × Underway points bs w' t (number + 1) p' (rest walk') = run_passed r A.planned turn within passed q ew ep in
+      rw em (record {
+        planned = planned_beside w A.planned P.0;
+        beside = beside_then A.beside P.0;
+        there = walks_on A.there G.passes G.part.within;
+        few = omega (arith, A.few, G.passes.next);
+        underway = P.1;
+      })

@@ -34,6 +34,10 @@ module _ (p : ℕ) (es : List ℕ) (few : p ≤ most) where
         nexts = omega arith;
       }
 
+-- the points are within the words
+pub points_fit : {t : CornerTables} {len : ℕ} → Laid t len → t.points + 3 * t.spots ≤ len
+points_fit L = omega (arith, L.points, L.named, L.places, L.numbers, L.textures, L.heads, L.nexts)
+
 module _ (p : ℕ) (es : List ℕ) {t : CornerTables} (e : t ≡ line_tables p es) where
   -- the points are at the start, and the corners' points follow
   pub stand : (t.points ≡ 0) × (t.spots ≡ p) × (t.corners ≡ 3 * p) × (t.count ≡ sum_over (named p) (runs es))

@@ -2,9 +2,10 @@
 #![tactic(auto)]
 
 mod places;
+mod source;
 mod stretches;
 mod totals;
 
-pub use places::{count_in, is_present, place_of, width_of};
+pub use places::{count_in, place_of, width_of};
+pub use source::Source;
 pub use stretches::{Stretches, stretch_at, stretches_in};
-pub use totals::primitive_totals;

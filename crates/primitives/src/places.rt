@@ -6,6 +6,7 @@ ghost use Rattle.block.specs.Runs.{all_below};
 ghost use Rattle.primitives.specs.Primitives.{primitive_count, places_of, primitive_of};
 ghost use Rattle.primitives.specs.Kept.{width_of};
 
+use crate::source::Source;
 use block::{Topology, point_at};
 
 // How many corners each primitive has.
@@ -67,10 +68,13 @@ pub fn place_of(g: Topology, k: usize, i: usize) -> usize
     }
 }
 
-// Whether every corner of primitive k names a point.
-pub fn is_present(part: &[u8], points: u32, g: Topology, k: usize) -> bool
-    requires { k < 2 ^ 61 }
-    ensures { result ≡ all_below points (primitive_of g (entries part.now) k) }
-{
-    (0..width_of(g)).all(|i| point_at(part, place_of(g, k, i)).0 < points as usize)
+impl<'a> Source<'a> {
+    // Whether every corner of primitive k of the stretch names a point.
+    pub fn is_present(&self, k: usize) -> bool
+        requires { k < 2 ^ 61 }
+        ensures { result ≡ all_below self.now.points (primitive_of self.now.g (entries self.now.list.now) k) }
+    {
+        let points = self.points as usize;
+        (0..width_of(self.g)).all(|i| point_at(self.list, place_of(self.g, k, i)).0 < points)
+    }
 }

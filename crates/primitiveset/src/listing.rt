@@ -11,63 +11,59 @@ ghost use Rattle.primitiveset.specs.Passing.{Planned, Fits, Passed, Turned, Prim
 
 use block::{CornerNumber, Topology, point_at};
 use faceset::{Progress, put_face};
-use primitives::{count_in, is_present, place_of, stretches_in, width_of};
+use primitives::{Source, count_in, place_of, stretches_in, width_of};
 use tables::{Plan, narrow};
 
-// What primitives are taken from: coordIndex, of so many points.
-#[derive(Clone, Copy)]
-pub struct Source<'a> {
-    pub coord: &'a [u8],
-    pub points: u32,
-    pub g: Topology,
-}
-
-// Primitive `k` of the stretch that starts at entry `start`: listed as the next face if it is kept.
+// Primitive `k` of the stretch x, which starts at entry `start`: listed as the next face if it is kept.
 fn pass_primitive(
     x: Source<'_>,
-    part: &[u8],
     start: usize,
     k: usize,
     work: &mut [u32],
     t: Plan,
     p: Progress,
 ) -> Progress
-    requires { Fits x.points x.g (length work.old) t start (entries part.now) k p }
-    ensures { (work.new ≡ words_after (all_below x.entry.points (primitive_of x.entry.g (entries part.now) k)) t p p.faces (uses_of x.entry.g (run_of start (entries part.now)) k) work.old)
-        × (result ≡ progress_after (all_below x.entry.points (primitive_of x.entry.g (entries part.now) k)) p (width_of x.entry.g)) }
+    requires { Fits x.points x.g (length work.old) t start (entries x.list.now) k p }
+    ensures { (work.new ≡ words_after (all_below x.entry.points (primitive_of x.entry.g (entries x.entry.list.now) k)) t p p.faces (uses_of x.entry.g (run_of start (entries x.entry.list.now)) k) work.old)
+        × (result ≡ progress_after (all_below x.entry.points (primitive_of x.entry.g (entries x.entry.list.now) k)) p (width_of x.entry.g)) }
 {
     let g = x.g;
-    if is_present(part, x.points, g, k) {
+    if x.is_present(k) {
         return put_face(
             work,
             t,
             p,
             p.faces,
             width_of(g),
-            |i| narrow(point_at(part, place_of(g, k, i)).0),
+            |i| narrow(point_at(x.list, place_of(g, k, i)).0),
             |i| narrow(start + place_of(g, k, i)),
         );
     }
     p
 }
 
-// The kept primitives of the stretch that starts at entry `start`.
-fn pass_stretch(
-    x: Source<'_>,
-    part: &[u8],
+// The kept primitives of the stretch `part` of the list x, which starts at entry `start`.
+fn pass_stretch<'a>(
+    x: Source<'a>,
+    part: &'a [u8],
     start: usize,
     work: &mut [u32],
     t: Plan,
     first: Progress,
 ) -> Progress
-    requires { Planned x.points x.g x.coord.now (length work.old) t × Passed x.points x.g x.coord.now work.old t start first
-        × (start < length x.coord.now / 4) × StretchPart x.g x.coord.now start part.now }
-    ensures { Turned x.entry.points x.entry.g x.entry.coord.now work.old work.new t (start + length part.now / 4 + 1) result }
+    requires { Planned x.points x.g x.list.now (length work.old) t × Passed x.points x.g x.list.now work.old t start first
+        × (start < length x.list.now / 4) × StretchPart x.g x.list.now start part.now }
+    ensures { Turned x.entry.points x.entry.g x.entry.list.now work.old work.new t (start + length part.now / 4 + 1) result }
 {
     let n = count_in(x.g, part.len() / 4);
+    let stretch = Source {
+        list: part,
+        points: x.points,
+        g: x.g,
+    };
     let mut p = first;
     for k in 0..n {
-        p = pass_primitive(x, part, start, k, work, t, p);
+        p = pass_primitive(stretch, start, k, work, t, p);
     }
     p
 }
@@ -77,7 +73,11 @@ pub fn list_primitives(coord: &[u8], points: u32, g: Topology, work: &mut [u32],
     requires { Planned points g coord.now (length work.old) t }
     ensures { PrimitivesListed points g coord.now t work.old work.new }
 {
-    let x = Source { coord, points, g };
+    let x = Source {
+        list: coord,
+        points,
+        g,
+    };
     let first = t.starts;
     work[first] = 0;
     let mut p = Progress {

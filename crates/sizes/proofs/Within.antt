@@ -14,6 +14,7 @@ use Rattle.lists.specs.Lists.{flat}
 use Rattle.primitives.specs.Primitives.{stretches, primitive_count, primitive_of, face_list}
 use Rattle.primitives.specs.Kept.{width_of, piece_of, kept_by, kept_over, kept_primitives}
 use Rattle.primitives.proofs.Closed.{listing_triangles}
+use Rattle.primitives.proofs.Counting.{count_most}
 use Rattle.mesh.specs.Sizes.{lines_after}
 
 items_within : (es : List ℕ) (s : ℕ) → sum_over length (runs_from s es) ≤ length es
@@ -60,13 +61,6 @@ lines_within p es = sum_within (lines_after p false) (λ ws. one ws false) es
 
 -- ---- FORMAT 6.4: no more primitives are kept than there are entries
 
-few_primitives : (g : Topology) (n : ℕ) → primitive_count g n ≤ n
-unfolding primitive_count
-few_primitives Triangles n = omega arith
-few_primitives Fans n = omega arith
-few_primitives Strips n = omega arith
-few_primitives Quads n = omega arith
-
 module _ {A : Type 0} (points : ℕ) (g : Topology) where
   pieces_few : (a : ℕ → A) (es : List ℕ) (n i : ℕ) → length (flat (tab (piece_of a points g es) n i)) ≤ n
   unfolding flat tab piece_of
@@ -83,7 +77,7 @@ module _ {A : Type 0} (points : ℕ) (g : Topology) where
   over_few a (r ∷ rs) =
       let n = primitive_count g (length r.items) in
       rw (length-append (flat (tab (piece_of (a r) points g r.items) n 0)))
-      (omega (arith, pieces_few (a r) r.items n 0, few_primitives g (length r.items), over_few a rs))
+      (omega (arith, pieces_few (a r) r.items n 0, count_most g (length r.items), over_few a rs))
 
 stretches_within : (g : Topology) (ws : List ℕ) → sum_over length (stretches g ws) ≤ length ws
 unfolding stretches sum_over

@@ -7,6 +7,7 @@ ghost use Rattle.sizes.specs.Known.{Sides, Known, set_faces, primitive_faces, Ar
 
 use block::{Header, Kind, Topology, Totals};
 use extrusion::Extruded;
+use primitives::Source;
 use tables::wide;
 
 // They are counted once a call, and handed on: what the tables of listed faces are planned by is counted with them.
@@ -60,10 +61,13 @@ fn primitive_sizes(block: &[u8], h: Header, g: Topology) -> Sizes
     ensures { Are (spec.primitive_sizes g block.now h) (primitive_faces g block.now h) result }
 {
     let n = h.counts;
-    run_sizes(
-        wide(n[0]),
-        primitives::primitive_totals(block::list_part(block, h, 1), n[0], g),
-    )
+    let list = block::list_part(block, h, 1);
+    let x = Source {
+        list,
+        points: n[0],
+        g,
+    };
+    run_sizes(wide(n[0]), x.totals())
 }
 
 fn line_set_sizes(block: &[u8], h: Header) -> Sizes

@@ -53,7 +53,8 @@ fn shape_verdict(block: &[u8], h: Header) -> Result<Sizes, Refusal>
     Ok(s)
 }
 
-// All rows up to 7.
+// All rows up to 7. Block and header are two arguments, and no struct with the fact that the header is the block's: it would spare a clause here, at
+// `shape_verdict` and at geometry's `verdict_for`, and none in `kinds`, where nothing is asked of the two, or more than that (`Known`, `Given`).
 pub fn verdict_to_7(block: &[u8], h: Header) -> Result<Sizes, Refusal>
     requires { h ≡ header_of block.now }
     ensures { Judged block.now h (first_of (block_rows block.now h ++ shape_rows block.now h)) result }

@@ -20,7 +20,8 @@ fn spread_numbers(work: &mut [u32], t: Plan)
     }
 }
 
-// Where no normals are supplied, they are generated.
+// Where no normals are supplied, they are generated. What the tables are and how many floats are lent stay clauses, as in normals: both slices are lent to be
+// written, and a struct with a `&mut` in it would have to say in each function that it is still the same reference.
 fn generate_where(
     work: &mut [u32],
     t: Plan,

@@ -1,12 +1,11 @@
 use mathlib.Core.Path.{sym}
 use native.Mathlib.Omega.{arith}
-use Rattle.lineshape.proofs.Tabling.{stand, points_before, tabled}
+use Rattle.lineshape.proofs.Tabling.{points_fit, stand, points_before, tabled}
 use Rattle.bits.proofs.Entries.{entries_length}
 use Rattle.lineshape.proofs.filling.put_tables.Goals as goal
 
 pub put_points-requires : goal.put_points-requires
-put_points-requires c =
-    let Q = c.requires.1 in (omega (arith, c.requires.3, (stand _ _ c.requires.0).1), omega (arith, Q.points, Q.named, Q.places, Q.numbers, Q.textures, Q.heads, Q.nexts))
+put_points-requires c = (omega (arith, c.requires.3, (stand _ _ c.requires.0).1), points_fit c.requires.1)
 
 pub list_entries-requires : goal.list_entries-requires
 list_entries-requires c =
@@ -14,6 +13,4 @@ list_entries-requires c =
 
 pub returns : goal.returns
 returns c =
-    let Q = c.requires.1 in
-    tabled _ _ c.requires.0 (omega (arith, c.requires.3, (stand _ _ c.requires.0).1, entries_length c.args.list.now))
-    (omega (arith, Q.points, Q.named, Q.places, Q.numbers, Q.textures, Q.heads, Q.nexts)) c.put_points.ensures c.list_entries.ensures
+    tabled _ _ c.requires.0 (omega (arith, c.requires.3, (stand _ _ c.requires.0).1, entries_length c.args.list.now)) (points_fit c.requires.1) c.put_points.ensures c.list_entries.ensures

@@ -7,7 +7,7 @@ use Rattle.block.proofs.Walks.{walks_on}
 use Rattle.primitives.specs.Primitives.{primitive_of}
 use Rattle.primitives.specs.Kept.{kept_primitives}
 use Rattle.primitives.proofs.Meeting.{kept_start, count_first, count_end}
-use Rattle.primitives.proofs.totals.kept_count.Goals as goal
+use Rattle.primitives.proofs.source.Source.kept_count.Goals as goal
 
 pub loop-part-init : goal.loop-part-init
 unfolding kept_primitives
@@ -16,7 +16,7 @@ loop-part-init c =
       walk = record { list = refl; start = omega arith };
       kind = refl;
       few = omega arith;
-      left = rw zero-add (ap length (kept_start (λ r. primitive_of c.args.g r.items) c.args.points c.args.g (entries c.args.list.now)));
+      left = rw zero-add (ap length (kept_start (λ r. primitive_of c.args.self.now.g r.items) c.args.self.now.points c.args.self.now.g (entries c.args.self.now.list.now)));
     })
 
 pub loop-part-preserved : goal.loop-part-preserved
@@ -27,7 +27,7 @@ loop-part-preserved c =
       walk = walks_on I.walk G.passes G.part.within;
       kind = G.kind ∙ I.kind;
       few = omega (arith, G.passes.next);
-      left = count_first _ _ _ G.first _ I.left c.kept_in-kept.ensures.0;
+      left = count_first _ _ _ G.first _ I.left c.kept_here-kept.ensures.0;
     }
 
 pub returns : goal.returns
