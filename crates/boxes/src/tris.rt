@@ -9,6 +9,7 @@ use parts::put_words;
 use tables::narrow;
 
 // Those of face k.
+#[tactic(auto, unfolding(crate::specs::Box::box_tris))]
 fn box_tris(k: usize) -> [u32; 6]
     requires { k < 6 }
     ensures { result ≡ box_tris k }

@@ -21,35 +21,32 @@ fn times(v: V3, h: V3) -> V3
     }
 }
 
-// Forth or back.
+// Forth or back. As in `side`, a bool: on which side a corner lies is what its number says, and an enum of two would be made by the same test.
+#[tactic(auto, unfolding(crate::specs::Box::stepped))]
 fn step(a: V3, d: V3, forth: bool) -> V3
     ensures { result ≡ spec.stepped a d forth }
 {
     if forth {
-        return math::add(a, d);
+        math::add(a, d)
+    } else {
+        math::sub(a, d)
     }
-    math::sub(a, d)
 }
 
 fn is_right(i: usize) -> bool
     ensures { result ≡ spec.is_right i }
 {
-    if i == 1 {
-        return true;
-    }
-    i == 2
+    i == 1 || i == 2
 }
 
 fn side(far: bool) -> f32
     ensures { result ≡ spec.side_of far }
 {
-    if far {
-        return 1.0;
-    }
-    0.0
+    if far { 1.0 } else { 0.0 }
 }
 
 // Corner i of a face.
+#[tactic(auto, unfolding(crate::specs::Box::box_vert))]
 fn box_vert(h: V3, f: BoxFace, i: usize) -> Vert
     ensures { result ≡ spec.box_vert h f i }
 {
@@ -72,6 +69,7 @@ fn box_vert(h: V3, f: BoxFace, i: usize) -> Vert
 }
 
 // The corners of face k.
+#[tactic(auto, unfolding(crate::specs::Box::box_face, lists::specs::Loops::tab))]
 fn box_face(h: V3, k: usize) -> [Vert; 4]
     requires { k < 6 }
     ensures { result ≡ spec.box_face h k }

@@ -10,15 +10,12 @@ use math::{V3, is_finite};
 use parts::{Builder, GeomCtx, PartSizes, dim, finite_ctx, part_report};
 
 // fl::v3: a size with a component that is not finite is the default.
+#[tactic(auto, unfolding(crate::specs::Box::finite_size))]
 fn finite_size(s: V3) -> V3
     ensures { result ≡ finite_size s }
 {
-    if is_finite(s.x) {
-        if is_finite(s.y) {
-            if is_finite(s.z) {
-                return s;
-            }
-        }
+    if is_finite(s.x) && is_finite(s.y) && is_finite(s.z) {
+        return s;
     }
     V3 {
         x: 2.0,
@@ -27,6 +24,7 @@ fn finite_size(s: V3) -> V3
     }
 }
 
+#[tactic(auto, unfolding(crate::specs::Box::half_size))]
 fn half_size(size: V3) -> V3
     ensures { result ≡ half_size size }
 {

@@ -7,21 +7,24 @@ use native.Mathlib.Omega.{arith}
 use lib.ListN.{length}
 use lib.Ieee.{Float, binary32, neg, add, div}
 use Rattle.math.specs.Vector.{one_f, two_f}
+use Rattle.std.specs.Prelude.{Option, unwrap_or}
+use Rattle.std.specs.Bool.{then_some}
 use Rattle.lists.proofs.Pieces.{length_pieces}
 use Rattle.parts.specs.declared.cap.Cap.{Cap}
 use Rattle.parts.specs.declared.sizes.PartSizes.{PartSizes}
+use Rattle.parts.specs.declared.marks.Marks.{Marks}
+use Rattle.parts.specs.declared.round.Round.{Round}
 use Rattle.parts.specs.declared.builder.Builder.{Builder}
 use Rattle.parts.specs.declared.vert.Vert.{Vert}
 use Rattle.parts.specs.Ring.{share_of}
-use Rattle.parts.specs.Sizes.{dim_of, held_to, sum_of, sizes_where}
+use Rattle.parts.specs.Sizes.{dim_of, held_to, sum_of, no_sizes, sizes_where, Small}
+use Rattle.parts.specs.Round.{marks_of}
 use Rattle.parts.specs.Part.{Part}
 use Rattle.parts.specs.Cap.{cap_at, cap_part, cap_sizes, Numbered}
 use Rattle.parts.specs.Written.{Sized, Written, Roomy}
 use Rattle.parts.proofs.Capping.{cap_sized}
-use Rattle.parts.proofs.Holding.{held_between}
-use Rattle.parts.proofs.Parting.{where_sized, room_there, Small, where_small, cap_small, sized_followed, roomy_first, roomy_next, written_followed}
-use Rattle.cone.specs.declared.whole.ConeMarks.{ConeMarks}
-use Rattle.cone.specs.Cone.{cone_foot, cone_apex, cone_verts, cone_tri, cone_side, cone_side_at, cone_side_sizes, cone_marks_of, cone_part, cone_of}
+use Rattle.parts.proofs.Parting.{where_sized, room_there, sum_none, where_small, cap_small, sized_followed, roomy_first, roomy_next, written_followed, marks_there, sized_as}
+use Rattle.cone.specs.Cone.{cone_foot, cone_apex, cone_verts, cone_tri, cone_side, cone_side_at, cone_side_sizes, cone_part, cone_of}
 
 -- ---- the side
 
@@ -56,7 +59,7 @@ side_small n h = record { vertices = omega arith; indices = omega arith; pairs =
 
 -- ---- the side and the bottom
 
-module _ (ps : List Float) (r h : Float) (n : ℕ) (side bottom : Bool) {m : ConeMarks} (low : n ≤ 1024) (em : m ≡ cone_marks_of n side bottom) where
+module _ (ps : List Float) (r h : Float) (n : ℕ) (side bottom : Bool) {m : Marks} (low : n ≤ 1024) (em : m ≡ marks_of (sizes_where side (cone_side_sizes n)) n false bottom) where
   abbrev S : Part
   S = cone_side_at ps side r h n
 
@@ -66,13 +69,14 @@ module _ (ps : List Float) (r h : Float) (n : ℕ) (side bottom : Bool) {m : Con
   abbrev a : PartSizes
   a = sizes_where side (cone_side_sizes n)
 
+  -- there is no top
   bottom_is : m.bottom ≡ a
-  unfolding cone_marks_of
-  bottom_is = λ t. (em t).bottom
+  unfolding marks_of
+  bottom_is = (λ t. (em t).bottom) ∙ sum_none a (cap_sizes n)
 
   all_is : m.all ≡ sum_of a (sizes_where bottom (cap_sizes n))
-  unfolding cone_marks_of
-  all_is = λ t. (em t).all
+  unfolding marks_of
+  all_is = (λ t. (em t).all) ∙ ap (λ (z : PartSizes). sum_of z (sizes_where bottom (cap_sizes n))) (sum_none a (cap_sizes n))
 
   abbrev pub cap_of : PartSizes → Cap
   cap_of z = record { y = neg (div binary32 h two_f); r = r; slices = n; top = false; first = z.vertices; pair = z.pairs }
@@ -114,10 +118,17 @@ module _ (ps : List Float) (r h : Float) (n : ℕ) (side bottom : Bool) {m : Con
 
 -- ---- the call
 
-module _ (radius height : Float) (side bottom : Bool) (slices : ℕ) (ps : List Float) {r k : Float} {n : ℕ} (er : r ≡ dim_of radius one_f) (ek : k ≡ dim_of height two_f) (en : n ≡ held_to slices 3) where
-  pub low_call : n ≤ 1024
-  low_call = omega (arith, en, held_between slices 3 (omega arith))
-
-  pub read_call : cone_part ps r k n side bottom ≡ cone_of radius height side bottom slices ps
+module _ (radius height : Float) (side bottom : Bool) (slices : ℕ) (ps : List Float) (k : Round) (e : (k.r ≡ dim_of radius one_f) × (k.height ≡ dim_of height two_f) × (k.n ≡ held_to slices 3)) where
+  pub call_is : cone_part ps k.r k.height k.n side bottom ≡ cone_of radius height side bottom slices ps
   unfolding cone_of
-  read_call = λ t. cone_part ps (er t) (ek t) (en t) side bottom
+  call_is = λ t. cone_part ps (e.0 t) (e.1 t) (e.2 t) side bottom
+
+  module _ {z : PartSizes} {o : Option PartSizes} {m : Marks} (em : m ≡ marks_of (unwrap_or o no_sizes) k.n false bottom) (eo : o ≡ then_some side z) (ez : z ≡ cone_side_sizes k.n) where
+    pub call_marks : m ≡ marks_of (sizes_where side (cone_side_sizes k.n)) k.n false bottom
+    call_marks = marks_there side (cone_side_sizes k.n) k.n false bottom em eo ez
+
+    pub call_low : m.all.vertices < 2 ^ 32
+    call_low = all_low ps k.r k.height k.n side bottom k.few call_marks
+
+    pub call_sized : Sized (cone_of radius height side bottom slices ps) m.all
+    call_sized = sized_as call_is (all_sized ps k.r k.height k.n side bottom k.few call_marks)

@@ -10,10 +10,9 @@ use Rattle.mesh.specs.Normals.{or_else}
 use Rattle.parts.specs.declared.vert.Vert.{Vert}
 use Rattle.parts.specs.declared.sizes.PartSizes.{PartSizes}
 use Rattle.parts.specs.Ring.{ring_at, share_of}
-use Rattle.parts.specs.Sizes.{dim_of, held_to, sum_of, sizes_where}
+use Rattle.parts.specs.Sizes.{dim_of, held_to}
 use Rattle.parts.specs.Part.{Part, no_part, followed}
-use Rattle.parts.specs.Cap.{cap_at, cap_sizes}
-use Rattle.cone.specs.declared.whole.ConeMarks.{ConeMarks}
+use Rattle.parts.specs.Cap.{cap_at}
 
 -- FORMAT 17.9, cone (nrm): at pair p, by the whole height; (0, 1, 0) where it cannot be scaled
 unfoldable pub cone_normal : List Float → Float → Float → ℕ → V3
@@ -64,7 +63,3 @@ cone_of radius height side bottom slices ps = cone_part ps (dim_of radius one_f)
 -- FORMAT 17.10: the sizes of a side of n slices
 unfoldable pub cone_side_sizes : ℕ → PartSizes
 cone_side_sizes n = record { vertices = 3 * n; indices = 3 * n; pairs = 5 * n }
-
--- FORMAT 17.10: what there is before the bottom, and in all
-unfoldable pub cone_marks_of : ℕ → Bool → Bool → ConeMarks
-cone_marks_of n side bottom = let a = sizes_where side (cone_side_sizes n) in record { bottom = a; all = sum_of a (sizes_where bottom (cap_sizes n)) }

@@ -6,22 +6,20 @@ ghost use Rattle.std.specs.Float.Ieee.{of_bits, to_bits};
 ghost use Rattle.math.specs.SquareRoot.{root_of};
 ghost use Rattle.math.specs.Vector.{vdot, unit_of};
 
-use math::V3;
 use math::square_root::roots;
+use math::{Four, V3};
+use parts::Round;
 
 // The bits of the first of the four, and their roots.
 #[derive(Clone, Copy)]
 pub struct Lengths {
     pub first: u32,
-    pub a: f32,
-    pub b: f32,
-    pub c: f32,
-    pub d: f32,
+    pub roots: Four<f32>,
     ghost low: { first < 2 ^ 31 },
-    ghost root_a: { a ≡ root_of (of_bits binary32 first) },
-    ghost root_b: { b ≡ root_of (of_bits binary32 (first + 1)) },
-    ghost root_c: { c ≡ root_of (of_bits binary32 (first + 2)) },
-    ghost root_d: { d ≡ root_of (of_bits binary32 (first + 3)) },
+    ghost root_a: { roots.a ≡ root_of (of_bits binary32 first) },
+    ghost root_b: { roots.b ≡ root_of (of_bits binary32 (first + 1)) },
+    ghost root_c: { roots.c ≡ root_of (of_bits binary32 (first + 2)) },
+    ghost root_d: { roots.d ≡ root_of (of_bits binary32 (first + 3)) },
 }
 
 // One below, where that is a number; any first serves.
@@ -36,35 +34,23 @@ fn first_before(b: u32) -> u32
     0
 }
 
-// Around the square of the length over a point of the unit circle.
-pub fn lengths_near(r: f32, height: f32) -> Lengths {
-    let first = first_before(math::bits_of(height * height + r * r));
-    let l = roots(
+// Around the square of the length over a point of the unit circle. No ensures: the type says all that is used, and any first serves.
+pub fn lengths_near(k: Round) -> Lengths {
+    let first = first_before(math::bits_of(k.height * k.height + k.r * k.r));
+    let roots = roots(
         math::of_bits(first),
         math::of_bits(first + 1),
         math::of_bits(first + 2),
         math::of_bits(first + 3),
     );
-    Lengths {
-        first,
-        a: l.a,
-        b: l.b,
-        c: l.c,
-        d: l.d,
-    }
+    Lengths { first, roots }
 }
 
 // Whether the root of the number with the bits w is at hand.
 pub fn is_known(k: Lengths, w: u32) -> bool
     ensures { result ≡ true → (k.first ≤ w) × (w < k.first + 4) }
 {
-    if w < k.first {
-        return false;
-    }
-    if w < k.first + 4 {
-        return true;
-    }
-    false
+    k.first <= w && w < k.first + 4
 }
 
 fn known_length(k: Lengths, w: u32) -> f32
@@ -73,15 +59,15 @@ fn known_length(k: Lengths, w: u32) -> f32
 {
     let i = w - k.first;
     if i == 0 {
-        return k.a;
+        return k.roots.a;
     }
     if i == 1 {
-        return k.b;
+        return k.roots.b;
     }
     if i == 2 {
-        return k.c;
+        return k.roots.c;
     }
-    k.d
+    k.roots.d
 }
 
 // v scaled to length 1, where w, the bits of the square of its length, is known.

@@ -8,28 +8,20 @@ ghost use Rattle.cone.specs.Cone.{cone_normal, cone_foot, cone_apex, cone_verts,
 use crate::lengths::{Lengths, is_known, known_unit, lengths_near};
 use block::Pair;
 use math::V3;
-use parts::{Builder, Vert, put_words, ring_at, share};
+use parts::{Builder, Round, Vert, put_words, ring_at, share};
 use tables::narrow;
 
-// The radius, the height and the slices.
-#[derive(Clone, Copy)]
-pub struct Side {
-    pub r: f32,
-    pub height: f32,
-    pub n: usize,
-    ghost few: { n ≤ 1024 },
-}
-
 // What is scaled to length 1 for the normal at pair p.
-fn cone_slope(pairs: &[f32], r: f32, height: f32, p: usize) -> V3
+#[tactic(auto, unfolding(crate::specs::Cone::cone_normal))]
+fn cone_slope(pairs: &[f32], k: Round, p: usize) -> V3
     requires { p < 65536 }
-    ensures { or_else (unit_of result) y_axis ≡ cone_normal pairs.now r height p }
+    ensures { or_else (unit_of result) y_axis ≡ cone_normal pairs.now k.r k.height p }
 {
     let q = ring_at(pairs, p);
     V3 {
-        x: q.x * height,
-        y: r,
-        z: q.z * height,
+        x: q.x * k.height,
+        y: k.r,
+        z: q.z * k.height,
     }
 }
 
@@ -92,29 +84,30 @@ fn scaled(known: Lengths, a: V3, b: V3, c: V3) -> SliceNormals
 }
 
 // Those of the slice whose pairs begin at p.
-fn slice_normals(pairs: &[f32], known: Lengths, r: f32, height: f32, p: usize) -> SliceNormals
+fn slice_normals(pairs: &[f32], known: Lengths, k: Round, p: usize) -> SliceNormals
     requires { p + 5 < 65536 }
-    ensures { (result.from ≡ cone_normal pairs.now r height (p + 2))
-        × (result.to ≡ cone_normal pairs.now r height (p + 3))
-        × (result.apex ≡ cone_normal pairs.now r height (p + 4)) }
+    ensures { (result.from ≡ cone_normal pairs.now k.r k.height (p + 2))
+        × (result.to ≡ cone_normal pairs.now k.r k.height (p + 3))
+        × (result.apex ≡ cone_normal pairs.now k.r k.height (p + 4)) }
 {
-    let a = cone_slope(pairs, r, height, p + 2);
-    let b = cone_slope(pairs, r, height, p + 3);
-    let c = cone_slope(pairs, r, height, p + 4);
+    let a = cone_slope(pairs, k, p + 2);
+    let b = cone_slope(pairs, k, p + 3);
+    let c = cone_slope(pairs, k, p + 4);
     scaled(known, a, b, c)
 }
 
 // A vertex of the foot, its position from pair p.
-fn cone_foot(pairs: &[f32], r: f32, height: f32, p: usize, normal: V3, s: f32) -> Vert
+#[tactic(auto, unfolding(crate::specs::Cone::cone_foot))]
+fn cone_foot(pairs: &[f32], k: Round, p: usize, normal: V3, s: f32) -> Vert
     requires { p < 65536 }
-    ensures { (q : ℕ) → normal ≡ cone_normal pairs.now r height q
-        → result ≡ cone_foot pairs.now r height p q s }
+    ensures { (q : ℕ) → normal ≡ cone_normal pairs.now k.r k.height q
+        → result ≡ cone_foot pairs.now k.r k.height p q s }
 {
     let x = ring_at(pairs, p);
     let position = V3 {
-        x: x.x * r,
-        y: -(height / 2.0),
-        z: x.z * r,
+        x: x.x * k.r,
+        y: -(k.height / 2.0),
+        z: x.z * k.r,
     };
     let st = Pair { s, t: 0.0 };
     Vert {
@@ -124,13 +117,14 @@ fn cone_foot(pairs: &[f32], r: f32, height: f32, p: usize, normal: V3, s: f32) -
     }
 }
 
-fn cone_apex(height: f32, normal: V3, s: f32) -> Vert
-    ensures { (ps : List Float) (r : Float) (q : ℕ) → normal ≡ cone_normal ps r height q
-        → result ≡ cone_apex ps r height q s }
+#[tactic(auto, unfolding(crate::specs::Cone::cone_apex))]
+fn cone_apex(k: Round, normal: V3, s: f32) -> Vert
+    ensures { (ps : List Float) (q : ℕ) → normal ≡ cone_normal ps k.r k.height q
+        → result ≡ cone_apex ps k.r k.height q s }
 {
     let position = V3 {
         x: 0.0,
-        y: height / 2.0,
+        y: k.height / 2.0,
         z: 0.0,
     };
     let st = Pair { s, t: 1.0 };
@@ -142,7 +136,7 @@ fn cone_apex(height: f32, normal: V3, s: f32) -> Vert
 }
 
 // The three vertices of slice i.
-fn cone_verts(pairs: &[f32], known: Lengths, k: Side, i: usize) -> [Vert; 3]
+fn cone_verts(pairs: &[f32], known: Lengths, k: Round, i: usize) -> [Vert; 3]
     requires { i < k.n }
     ensures { result ≡ cone_verts pairs.now k.r k.height k.n i }
 {
@@ -150,14 +144,15 @@ fn cone_verts(pairs: &[f32], known: Lengths, k: Side, i: usize) -> [Vert; 3]
     let s1 = share(i + 1, k.n);
     let sm = (s0 + s1) / 2.0;
     let p = 5 * i;
-    let u = slice_normals(pairs, known, k.r, k.height, p);
-    let a = cone_foot(pairs, k.r, k.height, p, u.from, s0);
-    let b = cone_foot(pairs, k.r, k.height, p + 1, u.to, s1);
-    let apex = cone_apex(k.height, u.apex, sm);
+    let u = slice_normals(pairs, known, k, p);
+    let a = cone_foot(pairs, k, p, u.from, s0);
+    let b = cone_foot(pairs, k, p + 1, u.to, s1);
+    let apex = cone_apex(k, u.apex, sm);
     [a, b, apex]
 }
 
 // The triangle of slice i.
+#[tactic(auto, unfolding(crate::specs::Cone::cone_tri))]
 fn cone_tri(i: usize) -> [u32; 3]
     requires { i < 1024 }
     ensures { result ≡ cone_tri i }
@@ -166,11 +161,11 @@ fn cone_tri(i: usize) -> [u32; 3]
 }
 
 // The whole side.
-fn put_side(pairs: &[f32], k: Side, b: &mut Builder<'_>)
+fn put_side(pairs: &[f32], k: Round, b: &mut Builder<'_>)
     requires { Roomy (cone_side pairs.now k.r k.height k.n) 0 0 b.old }
     ensures { Written (cone_side pairs.now k.r k.height k.n) 0 0 b.old b.new }
 {
-    let known = lengths_near(k.r, k.height);
+    let known = lengths_near(k);
     b.put_verts(
         0,
         k.n,
@@ -183,7 +178,7 @@ fn put_side(pairs: &[f32], k: Side, b: &mut Builder<'_>)
 }
 
 // The side, if there is one. As in cylinder: one function of both would take the vertices, the triangles and their numbers as closures.
-pub fn put_side_at(pairs: &[f32], side: Option<Side>, b: &mut Builder<'_>)
+pub fn put_side_at(pairs: &[f32], side: Option<Round>, b: &mut Builder<'_>)
     requires { IfSome side (λ k. Roomy (cone_side pairs.now k.r k.height k.n) 0 0 b.old) }
     ensures { MatchOption side (b.new ≡ b.old) (λ k. Written (cone_side pairs.now k.r k.height k.n) 0 0 b.old b.new) }
 {

@@ -1,17 +1,19 @@
 // FORMAT 17.9, 17.10: the call of a cone.
-ghost use Rattle.std.specs.Prelude.{◌≤◌, ◌≡◌};
+ghost use Rattle.std.specs.Prelude.{◌≤◌, ◌≡◌, false};
 ghost use Rattle.parts.specs.Parted.{Parted, lent_to};
 ghost use Rattle.parts.specs.Written.{Roomy, Written};
-ghost use Rattle.cone.specs.Cone.{cone_side_sizes, cone_marks_of, cone_part, cone_of};
+ghost use Rattle.parts.specs.Round.{marks_of};
+ghost use Rattle.parts.specs.Sizes.{sizes_where};
+ghost use Rattle.cone.specs.Cone.{cone_side_sizes, cone_part, cone_of};
 
-use crate::side::{Side, put_side_at};
+use crate::side::put_side_at;
 use lent::Answer;
 use parts::{
-    Builder, Cap, GeomCtx, NO_PART, PartSizes, cap_sizes, dim, finite_ctx, held, part_report,
-    sum_sizes,
+    Builder, Cap, GeomCtx, Marks, PartSizes, Round, finite_ctx, marks_of, part_report, round_of,
 };
 
 // The sizes of a side of n slices.
+#[tactic(auto, unfolding(crate::specs::Cone::cone_side_sizes))]
 fn side_sizes(n: usize) -> PartSizes
     requires { n ≤ 1024 }
     ensures { result ≡ cone_side_sizes n }
@@ -23,25 +25,10 @@ fn side_sizes(n: usize) -> PartSizes
     }
 }
 
-// What there is before the bottom, and in all.
-#[derive(Clone, Copy)]
-pub struct ConeMarks {
-    pub bottom: PartSizes,
-    pub all: PartSizes,
-}
-
-// The flags are the fields of the node, as the call has them; below each becomes an Option with its value.
-fn marks_of(k: Side, side: bool, bottom: bool) -> ConeMarks
-    ensures { result ≡ cone_marks_of k.n side bottom }
-{
-    let a = side.then_some(side_sizes(k.n)).unwrap_or(NO_PART);
-    let all = sum_sizes(a, bottom.then_some(cap_sizes(k.n)).unwrap_or(NO_PART));
-    ConeMarks { bottom: a, all }
-}
-
-// The side and the bottom, each where it is there, one after the other.
-fn put_cone(pairs: &[f32], k: Side, side: bool, bottom: bool, m: ConeMarks, b: &mut Builder<'_>)
-    requires { (m ≡ cone_marks_of k.n side bottom) × Roomy (cone_part pairs.now k.r k.height k.n side bottom) 0 0 b.old }
+// The side and the bottom, each where it is there, one after the other. The flags are the fields of the node, as the call has them; here each becomes
+// an Option with its value. As in cylinder, but with no top: one function of both would take the side and the definition of the part.
+fn put_cone(pairs: &[f32], k: Round, side: bool, bottom: bool, m: Marks, b: &mut Builder<'_>)
+    requires { (m ≡ marks_of (sizes_where side (cone_side_sizes k.n)) k.n false bottom) × Roomy (cone_part pairs.now k.r k.height k.n side bottom) 0 0 b.old }
     ensures { Written (cone_part pairs.now k.r k.height k.n side bottom) 0 0 b.old b.new }
 {
     put_side_at(pairs, side.then_some(k), b);
@@ -75,11 +62,7 @@ pub fn cone(
         (lent_to positions.old normals.old textures.old indices.old)
         (lent_to positions.new normals.new textures.new indices.new) result }
 {
-    let k = Side {
-        r: dim(radius, 1.0),
-        height: dim(height, 2.0),
-        n: held(slices, 3),
-    };
+    let k = round_of(radius, height, slices);
     let mut b = Builder {
         ctx: finite_ctx(ctx),
         positions,
@@ -87,7 +70,8 @@ pub fn cone(
         textures,
         indices,
     };
-    let m = marks_of(k, side, bottom);
+    // No top.
+    let m = marks_of(side.then_some(side_sizes(k.n)), k.n, false, bottom);
     b.refusal(m.all, pairs.len())?;
     put_cone(pairs, k, side, bottom, m, &mut b);
     Ok(part_report(m.all))

@@ -7,19 +7,22 @@ use native.Mathlib.Omega.{arith}
 use lib.ListN.{length}
 use lib.Ieee.{Float, binary32, neg, div}
 use Rattle.math.specs.Vector.{one_f, two_f}
+use Rattle.std.specs.Prelude.{Option, unwrap_or}
+use Rattle.std.specs.Bool.{then_some}
 use Rattle.lists.proofs.Pieces.{length_pieces}
 use Rattle.parts.specs.declared.cap.Cap.{Cap}
 use Rattle.parts.specs.declared.sizes.PartSizes.{PartSizes}
+use Rattle.parts.specs.declared.marks.Marks.{Marks}
+use Rattle.parts.specs.declared.round.Round.{Round}
 use Rattle.parts.specs.declared.builder.Builder.{Builder}
-use Rattle.parts.specs.Sizes.{dim_of, held_to, sum_of, sizes_where}
+use Rattle.parts.specs.Sizes.{dim_of, held_to, sum_of, no_sizes, sizes_where, Small}
+use Rattle.parts.specs.Round.{half, marks_of}
 use Rattle.parts.specs.Part.{Part, followed}
 use Rattle.parts.specs.Cap.{cap_at, cap_part, cap_sizes, Numbered}
 use Rattle.parts.specs.Written.{Sized, Written, Roomy}
 use Rattle.parts.proofs.Capping.{cap_sized}
-use Rattle.parts.proofs.Holding.{held_between}
-use Rattle.parts.proofs.Parting.{where_sized, room_there, Small, where_small, cap_small, sum_small, sized_followed, roomy_first, roomy_next, written_followed}
-use Rattle.cylinder.specs.declared.whole.Marks.{Marks}
-use Rattle.cylinder.specs.Cylinder.{side_verts, side_tris, side_part, side_at, side_sizes, marks_of, cylinder_part, cylinder_of}
+use Rattle.parts.proofs.Parting.{where_sized, room_there, where_small, cap_small, sum_small, sized_followed, roomy_first, roomy_next, written_followed, marks_there, sized_as}
+use Rattle.cylinder.specs.Cylinder.{side_verts, side_tris, side_part, side_at, side_sizes, cylinder_part, cylinder_of}
 
 -- ---- the side
 
@@ -76,7 +79,7 @@ module _ (ps : List Float) (r h : Float) (n : ℕ) where
     upper_numbered = record { few = low; first_low = omega (arith, small_a.vertices); pair_low = omega (arith, small_a.pairs) }
 
   -- and the bottom
-  module _ (side top bottom : Bool) {m : Marks} (low : n ≤ 1024) (em : m ≡ marks_of n side top bottom) where
+  module _ (side top bottom : Bool) {m : Marks} (low : n ≤ 1024) (em : m ≡ marks_of (a side) n top bottom) where
     top_is : m.top ≡ a side
     unfolding marks_of
     top_is = λ t. (em t).top
@@ -146,10 +149,17 @@ module _ (ps : List Float) (r h : Float) (n : ℕ) where
 
 -- ---- the call
 
-module _ (radius height : Float) (side top bottom : Bool) (slices : ℕ) (ps : List Float) {r k : Float} {n : ℕ} (er : r ≡ dim_of radius one_f) (ek : k ≡ dim_of height two_f) (en : n ≡ held_to slices 3) where
-  pub low_call : n ≤ 1024
-  low_call = omega (arith, en, held_between slices 3 (omega arith))
-
-  pub read_call : cylinder_part ps r (div binary32 k two_f) n side top bottom ≡ cylinder_of radius height side top bottom slices ps
+module _ (radius height : Float) (side top bottom : Bool) (slices : ℕ) (ps : List Float) (k : Round) (e : (k.r ≡ dim_of radius one_f) × (k.height ≡ dim_of height two_f) × (k.n ≡ held_to slices 3)) where
+  pub call_is : cylinder_part ps k.r (half k) k.n side top bottom ≡ cylinder_of radius height side top bottom slices ps
   unfolding cylinder_of
-  read_call = λ t. cylinder_part ps (er t) (div binary32 (ek t) two_f) (en t) side top bottom
+  call_is = λ t. cylinder_part ps (e.0 t) (div binary32 (e.1 t) two_f) (e.2 t) side top bottom
+
+  module _ {z : PartSizes} {o : Option PartSizes} {m : Marks} (em : m ≡ marks_of (unwrap_or o no_sizes) k.n top bottom) (eo : o ≡ then_some side z) (ez : z ≡ side_sizes k.n) where
+    pub call_marks : m ≡ marks_of (sizes_where side (side_sizes k.n)) k.n top bottom
+    call_marks = marks_there side (side_sizes k.n) k.n top bottom em eo ez
+
+    pub call_low : m.all.vertices < 2 ^ 32
+    call_low = all_low ps k.r (half k) k.n side top bottom k.few call_marks
+
+    pub call_sized : Sized (cylinder_of radius height side top bottom slices ps) m.all
+    call_sized = sized_as call_is (all_sized ps k.r (half k) k.n side top bottom k.few call_marks)

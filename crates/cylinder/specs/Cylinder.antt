@@ -8,10 +8,9 @@ use Rattle.lists.specs.Loops.{tab}
 use Rattle.parts.specs.declared.vert.Vert.{Vert}
 use Rattle.parts.specs.declared.sizes.PartSizes.{PartSizes}
 use Rattle.parts.specs.Ring.{ring_at, share_of}
-use Rattle.parts.specs.Sizes.{dim_of, held_to, sum_of, sizes_where}
+use Rattle.parts.specs.Sizes.{dim_of, held_to}
 use Rattle.parts.specs.Part.{Part, no_part, followed}
-use Rattle.cylinder.specs.declared.whole.Marks.{Marks}
-use Rattle.parts.specs.Cap.{cap_at, cap_sizes}
+use Rattle.parts.specs.Cap.{cap_at}
 
 -- FORMAT 17.8, cylinder (side): of n slices, at pair i: the vertex at height y
 unfoldable pub side_vert : List Float → Float → ℕ → ℕ → Float → Float → Vert
@@ -46,10 +45,3 @@ cylinder_of radius height side top bottom slices ps = cylinder_part ps (dim_of r
 -- FORMAT 17.10: the sizes of a side of n slices
 unfoldable pub side_sizes : ℕ → PartSizes
 side_sizes n = record { vertices = 2 * (n + 1); indices = 6 * n; pairs = n + 1 }
-
--- FORMAT 17.10: what there is before the top, before the bottom, and in all
-unfoldable pub marks_of : ℕ → Bool → Bool → Bool → Marks
-marks_of n side top bottom =
-    let a = sizes_where side (side_sizes n) in
-    let b = sum_of a (sizes_where top (cap_sizes n)) in
-    record { top = a; bottom = b; all = sum_of b (sizes_where bottom (cap_sizes n)) }

@@ -1,24 +1,17 @@
 // FORMAT 17.8, cylinder (side): two vertices at each pair, two triangles a slice.
 ghost use Rattle.std.specs.Prelude.{◌≡◌, ◌+◌, ◌*◌, ◌≤◌, ◌<◌, IfSome, MatchOption};
+ghost use Rattle.parts.specs.Round.{half};
 ghost use Rattle.parts.specs.Written.{Roomy, Written};
 ghost use Rattle.cylinder.specs.Cylinder.{side_vert, side_verts, side_tris, side_part};
 
 use block::Pair;
 use math::V3;
-use parts::{Builder, Vert, put_words, ring_at, share};
+use parts::{Builder, Round, Vert, put_words, ring_at, share};
 use tables::narrow;
 
-// The radius, half the height and the slices.
-#[derive(Clone, Copy)]
-pub struct Side {
-    pub r: f32,
-    pub h: f32,
-    pub n: usize,
-    ghost few: { n ≤ 1024 },
-}
-
 // The vertex at pair i, at height y, with t.
-fn side_vert(pairs: &[f32], k: Side, i: usize, y: f32, t: f32) -> Vert
+#[tactic(auto, unfolding(crate::specs::Cylinder::side_vert))]
+fn side_vert(pairs: &[f32], k: Round, i: usize, y: f32, t: f32) -> Vert
     requires { i ≤ k.n }
     ensures { result ≡ side_vert pairs.now k.r k.n i y t }
 {
@@ -43,16 +36,19 @@ fn side_vert(pairs: &[f32], k: Side, i: usize, y: f32, t: f32) -> Vert
 }
 
 // The two at pair i.
-fn side_verts(pairs: &[f32], k: Side, i: usize) -> [Vert; 2]
+#[tactic(auto, unfolding(crate::specs::Cylinder::side_verts))]
+fn side_verts(pairs: &[f32], k: Round, i: usize) -> [Vert; 2]
     requires { i ≤ k.n }
-    ensures { result ≡ side_verts pairs.now k.r k.h k.n i }
+    ensures { result ≡ side_verts pairs.now k.r (half k) k.n i }
 {
-    let below = side_vert(pairs, k, i, -k.h, 0.0);
-    let above = side_vert(pairs, k, i, k.h, 1.0);
+    let h = k.height / 2.0;
+    let below = side_vert(pairs, k, i, -h, 0.0);
+    let above = side_vert(pairs, k, i, h, 1.0);
     [below, above]
 }
 
 // The two triangles of slice i.
+#[tactic(auto, unfolding(crate::specs::Cylinder::side_tris))]
 fn side_tris(i: usize) -> [u32; 6]
     requires { i < 1024 }
     ensures { result ≡ side_tris i }
@@ -65,25 +61,25 @@ fn side_tris(i: usize) -> [u32; 6]
 }
 
 // The whole side.
-fn put_side(pairs: &[f32], k: Side, b: &mut Builder<'_>)
-    requires { Roomy (side_part pairs.now k.r k.h k.n) 0 0 b.old }
-    ensures { Written (side_part pairs.now k.r k.h k.n) 0 0 b.old b.new }
+fn put_side(pairs: &[f32], k: Round, b: &mut Builder<'_>)
+    requires { Roomy (side_part pairs.now k.r (half k) k.n) 0 0 b.old }
+    ensures { Written (side_part pairs.now k.r (half k) k.n) 0 0 b.old b.new }
 {
     b.put_verts(
         0,
         k.n + 1,
         |i|
             requires { i ≤ k.n }
-            ensures { result ≡ side_verts pairs.exit.now k.r k.h k.n i }
+            ensures { result ≡ side_verts pairs.exit.now k.r (half k) k.n i }
         { side_verts(pairs, k, i) },
     );
     put_words(b.indices, 0, k.n, side_tris);
 }
 
 // The side, if there is one. As in cone: one function of both would take the vertices, the triangles and their numbers as closures.
-pub fn put_side_at(pairs: &[f32], side: Option<Side>, b: &mut Builder<'_>)
-    requires { IfSome side (λ k. Roomy (side_part pairs.now k.r k.h k.n) 0 0 b.old) }
-    ensures { MatchOption side (b.new ≡ b.old) (λ k. Written (side_part pairs.now k.r k.h k.n) 0 0 b.old b.new) }
+pub fn put_side_at(pairs: &[f32], side: Option<Round>, b: &mut Builder<'_>)
+    requires { IfSome side (λ k. Roomy (side_part pairs.now k.r (half k) k.n) 0 0 b.old) }
+    ensures { MatchOption side (b.new ≡ b.old) (λ k. Written (side_part pairs.now k.r (half k) k.n) 0 0 b.old b.new) }
 {
     if let Some(k) = side {
         put_side(pairs, k, b);

@@ -2,16 +2,18 @@
 ghost use Rattle.std.specs.Prelude.{◌≤◌, ◌≡◌};
 ghost use Rattle.parts.specs.Parted.{Parted, lent_to};
 ghost use Rattle.parts.specs.Written.{Roomy, Written};
-ghost use Rattle.cylinder.specs.Cylinder.{side_sizes, marks_of, cylinder_part, cylinder_of};
+ghost use Rattle.parts.specs.Round.{half, marks_of};
+ghost use Rattle.parts.specs.Sizes.{sizes_where};
+ghost use Rattle.cylinder.specs.Cylinder.{side_sizes, cylinder_part, cylinder_of};
 
-use crate::side::{Side, put_side_at};
+use crate::side::put_side_at;
 use lent::Answer;
 use parts::{
-    Builder, Cap, GeomCtx, NO_PART, PartSizes, cap_sizes, dim, finite_ctx, held, part_report,
-    sum_sizes,
+    Builder, Cap, GeomCtx, Marks, PartSizes, Round, finite_ctx, marks_of, part_report, round_of,
 };
 
 // The sizes of a side of n slices.
+#[tactic(auto, unfolding(crate::specs::Cylinder::side_sizes))]
 fn side_sizes(n: usize) -> PartSizes
     requires { n ≤ 1024 }
     ensures { result ≡ side_sizes n }
@@ -23,44 +25,24 @@ fn side_sizes(n: usize) -> PartSizes
     }
 }
 
-// What there is before the top, before the bottom, and in all.
-#[derive(Clone, Copy)]
-pub struct Marks {
-    pub top: PartSizes,
-    pub bottom: PartSizes,
-    pub all: PartSizes,
-}
-
-// The flags are the fields of the node, as the call has them; below each becomes an Option with its value.
-fn marks_of(k: Side, side: bool, top: bool, bottom: bool) -> Marks
-    ensures { result ≡ marks_of k.n side top bottom }
-{
-    let a = side.then_some(side_sizes(k.n)).unwrap_or(NO_PART);
-    let b = sum_sizes(a, top.then_some(cap_sizes(k.n)).unwrap_or(NO_PART));
-    let all = sum_sizes(b, bottom.then_some(cap_sizes(k.n)).unwrap_or(NO_PART));
-    Marks {
-        top: a,
-        bottom: b,
-        all,
-    }
-}
-
-// The side, the top and the bottom, each where it is there, one after the other.
+// The side, the top and the bottom, each where it is there, one after the other. The flags are the fields of the node, as the call has them; here each
+// becomes an Option with its value. As in cone, but for the top: one function of both would take the side and the definition of the part.
 fn put_cylinder(
     pairs: &[f32],
-    k: Side,
+    k: Round,
     side: bool,
     top: bool,
     bottom: bool,
     m: Marks,
     b: &mut Builder<'_>,
 )
-    requires { (m ≡ marks_of k.n side top bottom) × Roomy (cylinder_part pairs.now k.r k.h k.n side top bottom) 0 0 b.old }
-    ensures { Written (cylinder_part pairs.now k.r k.h k.n side top bottom) 0 0 b.old b.new }
+    requires { (m ≡ marks_of (sizes_where side (side_sizes k.n)) k.n top bottom) × Roomy (cylinder_part pairs.now k.r (half k) k.n side top bottom) 0 0 b.old }
+    ensures { Written (cylinder_part pairs.now k.r (half k) k.n side top bottom) 0 0 b.old b.new }
 {
     put_side_at(pairs, side.then_some(k), b);
+    let h = k.height / 2.0;
     let upper = Cap {
-        y: k.h,
+        y: h,
         r: k.r,
         slices: k.n,
         top: true,
@@ -69,7 +51,7 @@ fn put_cylinder(
     };
     b.put_cap_at(pairs, top.then_some(upper), m.top.indices);
     let lower = Cap {
-        y: -k.h,
+        y: -h,
         r: k.r,
         slices: k.n,
         top: false,
@@ -99,11 +81,7 @@ pub fn cylinder(
         (lent_to positions.old normals.old textures.old indices.old)
         (lent_to positions.new normals.new textures.new indices.new) result }
 {
-    let k = Side {
-        r: dim(radius, 1.0),
-        h: dim(height, 2.0) / 2.0,
-        n: held(slices, 3),
-    };
+    let k = round_of(radius, height, slices);
     let mut b = Builder {
         ctx: finite_ctx(ctx),
         positions,
@@ -111,7 +89,7 @@ pub fn cylinder(
         textures,
         indices,
     };
-    let m = marks_of(k, side, top, bottom);
+    let m = marks_of(side.then_some(side_sizes(k.n)), k.n, top, bottom);
     b.refusal(m.all, pairs.len())?;
     put_cylinder(pairs, k, side, top, bottom, m, &mut b);
     Ok(part_report(m.all))

@@ -18,10 +18,7 @@ struct Partial {
 fn not_below(rest: u32, trial: u32) -> u32
     ensures { Bit rest trial result }
 {
-    if rest < trial {
-        return 0;
-    }
-    1
+    (trial <= rest) as u32
 }
 
 // One binary digit more of a root, from the next two of the number. The remainder is at most twice the root, before and after.
@@ -79,7 +76,7 @@ fn root_bits(b: u32) -> u32
     if b < 8388608 {
         let mut m = b;
         let mut g: u32 = 24;
-        // A while: how often it is doubled is what is counted.
+        // A while: how often it is doubled is what is counted. Not leading_zeros: a root calls nothing outside of this file (tests/narrow.sh).
         while m < 8388608 {
             m = m * 2;
             g = g - 1;
@@ -105,7 +102,8 @@ pub fn root(x: f32) -> f32
 
 // ---- four at once
 
-// One value for each of four numbers.
+// One value for each of four numbers. No `map`: tests/narrow.sh sees no width where a type is a parameter, so that no root could call it, and outside of
+// the roots it would serve once, for the normals of a cone.
 #[derive(Clone, Copy)]
 pub struct Four<T> {
     pub a: T,

@@ -87,10 +87,8 @@ pub fn len(a: V3) -> f32
 pub fn unit_by(a: V3, l: f32) -> Option<V3>
     ensures { result ≡ unit_by l a }
 {
-    if is_finite(l) {
-        if l > 1e-20 {
-            return Some(scale(a, 1.0 / l));
-        }
+    if is_finite(l) && l > 1e-20 {
+        return Some(scale(a, 1.0 / l));
     }
     None
 }

@@ -4,7 +4,7 @@ use mathlib.Core.Path.{◌≡◌, refl, sym, ap, ◌∙◌, subst}
 use mathlib.Core.Bool.{Bool, true, false, ◌||◌, cond}
 use mathlib.Core.List.{List, [], ◌∷◌, ◌++◌}
 use Prim.Native.Nat.{ℕ, zero, suc, ◌+◌, ◌*◌, ◌/◌, ◌≤◌, ◌<◌, ◌^◌}
-use native.Mathlib.Nat.{zero-add, mul-zero}
+use native.Mathlib.Nat.{zero-add, add-zero, mul-zero}
 use native.Mathlib.Omega.{arith}
 use borrow.Author.Tests.{ltb-false, le-ltb}
 use lib.Dec.{ltb}
@@ -19,13 +19,15 @@ use Rattle.lists.specs.Parts.{spliced}
 use Rattle.lists.proofs.Splices.{splice_more, put_size}
 use Rattle.mesh.specs.Mesh.{Slices, slices_of, over}
 use Rattle.lent.specs.declared.answer.Report.{Report}
-use Rattle.std.specs.Prelude.{Option, Err, Ok, IfSome, MatchOption, unwrap_or}
+use Rattle.std.specs.Prelude.{Option, Some, None, Err, Ok, IfSome, MatchOption, unwrap_or}
 use Rattle.std.specs.Bool.{then_some}
 use Rattle.lent.specs.Answer.{refused, saying}
 use Rattle.parts.specs.declared.sizes.PartSizes.{PartSizes}
+use Rattle.parts.specs.declared.marks.Marks.{Marks}
+use Rattle.parts.specs.Round.{marks_of}
 use Rattle.parts.specs.declared.builder.Builder.{Builder}
 use Rattle.parts.specs.declared.vert.GeomCtx.{GeomCtx}
-use Rattle.parts.specs.Sizes.{is_short_texture, is_short_part, report_of, sum_of, sizes_where}
+use Rattle.parts.specs.Sizes.{is_short_texture, is_short_part, report_of, sum_of, no_sizes, sizes_where, Small}
 use Rattle.parts.specs.Part.{Part, no_part, followed, finite_ctx, textures_of, part_mesh}
 use Rattle.parts.specs.Pushed.{position_words, normal_words, texture_words, texture_width, pushed, RoomFor}
 use Rattle.parts.specs.Cap.{cap_sizes}
@@ -45,7 +47,7 @@ module _ (p : Part) (b : Bool) where
   unfolding sizes_where
   where_sized {z} Z = go b
     where
-      go : (b : Bool) → Sized (cond b p no_part) (cond b z (record { vertices = 0; indices = 0; pairs = 0 }))
+      go : (b : Bool) → Sized (cond b p no_part) (cond b z no_sizes)
       go true = Z
       go false = record { vertices = refl; indices = refl; pairs = refl }
 
@@ -68,28 +70,38 @@ module _ {T : Type 0} (w : Bool) (x : T) {o : Option T} (e : o ≡ then_some w x
 pub room_there : (p : Part) {w : Bool} {k a : ℕ} {b : Builder} → Roomy (cond w p no_part) k a b → w ≡ true → Roomy p k a b
 room_there p R e = rw e at R
 
--- the sizes of what is there
-pub sizes_there : (w : Bool) (z : PartSizes) {r : PartSizes} {o : Option PartSizes} → o ≡ then_some w z → r ≡ unwrap_or o (record { vertices = 0; indices = 0; pairs = 0 }) → r ≡ sizes_where w z
+pub sizes_given : (w : Bool) (z : PartSizes) → unwrap_or (then_some w z) no_sizes ≡ sizes_where w z
 unfolding sizes_where
-sizes_there w z {r} {o} e q = q ∙ ap (λ (y : Option PartSizes). unwrap_or y (record { vertices = 0; indices = 0; pairs = 0 })) e ∙ go w
-  where
-    go : (w : Bool) → unwrap_or (then_some w z) (record { vertices = 0; indices = 0; pairs = 0 }) ≡ cond w z (record { vertices = 0; indices = 0; pairs = 0 })
-    go true = refl
-    go false = refl
+sizes_given true z = refl
+sizes_given false z = refl
 
--- sizes of at most m
-pub record Small (m : ℕ) (z : PartSizes) : Type 0 where
-  pub vertices : z.vertices ≤ m
-  pub indices : z.indices ≤ m
-  pub pairs : z.pairs ≤ m
+-- the sizes of what is there
+pub sizes_there : (w : Bool) (z : PartSizes) {r : PartSizes} {o : Option PartSizes} → o ≡ then_some w z → r ≡ unwrap_or o no_sizes → r ≡ sizes_where w z
+sizes_there w z {r} {o} e q = q ∙ ap (λ (y : Option PartSizes). unwrap_or y no_sizes) e ∙ sizes_given w z
 
 pub where_small : (m : ℕ) (b : Bool) (z : PartSizes) → Small m z → Small m (sizes_where b z)
 unfolding sizes_where
 where_small m true z S = S
 where_small m false z S = record { vertices = omega arith; indices = omega arith; pairs = omega arith }
 
+-- what stands before the caps, of a side that is there or not
+pub marks_there : (w : Bool) (y : PartSizes) (n : ℕ) (top bottom : Bool) {z : PartSizes} {o : Option PartSizes} {m : Marks} → m ≡ marks_of (unwrap_or o no_sizes) n top bottom → o ≡ then_some w z → z ≡ y
+    → m ≡ marks_of (sizes_where w y) n top bottom
+marks_there w y n top bottom {z} {o} {m} em eo ez =
+    em ∙ ap (λ (x : PartSizes). marks_of x n top bottom) (sizes_there w z {r = unwrap_or o no_sizes} eo refl ∙ ap (sizes_where w) ez)
+
+-- sizes of a part that is there or not
+pub some_small : (m : ℕ) (o : Option PartSizes) → IfSome o (Small m) → Small m (unwrap_or o no_sizes)
+some_small m (Some z) S = S
+some_small m None S = record { vertices = omega arith; indices = omega arith; pairs = omega arith }
+
 pub sum_small : (m n : ℕ) (y z : PartSizes) → Small m y → Small n z → Small (m + n) (sum_of y z)
 sum_small m n y z S T = record { vertices = omega (arith, S.vertices, T.vertices); indices = omega (arith, S.indices, T.indices); pairs = omega (arith, S.pairs, T.pairs) }
+
+-- and of one that is not there
+pub sum_none : (y z : PartSizes) → sum_of y (sizes_where false z) ≡ y
+unfolding sizes_where
+sum_none y z = λ t. record { vertices = add-zero y.vertices t; indices = add-zero y.indices t; pairs = add-zero y.pairs t }
 
 pub cap_small : (n : ℕ) → n ≤ 1024 → Small 8192 (cap_sizes n)
 unfolding cap_sizes

@@ -130,11 +130,6 @@ module _ (c : GeomCtx) where
 
 -- ---- one vertex
 
-pub push_room : (c : GeomCtx) (k : ℕ) (l : List ℕ) → texture_width c * (k + 1) ≤ length l → c.need_uvs ≡ true → 2 * k + 2 ≤ length l
-push_room c k l h e =
-    let q : 2 * (k + 1) ≤ length l = rw e at h in
-    omega arith
-
 module _ (c : GeomCtx) (k : ℕ) (v : Vert) (p n : List ℕ) {p' n' : List ℕ} (ep : p' ≡ spliced p (3 * k) (words3 (bits v.position))) (en : n' ≡ spliced n (3 * k) (words3 (bits v.normal))) where
   pub push_one : (t : List ℕ) {t' : List ℕ} {w : Words2} → c.need_uvs ≡ true → w ≡ uv_of c v → t' ≡ spliced t (2 * k) (w.s ∷ w.t ∷ [])
       → record { positions = p'; normals = n'; textures = t' } ≡ pushed c k (v ∷ []) (record { positions = p; normals = n; textures = t })

@@ -66,11 +66,6 @@ module _ {n k : ℕ} {f : ℕ → List Vert} {b : Builder} where
   unfolding tab flat
   rowing_none = record { so_far = omega arith; next = omega arith; is = pushes_none k b }
 
-  pub rowing_all : {i a : ℕ} {b' : Builder} → Rowing n f k b i a b' → n ≤ i → Pushes k (flat (tab f n 0)) b b'
-  rowing_all {i} {b' = b'} P h =
-      let e : i ≡ n = omega (arith, P.so_far) in
-      subst (λ (j : ℕ). Pushes k (flat (tab f j 0)) b b') e P.is
-
   module _ {R : Type 0} {items : R → List Vert} {post : ℕ → R → Type 0} {i a : ℕ} {b' : Builder} {r : List Vert} {x : R} (G : Gives items post n k (λ m. Room m b) f) (P : Rowing n f k b i a b') (h : i < n) (p : post i x) (er : r ≡ items x) where
     same : r ≡ f i
     same = er ∙ G.row i h x p

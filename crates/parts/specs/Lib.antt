@@ -4,6 +4,7 @@ pub mod Ring
 pub mod Part
 pub mod Pushed
 pub mod Cap
+pub mod Round
 pub mod Building
 pub mod Written
 pub mod Parted

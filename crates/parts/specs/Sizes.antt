@@ -1,5 +1,5 @@
 -- FORMAT 17.2, 17.10, 17.11: sizes with their defaults, slices and stacks within their bounds, and by numbers what a part asks for and reports.
-use Rattle.std.specs.Prelude.{ℕ, ◌+◌, ◌*◌, Bool, true, false, ◌&&◌, ◌||◌, cond, ltb, length, Float}
+use Rattle.std.specs.Prelude.{ℕ, ◌+◌, ◌*◌, ◌≤◌, Bool, true, false, ◌&&◌, ◌||◌, cond, ltb, length, Float}
 use Rattle.std.specs.Float.Ieee.{lt}
 use Rattle.std.specs.Float.Ieee.Scale.{finite}
 use Rattle.math.specs.Vector.{zero_f}
@@ -35,6 +35,16 @@ report_of z = record { vertices = z.vertices; indices = z.indices; solid = true;
 abbrev pub sum_of : PartSizes → PartSizes → PartSizes
 sum_of a b = record { vertices = a.vertices + b.vertices; indices = a.indices + b.indices; pairs = a.pairs + b.pairs }
 
+-- FORMAT 17.10: those of no part
+abbrev pub no_sizes : PartSizes
+no_sizes = record { vertices = 0; indices = 0; pairs = 0 }
+
 -- FORMAT 17.10: those that are given, where the part is there
 unfoldable pub sizes_where : Bool → PartSizes → PartSizes
-sizes_where there z = cond there z (record { vertices = 0; indices = 0; pairs = 0 })
+sizes_where there z = cond there z no_sizes
+
+-- at most m each
+pub record Small (m : ℕ) (z : PartSizes) : Type 0 where
+  pub vertices : z.vertices ≤ m
+  pub indices : z.indices ≤ m
+  pub pairs : z.pairs ≤ m

@@ -38,6 +38,7 @@ fn cap_normal(top: bool) -> V3
 }
 
 // t grows towards -Z on top, towards +Z on the bottom.
+#[tactic(auto, unfolding(crate::specs::Cap::cap_texture))]
 fn cap_texture(top: bool, x: f32, z: f32) -> Pair
     ensures { result ≡ cap_texture top x z }
 {
@@ -53,6 +54,7 @@ fn cap_texture(top: bool, x: f32, z: f32) -> Pair
     }
 }
 
+#[tactic(auto, unfolding(crate::specs::Cap::cap_centre))]
 fn cap_centre(k: Cap) -> Vert
     ensures { result ≡ cap_centre k }
 {
@@ -71,6 +73,7 @@ fn cap_centre(k: Cap) -> Vert
 }
 
 // Vertex i of its ring.
+#[tactic(auto, unfolding(crate::specs::Cap::cap_vert))]
 fn cap_vert(pairs: &[f32], k: Cap, i: usize) -> Vert
     requires { (k.pair < 2 ^ 24) × (i < 2 ^ 16) }
     ensures { result ≡ cap_vert pairs.now k i }
@@ -91,6 +94,7 @@ fn cap_vert(pairs: &[f32], k: Cap, i: usize) -> Vert
 }
 
 // The triangle of slice i.
+#[tactic(auto, unfolding(crate::specs::Cap::cap_tri))]
 fn cap_tri(k: Cap, i: usize) -> [u32; 3]
     requires { (i < k.slices) × (k.first < 2 ^ 24) × (k.slices ≤ 1024) }
     ensures { result ≡ cap_tri k i }
@@ -106,6 +110,7 @@ fn cap_tri(k: Cap, i: usize) -> [u32; 3]
 }
 
 // The sizes of a cap of n slices.
+#[tactic(auto, unfolding(crate::specs::Cap::cap_sizes))]
 pub fn cap_sizes(n: usize) -> PartSizes
     requires { n ≤ 1024 }
     ensures { result ≡ cap_sizes n }

@@ -3,14 +3,18 @@
 
 mod builder;
 mod cap;
+mod marks;
 mod ring;
+mod round;
 mod sizes;
 mod turns;
 mod vert;
 
 pub use builder::Builder;
 pub use cap::{Cap, cap_sizes};
+pub use marks::{Marks, marks_of};
 pub use ring::{Ring, cosine_at, float_at, ring_at, share, sine_at};
+pub use round::{Round, round_of};
 pub use sizes::{NO_PART, PartSizes, dim, held, part_report, sum_sizes};
 pub use turns::put_words;
 pub use vert::{GeomCtx, Vert, finite_ctx};

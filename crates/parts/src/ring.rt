@@ -19,6 +19,7 @@ pub fn float_at(floats: &[f32], k: usize) -> f32
 }
 
 // The sine of pair k.
+#[tactic(auto, unfolding(crate::specs::Ring::sine_at))]
 pub fn sine_at(pairs: &[f32], k: usize) -> f32
     requires { k < 2 ^ 32 }
     ensures { result ≡ sine_at pairs.now k }
@@ -27,6 +28,7 @@ pub fn sine_at(pairs: &[f32], k: usize) -> f32
 }
 
 // The cosine of pair k.
+#[tactic(auto, unfolding(crate::specs::Ring::cosine_at))]
 pub fn cosine_at(pairs: &[f32], k: usize) -> f32
     requires { k < 2 ^ 32 }
     ensures { result ≡ cosine_at pairs.now k }
@@ -34,6 +36,7 @@ pub fn cosine_at(pairs: &[f32], k: usize) -> f32
     float_at(pairs, 2 * k + 1)
 }
 
+#[tactic(auto, unfolding(crate::specs::Ring::ring_at))]
 pub fn ring_at(pairs: &[f32], k: usize) -> Ring
     requires { k < 2 ^ 32 }
     ensures { result ≡ ring_at pairs.now k }
@@ -45,6 +48,7 @@ pub fn ring_at(pairs: &[f32], k: usize) -> Ring
 }
 
 // i of n steps.
+#[tactic(auto, unfolding(crate::specs::Ring::share_of))]
 pub fn share(i: usize, n: usize) -> f32
     requires { (i < 65536) × (n < 65536) }
     ensures { result ≡ share_of i n }

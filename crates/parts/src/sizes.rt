@@ -24,58 +24,49 @@ pub const NO_PART: PartSizes = PartSizes {
 };
 
 // dim: positive and finite, or the default.
+#[tactic(auto, unfolding(crate::specs::Sizes::dim_of))]
 pub fn dim(v: f32, d: f32) -> f32
     ensures { result ≡ dim_of v d }
 {
-    if math::is_finite(v) {
-        if v > 0.0 {
-            return v;
-        }
+    if math::is_finite(v) && v > 0.0 {
+        return v;
     }
     d
 }
 
-// u32::clamp to the least number and 1,024.
+// u32::clamp to the least number and 1,024. Not clamp itself, which asks that the least is at most 1,024: this is called for any.
+#[tactic(auto, unfolding(crate::specs::Sizes::held_to))]
 pub fn held(n: u32, least: u32) -> usize
     ensures { result ≡ held_to n least }
 {
     if n < least {
         return least as usize;
     }
-    if n > 1024 {
-        return 1024;
-    }
-    n as usize
+    n.min(1024) as usize
 }
 
 impl Builder<'_> {
+    #[tactic(auto, unfolding(crate::specs::Sizes::is_short_texture))]
     fn is_short_texture(&self, z: PartSizes) -> bool
         requires { z.vertices < 2 ^ 32 }
         ensures { result ≡ is_short_texture self.now z }
     {
-        if self.ctx.need_uvs {
-            return self.textures.len() < 2 * z.vertices;
-        }
-        false
+        self.ctx.need_uvs && self.textures.len() < 2 * z.vertices
     }
 
+    #[tactic(auto, unfolding(crate::specs::Sizes::is_short_part))]
     fn is_short(&self, z: PartSizes) -> bool
         requires { z.vertices < 2 ^ 32 }
         ensures { result ≡ is_short_part self.now z }
     {
-        if self.positions.len() < 3 * z.vertices {
-            return true;
-        }
-        if self.normals.len() < 3 * z.vertices {
-            return true;
-        }
-        if self.is_short_texture(z) {
-            return true;
-        }
-        self.indices.len() < z.indices
+        self.positions.len() < 3 * z.vertices
+            || self.normals.len() < 3 * z.vertices
+            || self.is_short_texture(z)
+            || self.indices.len() < z.indices
     }
 
     // Of a part of these sizes, with a list of so many floats as pairs: 10, and then 8.
+    #[tactic(auto, unfolding(block::specs::Refusal::first_of))]
     pub fn refusal(&self, z: PartSizes, floats: usize) -> Result<(), Refusal>
         requires { z.vertices < 2 ^ 32 }
         ensures { refused_as result ≡ first_of (row Pairs (ltb (floats / 2) z.pairs) ∷ row Buffer (is_short_part self.now z) ∷ []) }
@@ -91,6 +82,7 @@ impl Builder<'_> {
 }
 
 // FORMAT 17.11: solid, lit and without colours.
+#[tactic(auto, unfolding(crate::specs::Sizes::report_of))]
 pub fn part_report(z: PartSizes) -> Report
     ensures { result ≡ report_of z }
 {

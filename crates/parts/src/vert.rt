@@ -22,6 +22,7 @@ pub struct Vert {
 }
 
 // FORMAT 2.3: the pairs of the transform that are not finite replaced.
+#[tactic(auto, unfolding(crate::specs::Part::finite_ctx))]
 pub fn finite_ctx(c: GeomCtx) -> GeomCtx
     ensures { result ≡ finite_ctx c }
 {
@@ -31,6 +32,7 @@ pub fn finite_ctx(c: GeomCtx) -> GeomCtx
     }
 }
 
+#[tactic(auto, unfolding(crate::specs::Part::uv_of))]
 pub fn uv_of(c: GeomCtx, v: Vert) -> Words2
     ensures { result ≡ uv_of c v }
 {

@@ -27,7 +27,6 @@ use Rattle.std.specs.Bool.{then_some}
 use Rattle.lists.proofs.Splices.{splice_start}
 use Rattle.pointset.specs.declared.copies.Listed.{Listed}
 use Rattle.lent.specs.Answer.{refused}
-use Rattle.pointset.specs.declared.refusals.Lengths.{Lengths}
 use Rattle.parts.specs.Parted.{is_short_for}
 use Rattle.pointset.specs.Numbers.{is_short}
 use Rattle.pointset.specs.PointSet.{points_in, colours_in, makes_colours, colour_at, point_set_mesh, point_set_rows, point_set_number, point_set_result, PointSetCall, lent_to}
@@ -87,14 +86,11 @@ module _ (points : List ℕ) (has alpha : Bool) (listed : List ℕ) where
   -- ---- the refusals, by the numbers of the code
 
   module _ (p c s : List ℕ) where
-    abbrev lengths : Lengths
-    lengths = record { positions = length p; colours = length c; sources = length s }
-
     -- what the code asks with
     abbrev pub asks : ℕ → Bool → ℕ
-    asks n b = first_of (row Corners (ltb edition1.limit n) ∷ row Buffer (is_short n b lengths) ∷ [])
+    asks n b = first_of (row Corners (ltb edition1.limit n) ∷ row Buffer (is_short n b p c s) ∷ [])
 
-    short_is : is_short_for made (lent_to p c s) ≡ is_short (points_in points) (makes_colours points has alpha listed) lengths
+    short_is : is_short_for made (lent_to p c s) ≡ is_short (points_in points) (makes_colours points has alpha listed) p c s
     unfolding is_short_for is_short slices_of point_set_mesh flat
     short_is =
         ap (λ (b : Bool). ltb (length p) (length made.positions) || (ltb (length c) (length made.colours) || b)) (or-false (ltb (length s) (length made.sources)))
@@ -121,7 +117,7 @@ module _ (points : List ℕ) (has alpha : Bool) (listed : List ℕ) where
         none : point_set_number points has alpha listed (lent_to p c s) ≡ 0
         none = sym (ew ∙ same_asks)
 
-        rows : (ltb edition1.limit (points_in points) ≡ false) × (is_short (points_in points) b lengths ≡ false)
+        rows : (ltb edition1.limit (points_in points) ≡ false) × (is_short (points_in points) b p c s ≡ false)
         rows = no_rows _ _ (sym ew)
 
         few : points_in points ≤ 8192

@@ -29,6 +29,7 @@ pub fn put_sources(sources: &mut [u32], n: usize)
 }
 
 // Colour k, of three words, with alpha 1.
+#[tactic(auto, unfolding(mesh::specs::Words::point_words))]
 fn opaque(listed: &[u32], k: usize) -> [u32; 4]
     requires { (k < 2 ^ 32) × (k * 3 + 3 ≤ length listed.now) }
     ensures { result ≡ words4 (opaque_of (point_words listed.now k)) }

@@ -8,14 +8,6 @@ ghost use Rattle.pointset.specs.Numbers.{is_short};
 
 use block::{LIMIT, Refusal};
 
-// The lengths of the lent slices.
-#[derive(Clone, Copy)]
-pub struct Lengths {
-    pub positions: usize,
-    pub colours: usize,
-    pub sources: usize,
-}
-
 // Of a list of so many words.
 fn full_colours(alpha: bool, words: usize) -> usize
     ensures { result ≡ words / cond alpha 4 3 }
@@ -27,16 +19,15 @@ fn full_colours(alpha: bool, words: usize) -> usize
 }
 
 // Where they are present and there are at least as many as points.
+#[tactic(auto, unfolding(crate::specs::PointSet::makes_colours))]
 pub fn makes_colours(points: &[u32], has_colors: bool, alpha: bool, listed: &[u32]) -> bool
     ensures { result ≡ makes_colours points.now has_colors alpha listed.now }
 {
-    if has_colors {
-        return full_colours(alpha, listed.len()) >= points.len() / 3;
-    }
-    false
+    has_colors && full_colours(alpha, listed.len()) >= points.len() / 3
 }
 
 // The words of n colours, where they are made.
+#[tactic(auto, unfolding(block::specs::Edition::edition1))]
 fn colour_words(n: usize, made: bool) -> usize
     requires { n ≤ edition1.limit }
     ensures { result ≡ cond made (4 * n) 0 }
@@ -48,27 +39,29 @@ fn colour_words(n: usize, made: bool) -> usize
 }
 
 // 8. `made` is a bool: the list of colours is not read here, and the report says no more of it.
-fn is_short(n: usize, made: bool, l: Lengths) -> bool
+#[tactic(auto, unfolding(block::specs::Edition::edition1, crate::specs::Numbers::is_short))]
+fn is_short(n: usize, made: bool, positions: &[u32], colours: &[u32], sources: &[u32]) -> bool
     requires { n ≤ edition1.limit }
-    ensures { result ≡ is_short n made l }
+    ensures { result ≡ is_short n made positions.now colours.now sources.now }
 {
-    if l.positions < 3 * n {
-        return true;
-    }
-    if l.colours < colour_words(n, made) {
-        return true;
-    }
-    l.sources < n
+    positions.len() < 3 * n || colours.len() < colour_words(n, made) || sources.len() < n
 }
 
 // Of n points, with colours or without: 7, and then 8.
-pub fn refusal_of(n: usize, made: bool, l: Lengths) -> Result<(), Refusal>
-    ensures { refused_as result ≡ first_of (row Corners (ltb edition1.limit n) ∷ row Buffer (is_short n made l) ∷ []) }
+#[tactic(auto, unfolding(block::specs::Refusal::first_of, block::specs::Edition::edition1))]
+pub fn refusal_of(
+    n: usize,
+    made: bool,
+    positions: &[u32],
+    colours: &[u32],
+    sources: &[u32],
+) -> Result<(), Refusal>
+    ensures { refused_as result ≡ first_of (row Corners (ltb edition1.limit n) ∷ row Buffer (is_short n made positions.now colours.now sources.now) ∷ []) }
 {
     if n > LIMIT {
         return Err(Refusal::Corners);
     }
-    if is_short(n, made, l) {
+    if is_short(n, made, positions, colours, sources) {
         return Err(Refusal::Buffer);
     }
     Ok(())

@@ -2,7 +2,7 @@
 ghost use Rattle.pointset.specs.PointSet.{PointSetCall, lent_to};
 
 use crate::copies::{Listed, copy_words, put_colours, put_sources};
-use crate::refusals::{Lengths, makes_colours, refusal_of};
+use crate::refusals::{makes_colours, refusal_of};
 use lent::{Answer, Report};
 
 // The mesh of a PointSet, into the lent slices; or a refusal, and every lent element as it was.
@@ -22,15 +22,7 @@ pub fn point_set(
 {
     let n = points.len() / 3;
     let made = makes_colours(points, has_colors, alpha, listed);
-    refusal_of(
-        n,
-        made,
-        Lengths {
-            positions: positions.len(),
-            colours: colours.len(),
-            sources: sources.len(),
-        },
-    )?;
+    refusal_of(n, made, positions, colours, sources)?;
     copy_words(points, positions, 3 * n);
     let given = Listed {
         words: listed,

@@ -11,6 +11,7 @@ use math::V3;
 use parts::{Builder, Vert, cosine_at, ring_at, share, sine_at};
 
 // Vertex i of row j.
+#[tactic(auto, unfolding(crate::specs::Sphere::sphere_vert))]
 fn sphere_vert(o: Ball, pairs: &[f32], j: usize, i: usize) -> Vert
     requires { (j ≤ o.k) × (i ≤ o.n) }
     ensures { result ≡ sphere_vert o.r o.n o.k pairs.now j i }

@@ -6,6 +6,6 @@ pub returns-then-far : goal.returns-then-far
 unfolding side_of of_bits
 returns-then-far c = rw c.if-far.true
 
-pub returns : goal.returns
+pub returns-else-far : goal.returns-else-far
 unfolding side_of of_bits
-returns c = rw c.if-far.false
+returns-else-far c = rw c.if-far.false

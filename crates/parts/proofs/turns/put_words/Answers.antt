@@ -1,5 +1,5 @@
 use native.Mathlib.Omega.{arith}
-use Rattle.lists.proofs.Pieces.{uneven_none, uneven_all}
+use Rattle.lists.proofs.Pieces.{uneven_none}
 use Rattle.parts.proofs.Turning.{row_room, row_more}
 use Rattle.parts.proofs.turns.put_words.Goals as goal
 
@@ -14,6 +14,3 @@ put_all-requires g c = row_room c.requires.given.1 (c.loop-i.invariant c.require
 
 pub loop-i-preserved : goal.loop-i-preserved
 loop-i-preserved g c = λ f G. row_more G (c.loop-i.invariant f G) c.loop-i-test.true c.row-r.ensures c.as_slice-r.ensures c.put_all.ensures
-
-pub returns : goal.returns
-returns g c = λ f G. uneven_all (c.loop-i.invariant f G) c.loop-i-test.false

@@ -1,9 +1,6 @@
 use mathlib.Core.Path.{refl}
-use Rattle.parts.proofs.Pushing.{push_room, push_one, push_plain}
+use Rattle.parts.proofs.Pushing.{push_one, push_plain}
 use Rattle.parts.proofs.builder.Builder.put_vert.Goals as goal
-
-pub put_all-requires : goal.put_all-requires
-put_all-requires c = push_room c.args.self.now.ctx c.args.k _ c.requires.textures c.if-self.true
 
 pub returns-then-self : goal.returns-then-self
 returns-then-self c =

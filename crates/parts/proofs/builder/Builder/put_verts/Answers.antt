@@ -1,5 +1,5 @@
 use Rattle.std.proofs.Common.{rules}
-use Rattle.parts.proofs.Turning.{rowing_none, rowing_room, rowing_fits, rowing_more, rowing_all}
+use Rattle.parts.proofs.Turning.{rowing_none, rowing_room, rowing_fits, rowing_more}
 use Rattle.parts.proofs.builder.Builder.put_verts.Goals as goal
 
 pub loop-i-init : goal.loop-i-init
@@ -16,6 +16,3 @@ overflow_add-next g c =
 
 pub loop-i-preserved : goal.loop-i-preserved
 loop-i-preserved g c = λ f G. rowing_more G (c.loop-i.invariant f G) c.loop-i-test.true c.row-r.ensures c.as_slice-r.ensures c.put_run.ensures
-
-pub returns : goal.returns
-returns g c = λ f G. rowing_all (c.loop-i.invariant f G) c.loop-i-test.false

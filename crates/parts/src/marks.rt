@@ -1,0 +1,30 @@
+// FORMAT 17.8, 17.9: what stands before the caps of a cylinder or a cone.
+ghost use Rattle.std.specs.Prelude.{◌≡◌, ◌≤◌, IfSome, unwrap_or};
+ghost use Rattle.parts.specs.Sizes.{no_sizes, Small};
+ghost use Rattle.parts.specs.Round.{marks_of};
+
+use crate::cap::cap_sizes;
+use crate::sizes::{NO_PART, PartSizes, sum_sizes};
+
+// How much there is before the top, before the bottom, and in all.
+#[derive(Clone, Copy)]
+pub struct Marks {
+    pub top: PartSizes,
+    pub bottom: PartSizes,
+    pub all: PartSizes,
+}
+
+// Of a side of these sizes, if there is one, and caps of n slices, each if it is there.
+pub fn marks_of(side: Option<PartSizes>, n: usize, top: bool, bottom: bool) -> Marks
+    requires { IfSome side (Small 8192) × (n ≤ 1024) }
+    ensures { result ≡ marks_of (unwrap_or side no_sizes) n top bottom }
+{
+    let a = side.unwrap_or(NO_PART);
+    let b = sum_sizes(a, top.then_some(cap_sizes(n)).unwrap_or(NO_PART));
+    let all = sum_sizes(b, bottom.then_some(cap_sizes(n)).unwrap_or(NO_PART));
+    Marks {
+        top: a,
+        bottom: b,
+        all,
+    }
+}
