@@ -20,6 +20,8 @@ use Rattle.mesh.specs.declared.texture.Fit.{Fit}
 use Rattle.mesh.specs.Words.{no2}
 use Rattle.mesh.specs.Arcs.{at2, step2, step3, arcs2, arcs3}
 use Rattle.mesh.specs.Extrusion.{Extrusion, spine_count, section_count, extrusion_of, side_texture, cap_fit, cap_texture, corner_at}
+use Rattle.tables.specs.declared.layout.Plan.{Plan}
+use Rattle.tables.specs.Soups.{point_in, owner_in}
 use Rattle.lists.specs.Parts.{spliced, Kept}
 use Rattle.lists.proofs.Keep.{kept_at}
 use Rattle.lists.proofs.Splices.{put_part}
@@ -133,19 +135,21 @@ module _ {bs : List ℕ} {h : Header} {floats : List Float} {at : ℕ} {fit : Fi
   pub corner_none : h.need_uvs ≡ false → no2 ≡ (extrusion_corner (extrusion_of bs) number (use_of p)).texture
   corner_none e = sym (corner_bare (extrusion_of bs) number p (ap (λ (x : Header). x.need_uvs) (head_is T.given) ∙ e))
 
--- ---- one corner more
+-- ---- one corner more: the tables that are read stand below what is written
 
-pub corner_within : {h : Header} {corners numbers textures count : ℕ} {w v : List ℕ} → Cornered h corners numbers textures count w → Kept textures w v → (c p : ℕ) → c < count
-    → p ≡ get_or v (corners + c) 0 → p < spine_count h * section_count h
-corner_within {h} {corners} {numbers} {textures} {count} C K c p l e = let q = C.points in rw (e ∙ kept_at K (corners + c) (omega arith)) (C.within c l)
+module _ {h : Header} {t : Plan} {textures : ℕ} {w v : List ℕ} (C : Cornered h t textures w) (K : Kept textures w v) {c : ℕ} (l : c < t.count) where
+  point_read : get_or v (t.corners + c) 0 ≡ point_in w t c
+  unfolding point_in
+  point_read = let q = C.points in kept_at K (t.corners + c) (omega arith)
 
--- the tables that are read stand below what is written
-pub texture_read : {h : Header} {corners numbers textures count : ℕ} {w v : List ℕ} → Cornered h corners numbers textures count w → Kept textures w v → (E : Extrusion) (c f p : ℕ) (r : Words2) → c < count
-    → p ≡ get_or v (corners + c) 0 → f ≡ get_or v (numbers + c) 0 → r ≡ (extrusion_corner E f (use_of p)).texture → r ≡ extrusion_texture E w corners numbers c
-unfolding extrusion_texture
-texture_read {h} {corners} {numbers} {textures} {count} {w} {v} C K E c f p r l ep ef er =
-    let hc = C.points in
-    let hn = C.faces in
-    let x : p ≡ get_or w (corners + c) 0 = ep ∙ kept_at K (corners + c) (omega arith) in
-    let y : f ≡ get_or w (numbers + c) 0 = ef ∙ kept_at K (numbers + c) (omega arith) in
-    er ∙ (λ t. (extrusion_corner E (y t) (use_of (x t))).texture)
+  pub corner_within : {p : ℕ} → p ≡ get_or v (t.corners + c) 0 → p < spine_count h * section_count h
+  corner_within e = rw (e ∙ point_read) (C.within c l)
+
+  pub texture_read : (E : Extrusion) {f p : ℕ} {r : Words2} → p ≡ get_or v (t.corners + c) 0 → f ≡ get_or v (t.owners + c) 0 → r ≡ (extrusion_corner E f (use_of p)).texture
+      → r ≡ extrusion_texture E w t c
+  unfolding extrusion_texture owner_in
+  texture_read E ep ef er =
+      let q = C.faces in
+      let x = ep ∙ point_read in
+      let y = ef ∙ kept_at K (t.owners + c) (omega arith) in
+      er ∙ (λ i. (extrusion_corner E (y i) (use_of (x i))).texture)

@@ -1,15 +1,19 @@
 -- FORMAT 2.4: what is read from the bytes of a list is its entry.
-use mathlib.Core.Path.{◌≡◌, sym, ap, ◌∙◌}
-use mathlib.Core.List.{List}
-use Prim.Native.Nat.{ℕ, ◌+◌, ◌*◌, ◌≤◌, ◌<◌}
+use mathlib.Core.Path.{◌≡◌, refl, sym, ap, ◌∙◌}
+use mathlib.Core.List.{List, [], ◌∷◌}
+use Prim.Native.Nat.{ℕ, suc, ◌+◌, ◌-◌, ◌*◌, ◌≤◌, ◌<◌}
 use native.Mathlib.Nat.{mul_comm}
+use native.Mathlib.Numerals.{add-one}
 use native.Mathlib.Omega.{arith}
-use lib.ListN.{length, get_or}
+use lib.ListN.{length, get_or, drop}
+use Rattle.std.specs.Prelude.{Some}
+use Rattle.std.specs.Iterator.{MakesProgress, item_count}
 use Rattle.math.specs.declared.vector.V3.{V3}
 use Rattle.block.specs.declared.texture.Pair.{Pair}
 use Rattle.lists.specs.Loops.{tab}
 use Rattle.lists.proofs.Tabs.{length_tab, tab_at}
 use Rattle.lists.proofs.Numbers.{piece_room}
+use Rattle.lists.proofs.Lists.{head_left}
 use Rattle.mesh.specs.Frames.{at}
 use Rattle.mesh.specs.Arcs.{at2}
 
@@ -23,6 +27,21 @@ module _ {A : Type 0} (f : ℕ → A) (n : ℕ) where
   entry_is l i r e h q d =
       let m = count_is l e in
       q ∙ sym (tab_at f n i d (omega arith)) ∙ ap (λ (l : List A). get_or l i d) e
+
+  -- the entries from number i on: the first of them and the others, or none
+  pub first_left : (l : List A) (i : ℕ) {r : A} → tab f (n - i) i ≡ l → i < n → r ≡ f i → l ≡ r ∷ tab f (n - (i + 1)) (i + 1)
+  unfolding tab
+  first_left l i {r} e h q =
+      let k : n - i ≡ suc (n - (i + 1)) = omega arith in
+      sym e ∙ ap (λ (m : ℕ). tab f m i) k ∙ (λ t. sym q t ∷ tab f (n - (i + 1)) (sym (add-one i) t))
+
+  pub none_left : (l : List A) (i : ℕ) → tab f (n - i) i ≡ l → n ≤ i → l ≡ []
+  unfolding tab
+  none_left l i e h = let k : n - i ≡ 0 = omega arith in sym e ∙ ap (λ (m : ℕ). tab f m i) k
+
+-- so that a walk comes to its end
+pub goes_left : {A : Type 0} {l m : List A} {r : A} → l ≡ r ∷ m → MakesProgress (λ _. Unit {0}) (item_count (λ (x : List A). x)) l (Some r) m
+goes_left {A} {l} {m} e = let k : length l ≡ suc (length m) = ap length e in record { on = λ _. (tt, tt, omega arith); keeps = tt; rests = λ _. tt }
 
 pub entry_room : (w n i k len : ℕ) → w * n ≤ len → n ≡ k → i < k → w * i + w ≤ len
 entry_room w n i k len h e l =
@@ -38,3 +57,33 @@ at_is sp i r e = e _
 pub at2_is : (cs : List Pair) (j : ℕ) (r : Pair) → ((d : Pair) → r ≡ get_or cs j d) → r ≡ at2 cs j
 unfolding at2
 at2_is cs j r e = e _
+
+-- ---- a walk over a list: before entry n, the others are left
+
+-- `left` is what stands in l from place n on
+pub record Left {A : Type 0} (l : List A) (n : ℕ) (left : List A) : Type 0 where
+  pub is : left ≡ drop n l
+  pub counted : n + length left ≡ length l
+
+module _ {A : Type 0} {l : List A} where
+  pub left_all : Left l 0 l
+  left_all = record { is = refl; counted = omega arith }
+
+  pub left_next : {n : ℕ} {left after : List A} {x : A} → Left l n left → left ≡ x ∷ after → Left l (n + 1) after
+  left_next {n} {left} {after} {x} L e =
+      let c = L.counted in
+      let k : length left ≡ suc (length after) = ap length e in
+      let h = head_left l n x after x (sym L.is ∙ e) in
+      record { is = sym h.1 ∙ ap (λ (j : ℕ). drop j l) (sym (add-one n)); counted = omega arith }
+
+  pub left_here : {n : ℕ} {left after : List A} {x : A} → Left l n left → left ≡ x ∷ after → (n < length l) × ((d : A) → x ≡ get_or l n d)
+  left_here {n} {left} {after} {x} L e =
+      let c = L.counted in
+      let k : length left ≡ suc (length after) = ap length e in
+      (omega arith, λ d. sym (head_left l n x after d (sym L.is ∙ e)).0)
+
+  pub left_over : {n : ℕ} {left : List A} → Left l n left → left ≡ [] → n ≡ length l
+  left_over {n} {left} L e =
+      let c = L.counted in
+      let k : length left ≡ 0 = ap length e in
+      omega arith

@@ -1,11 +1,13 @@
 -- FORMAT 8.4: a corner made of its face's number and its point, and what is known where its texture is written.
-use Rattle.std.specs.Prelude.{◌≡◌, cond, List, ◌++◌, ℕ, ◌+◌, ◌-◌, ◌*◌, ◌/◌, ◌%◌, ◌≤◌, ◌<◌, ltb, Float, length, get_or, take, drop}
+use Rattle.std.specs.Prelude.{◌≡◌, cond, List, ◌++◌, ℕ, ◌+◌, ◌-◌, ◌*◌, ◌/◌, ◌%◌, ◌≤◌, ◌<◌, ltb, Float, length, take, drop}
 use Rattle.bits.specs.declared.Words2.{Words2}
 use Rattle.block.specs.declared.header.Header.{Header}
 use Rattle.mesh.specs.Soup.{Corner}
 use Rattle.mesh.specs.declared.texture.Fit.{Fit}
 use Rattle.mesh.specs.Arcs.{at2, arcs2, arcs3}
 use Rattle.mesh.specs.Extrusion.{Extrusion, extrusion_of, spine_count, section_count, side_texture, cap_fit, cap_texture, corner_at}
+use Rattle.tables.specs.declared.layout.Plan.{Plan}
+use Rattle.tables.specs.Soups.{point_in, owner_in}
 use Rattle.tables.specs.Listed.{Use}
 use Rattle.extrusion.specs.Given.{Given}
 use Rattle.extrusion.specs.Listings.{use_of}
@@ -23,8 +25,8 @@ unfoldable pub extrusion_corner : Extrusion → ℕ → Use → Corner
 extrusion_corner E number u = corner_at E u.point (texture_of E number u.point)
 
 -- FORMAT 7.3, 8.4: the texture of corner c, from the tables of the corners' points and of their faces' numbers
-unfoldable pub extrusion_texture : Extrusion → List ℕ → ℕ → ℕ → ℕ → Words2
-extrusion_texture E w corners numbers c = (extrusion_corner E (get_or w (numbers + c) 0) (use_of (get_or w (corners + c) 0))).texture
+unfoldable pub extrusion_texture : Extrusion → List ℕ → Plan → ℕ → Words2
+extrusion_texture E w t c = (extrusion_corner E (owner_in w t c) (use_of (point_in w t c))).texture
 
 -- FORMAT 8.4: the block, the parameters of the cross-section and then of the spine in floats from place `at` on, and the caps' fit
 pub record Measured (bs : List ℕ) (h : Header) (floats : List Float) (at : ℕ) (fit : Fit) : Type 0 where
@@ -33,8 +35,8 @@ pub record Measured (bs : List ℕ) (h : Header) (floats : List Float) (at : ℕ
   pub fitted : fit ≡ cap_fit (extrusion_of bs).section
 
 -- FORMAT 4, 8.4: the tables of corners and face numbers stand before the textures, and the corners' points are points
-pub record Cornered (h : Header) (corners numbers textures count : ℕ) (w : List ℕ) : Type 0 where
-  pub points : corners + count ≤ textures
-  pub faces : numbers + count ≤ textures
-  pub room : textures + 2 * count ≤ length w
-  pub within : (c : ℕ) → c < count → get_or w (corners + c) 0 < spine_count h * section_count h
+pub record Cornered (h : Header) (t : Plan) (textures : ℕ) (w : List ℕ) : Type 0 where
+  pub points : t.corners + t.count ≤ textures
+  pub faces : t.owners + t.count ≤ textures
+  pub room : textures + 2 * t.count ≤ length w
+  pub within : (c : ℕ) → c < t.count → point_in w t c < spine_count h * section_count h

@@ -5,16 +5,15 @@ ghost use Rattle.mesh.specs.Arcs.{step2, step3, length_to, arcs, arcs2, arcs3};
 ghost use Rattle.mesh.specs.Extrusion.{spine_count, section_count, extrusion_of};
 ghost use Rattle.lists.specs.Parts.{spliced};
 
-use crate::frames::step;
+use crate::frames::Spine;
 use crate::reading::{Entries, Extruded};
 use block::Pair;
-use math::V3;
 
-fn spine_step(spine: &Entries<V3>, i: usize) -> f32
-    requires { (i + 1 < length spine.now) × (length spine.now < 2 ^ 64) }
-    ensures { result ≡ step3 spine.now i }
+fn spine_step(spine: &Spine<'_>, i: usize) -> f32
+    requires { (i + 1 < length spine.now.points) × (length spine.now.points < 2 ^ 64) }
+    ensures { result ≡ step3 spine.now.points i }
 {
-    math::len(step(spine, i, i + 1))
+    math::len(spine.step(i, i + 1))
 }
 
 fn section_step(section: &Entries<Pair>, i: usize) -> f32
@@ -91,6 +90,11 @@ impl<'a> Extruded<'a> {
         let section = self.section();
         let m = section.len();
         put_params(m, |i| section_step(&section, i), floats, at);
-        put_params(spine.len(), |i| spine_step(&spine, i), floats, at + m);
+        put_params(
+            spine.points.len(),
+            |i| spine_step(&spine, i),
+            floats,
+            at + m,
+        );
     }
 }

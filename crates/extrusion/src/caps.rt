@@ -24,8 +24,7 @@ fn section_fit(section: &Entries<Pair>) -> Fit
 {
     let mut a = nowhere();
     let mut b = nowhere();
-    for j in 0..section.len() {
-        let p = section.at(j);
+    for p in section.iter() {
         a = widen(a, p.s);
         b = widen(b, p.t);
     }

@@ -7,89 +7,94 @@ use crate::reading::Entries;
 use math::V3;
 
 fn is_end(n: usize, i: usize) -> bool
-    requires { 2 ≤ n }
+    requires { i < n }
     ensures { result ≡ is_end n i }
 {
     i == 0 || i == n - 1
 }
 
-// From point a to point b.
-pub fn step(s: &Entries<V3>, a: usize, b: usize) -> V3
-    requires { (a < length s.now) × (b < length s.now) }
-    ensures { result ≡ spec.step s.now a b }
-{
-    math::sub(s.at(b), s.at(a))
+// The points of a spine: an extrusion that has fewer than two is refused (FORMAT 3).
+#[derive(Drop)]
+pub struct Spine<'a> {
+    pub points: Entries<'a, V3>,
+    ghost long: { 2 ≤ length points },
 }
 
-fn along_end(s: &Entries<V3>, i: usize) -> V3
-    requires { 2 ≤ length s.now }
-    ensures { result ≡ along_end s.now (length s.now) i }
-{
-    let n = s.len();
-    if s.closes() {
-        return step(s, n - 2, 1);
+impl<'a> Spine<'a> {
+    // From point a to point b.
+    pub fn step(&self, a: usize, b: usize) -> V3
+        requires { (a < length self.now.points) × (b < length self.now.points) }
+        ensures { result ≡ spec.step self.now.points a b }
+    {
+        math::sub(self.points.at(b), self.points.at(a))
     }
-    if i == 0 {
-        return step(s, 0, 1);
-    }
-    step(s, n - 2, n - 1)
-}
 
-pub fn y_own(s: &Entries<V3>, i: usize) -> Option<V3>
-    requires { (2 ≤ length s.now) × (i < length s.now) }
-    ensures { result ≡ y_own s.now i }
-{
-    if is_end(s.len(), i) {
-        return math::normalize(along_end(s, i));
-    }
-    math::normalize(step(s, i - 1, i + 1))
-}
-
-pub fn first_y(s: &Entries<V3>) -> Option<V3>
-    requires { 2 ≤ length s.now }
-    ensures { result ≡ first_y s.now }
-{
-    (0..s.len()).find_map(|i| y_own(s, i))
-}
-
-// The normal of the plane of point i and its neighbours a and b.
-fn plane(s: &Entries<V3>, a: usize, i: usize, b: usize) -> Option<V3>
-    requires { (a < length s.now) × (i < length s.now) × (b < length s.now) }
-    ensures { result ≡ bend s.now a i b }
-{
-    math::normalize(math::cross(step(s, i, b), step(s, i, a)))
-}
-
-fn z_end(s: &Entries<V3>, i: usize) -> Option<V3>
-    requires { 2 ≤ length s.now }
-    ensures { result ≡ z_end s.now (length s.now) i }
-{
-    let n = s.len();
-    if s.closes() {
-        return plane(s, n - 2, 0, 1);
-    }
-    if 2 < n {
-        if i == 0 {
-            return plane(s, 0, 1, 2);
+    fn along_end(&self, i: usize) -> V3
+        ensures { result ≡ along_end self.now.points (length self.now.points) i }
+    {
+        let n = self.points.len();
+        if self.points.closes() {
+            return self.step(n - 2, 1);
         }
-        return plane(s, n - 3, n - 2, n - 1);
+        if i == 0 {
+            return self.step(0, 1);
+        }
+        self.step(n - 2, n - 1)
     }
-    None
-}
 
-pub fn z_own(s: &Entries<V3>, i: usize) -> Option<V3>
-    requires { (2 ≤ length s.now) × (i < length s.now) }
-    ensures { result ≡ z_own s.now i }
-{
-    if is_end(s.len(), i) {
-        return z_end(s, i);
+    pub fn y_own(&self, i: usize) -> Option<V3>
+        requires { i < length self.now.points }
+        ensures { result ≡ y_own self.now.points i }
+    {
+        if is_end(self.points.len(), i) {
+            return math::normalize(self.along_end(i));
+        }
+        math::normalize(self.step(i - 1, i + 1))
     }
-    plane(s, i - 1, i, i + 1)
-}
 
-pub fn first_z(s: &Entries<V3>) -> Option<V3>
-    requires { 2 ≤ length s.now }
-    ensures { result ≡ first_z s.now }
-{
-    (0..s.len()).find_map(|i| z_own(s, i))
+    pub fn first_y(&self) -> Option<V3>
+        ensures { result ≡ first_y self.now.points }
+    {
+        (0..self.points.len()).find_map(|i| self.y_own(i))
+    }
+
+    // The normal of the plane of point i and its neighbours a and b.
+    fn plane(&self, a: usize, i: usize, b: usize) -> Option<V3>
+        requires { (a < length self.now.points) × (i < length self.now.points) × (b < length self.now.points) }
+        ensures { result ≡ bend self.now.points a i b }
+    {
+        math::normalize(math::cross(self.step(i, b), self.step(i, a)))
+    }
+
+    fn z_end(&self, i: usize) -> Option<V3>
+        ensures { result ≡ z_end self.now.points (length self.now.points) i }
+    {
+        let n = self.points.len();
+        if self.points.closes() {
+            return self.plane(n - 2, 0, 1);
+        }
+        if 2 < n {
+            if i == 0 {
+                return self.plane(0, 1, 2);
+            }
+            return self.plane(n - 3, n - 2, n - 1);
+        }
+        None
+    }
+
+    pub fn z_own(&self, i: usize) -> Option<V3>
+        requires { i < length self.now.points }
+        ensures { result ≡ z_own self.now.points i }
+    {
+        if is_end(self.points.len(), i) {
+            return self.z_end(i);
+        }
+        self.plane(i - 1, i, i + 1)
+    }
+
+    pub fn first_z(&self) -> Option<V3>
+        ensures { result ≡ first_z self.now.points }
+    {
+        (0..self.points.len()).find_map(|i| self.z_own(i))
+    }
 }

@@ -6,7 +6,7 @@ ghost use Rattle.lists.specs.Parts.{spliced};
 ghost use Rattle.extrusion.specs.Rows.{axes_of, rows_by};
 
 use crate::axes::{PlaneAxes, axes_by, pick_z};
-use crate::frames::{first_y, first_z, y_own, z_own};
+use crate::frames::Spine;
 use crate::reading::{Entries, Extruded};
 use block::Pair;
 use math::{Quat, V3};
@@ -74,37 +74,37 @@ fn put_row(
     requires { k + 3 * length section.now ≤ length work.old }
     ensures { work.new ≡ spliced work.old k (row_words o (axes_of f) q sc section.now) }
 {
-    for j in 0..section.len() {
-        let p = placed(o, f, local(q, sc, section.at(j)));
-        mesh::put_vector(work, k + j * 3, p);
+    for (j, p) in section.iter().enumerate() {
+        mesh::put_vector(work, k + j * 3, placed(o, f, local(q, sc, p)));
     }
 }
 
 // The points of all spine points, into work from place k. The Y axis is the last one seen, and begins with the first of all.
 fn put_rows(
-    spine: &Entries<V3>,
+    spine: &Spine<'_>,
     section: &Entries<Pair>,
     scales: &Entries<Pair>,
     turns: &Entries<Quat>,
     work: &mut [u32],
     k: usize,
 )
-    requires { (2 ≤ length spine.now) × (k + length spine.now * (3 * length section.now) ≤ length work.old) }
-    ensures { work.new ≡ spliced work.old k (rows_by spine.now section.now scales.now turns.now (length spine.now)) }
+    requires { k + length spine.now.points * (3 * length section.now) ≤ length work.old }
+    ensures { work.new ≡ spliced work.old k (rows_by spine.now.points section.now scales.now turns.now (length spine.now.points)) }
 {
     let w = 3 * section.len();
-    let first = first_z(spine);
-    let y0 = first_y(spine);
+    let first = spine.first_z();
+    let y0 = spine.first_y();
     let mut y = y0;
     let mut prev = None;
-    for i in 0..spine.len() {
-        y = y_own(spine, i).or(y);
-        let z = pick_z(first, prev, z_own(spine, i));
+    // By number: a point's axes are found from its neighbours too, and its turn and its scale stand in lists of their own, which may be shorter.
+    for i in 0..spine.points.len() {
+        y = spine.y_own(i).or(y);
+        let z = pick_z(first, prev, spine.z_own(i));
         prev = Some(z);
         let f = axes_by(first, y0, y, z);
         put_row(
             section,
-            spine.at(i),
+            spine.points.at(i),
             f,
             turn_at(turns, i),
             scale_at(scales, i),

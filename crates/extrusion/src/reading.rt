@@ -1,5 +1,6 @@
 // FORMAT 2.4: the lists of an extrusion, read by number from their bytes.
 ghost use Rattle.std.specs.Prelude.{◌≡◌, ℕ, List, ◌+◌, ◌-◌, ◌*◌, ◌≤◌, ◌<◌, ◌&&◌, ltb, length, get_or};
+ghost use Rattle.std.specs.Iterator.{YieldsFirst, item_count};
 ghost use Rattle.std.specs.Float.{binary32};
 ghost use Rattle.std.specs.Float.Ieee.{of_bits};
 ghost use Rattle.bits.specs.Bits.{word_at};
@@ -12,12 +13,14 @@ ghost use Rattle.mesh.specs.Words.{floats};
 ghost use Rattle.mesh.specs.Extrusion.{spine_count, section_count, turn_in, entry_or, extrusion_of};
 ghost use Rattle.extrusion.specs.Given.{Given};
 
+use crate::frames::Spine;
 use block::{Header, Pair};
 use math::{Quat, V3};
 use std::marker::{Model, PhantomData};
 use tables::wide;
 
 // What a list holds: how many bytes an entry has, and how it is read.
+// Not block's Value, which gives words: that trait and these types of floats are other crates', so each would be wrapped to have it, and unwrapped at each use.
 pub trait Entry: Copy {
     ghost width: { ℕ };
 
@@ -108,6 +111,18 @@ impl<'a, V: Entry> Entries<'a, V> {
         V::read(self.bytes, i)
     }
 
+    // The entries, one after another.
+    pub fn iter(&self) -> Iter<'a, V>
+        ensures { result ≡ self.now }
+    {
+        Iter {
+            bytes: self.bytes,
+            next: 0,
+            count: self.count,
+            of: PhantomData,
+        }
+    }
+
     // Entry `i`: the first where there are too few, `missing` where there is none.
     pub fn at_or(&self, i: usize, missing: V) -> V
         ensures { result ≡ entry_or self.now i missing }
@@ -119,6 +134,40 @@ impl<'a, V: Entry> Entries<'a, V> {
             return self.at(0);
         }
         missing
+    }
+}
+
+// The entries of a list from number `next` on.
+#[derive(Drop)]
+pub struct Iter<'a, V: Entry> {
+    bytes: &'a [u8],
+    next: usize,
+    count: usize,
+    of: PhantomData<V>,
+}
+
+impl<'a, V: Entry> Model for Iter<'a, V> {
+    ghost Value = { List V };
+
+    ghost view = { λ p. tab (V.made p.bytes.now) (p.count - p.next) p.next };
+
+    ghost invariant = { λ p. (p.next ≤ p.count) × (V.width * p.count ≤ length p.bytes.now) };
+}
+
+impl<'a, V: Entry> Iterator for Iter<'a, V> {
+    type Item = V;
+
+    ghost next_gives = { YieldsFirst (λ left. left) };
+
+    ghost remaining = { item_count (λ left. left) };
+
+    fn next(&mut self) -> Option<V> {
+        let i = self.next;
+        if i < self.count {
+            self.next = i + 1;
+            return Some(V::read(self.bytes, i));
+        }
+        None
     }
 }
 
@@ -194,10 +243,12 @@ impl<'a> Extruded<'a> {
         Entries::of(block::list_part(self.block, h, k), count_of(h, k))
     }
 
-    pub(crate) fn spine(&self) -> Entries<'a, V3>
-        ensures { result ≡ (extrusion_of self.now.block.now).spine }
+    pub(crate) fn spine(&self) -> Spine<'a>
+        ensures { result.points ≡ (extrusion_of self.now.block.now).spine }
     {
-        self.list_of(0)
+        Spine {
+            points: self.list_of(0),
+        }
     }
 
     pub(crate) fn section(&self) -> Entries<'a, Pair>

@@ -14,6 +14,7 @@ use crate::reading::{Extruded, section_count, spine_count};
 use bits::Words2;
 use block::{Pair, PointNumber, Settings};
 use mesh::Fit;
+use tables::{Plan, wide};
 use texture::put2;
 
 // How far along the cross-section, and how far along the spine: floats j and i.
@@ -75,23 +76,15 @@ impl<'a> Textured<'a> {
         Words2 { s: 0, t: 0 }
     }
 
-    // The texture words of each corner, two words a corner from place `textures` on.
-    pub fn put_textures(
-        &self,
-        s: Settings,
-        work: &mut [u32],
-        corners: usize,
-        numbers: usize,
-        textures: usize,
-        count: usize,
-    )
-        requires { (s ≡ settings_of self.now.source.block.now) × Cornered self.now.source.header corners numbers textures count work.old }
-        ensures { work.new ≡ spliced work.old textures (texture_words (extrusion_texture (extrusion_of self.now.source.block.now) work.old corners numbers) count) }
+    // The texture words of each corner, two words a corner from place `textures` on: the plan says where their points and the numbers of their faces stand.
+    pub fn put_textures(&self, s: Settings, work: &mut [u32], t: Plan, textures: usize)
+        requires { (s ≡ settings_of self.now.source.block.now) × Cornered self.now.source.header t textures work.old }
+        ensures { work.new ≡ spliced work.old textures (texture_words (extrusion_texture (extrusion_of self.now.source.block.now) work.old t) t.count) }
     {
         // A loop of its own, as in texture and grid: each reads other tables of `work`, and a shared one would take this body back as a closure.
-        for c in 0..count {
-            let p = PointNumber(tables::wide(work[corners + c]));
-            let f = tables::wide(work[numbers + c]);
+        for c in 0..t.count {
+            let p = PointNumber(wide(work[t.corners + c]));
+            let f = wide(work[t.owners + c]);
             let w = self.corner_texture(s, f, p);
             put2(work, textures + 2 * c, w);
         }

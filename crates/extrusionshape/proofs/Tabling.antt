@@ -11,7 +11,7 @@ use Rattle.lists.specs.Parts.{spliced}
 use Rattle.mesh.specs.declared.texture.Fit.{Fit}
 use Rattle.mesh.specs.Extrusion.{extrusion_of, extrusion_points, cap_fit}
 use Rattle.tables.specs.declared.layout.Plan.{Plan}
-use Rattle.tables.specs.Soups.{point_in, points_in}
+use Rattle.tables.specs.Soups.{points_in}
 use Rattle.tables.specs.Listed.{Listing, Listed}
 use Rattle.vertices.specs.declared.places.Widths.{Widths}
 use Rattle.shaping.specs.Shared.{plain_widths}
@@ -29,8 +29,7 @@ points_there {bs} {h} w D P p = points_put w P.room p (points_length bs h D.head
 
 -- the faces that are listed are what the textures ask
 pub textures_asked : {h : Header} {cap len : ℕ} {t : Plan} {w : List ℕ} {ls : List Listing} → Planned h cap len t → t.owners + t.count + 2 * t.count ≤ length w → Listed w t ls
-    → Cornered h t.corners t.owners (t.owners + t.count) t.count w
-unfolding point_in
+    → Cornered h t (t.owners + t.count) w
 textures_asked P r L = let R = P.room in record { points = omega arith; faces = omega arith; room = r; within = λ c b. let q = L.within c b in omega (arith, q, P.spots) }
 
 pub texture_none : (h : Header) {v : Widths} → v ≡ plain_widths h → h.need_uvs ≡ false → v.texture ≡ 0

@@ -66,7 +66,7 @@ pub fn texture_where(
     work: &mut [u32],
 )
     requires { (s ≡ settings_of x.now.block.now) × (shared.widths ≡ plain_widths x.now.header) × ArcsAt x.now.block.now x.now.header floats.now (3 * t.count)
-        × (3 * t.count ≤ length floats.now) × Cornered x.now.header t.corners t.owners (t.owners + t.count) t.count work.old }
+        × (3 * t.count ≤ length floats.now) × Cornered x.now.header t (t.owners + t.count) work.old }
     ensures { TexturesAt shared (texture_of x.now.block.now) t work.old work.new }
 {
     if x.header.need_uvs {
@@ -76,6 +76,6 @@ pub fn texture_where(
             at: 3 * t.count,
             fit: x.cap_fit(),
         };
-        source.put_textures(s, work, t.corners, t.owners, t.owners + t.count, t.count);
+        source.put_textures(s, work, t, t.owners + t.count);
     }
 }

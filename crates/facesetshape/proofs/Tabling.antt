@@ -3,14 +3,14 @@ use mathlib.Core.Path.{◌≡◌, sym, ◌∙◌, subst}
 use mathlib.Core.List.{List}
 use Prim.Native.Nat.{ℕ, ◌+◌, ◌*◌, ◌/◌, ◌≤◌}
 use native.Mathlib.Omega.{arith}
-use lib.ListN.{length, take}
+use lib.ListN.{length, take, drop, length-drop}
 use lib.Seq.{length-take-le}
 use Rattle.bits.specs.Bits.{entries}
 use Rattle.bits.proofs.Entries.{entries_length}
 use Rattle.block.specs.declared.header.Header.{Header}
 use Rattle.block.specs.declared.settings.Settings.{Settings}
-use Rattle.block.specs.Extents.{list_bytes}
-use Rattle.lists.specs.Parts.{spliced}
+use Rattle.block.specs.Extents.{set_widths, widths, list_bytes}
+use Rattle.lists.specs.Parts.{seg, spliced}
 use Rattle.lists.proofs.Splices.{put_gives}
 use Rattle.mesh.specs.declared.texture.Fit.{Fit}
 use Rattle.mesh.specs.Texture.{fit_of, default_at}
@@ -19,11 +19,17 @@ use Rattle.tables.specs.declared.layout.Plan.{Plan}
 use Rattle.tables.specs.Layout.{Room}
 use Rattle.tables.specs.Soups.{point_in, place_in, owner_in, points_in}
 use Rattle.tables.specs.Listed.{Listing, Listed}
+use Rattle.lent.specs.Lent.{Accepted}
+use Rattle.lent.proofs.Points.{points_in_lem, points_all}
 use Rattle.texture.specs.Corner.{texture_in}
 use Rattle.texture.specs.Textured.{set_texture, Fitted}
 use Rattle.texture.proofs.Axes.{axes_below}
 use Rattle.shaping.specs.Tabled.{use_in}
-use Rattle.facesetshape.specs.Shape.{face_set_texture, Placed}
+use Rattle.facesetshape.specs.Shape.{Lists, face_set_texture, Placed}
+
+-- the lists of an accepted block that has those of a face set
+pub lists_of : {bs coord : List ℕ} {h : Header} {s : Settings} → Accepted bs h s → widths h ≡ set_widths h.alpha → coord ≡ list_bytes bs h 1 → Lists bs coord h
+lists_of A v e = record { coord_is = e; room = points_in_lem A v; whole = points_all A v }
 
 module _ (bs : List ℕ) (h : Header) {t : Plan} {list : List ℕ} (a : list ≡ list_bytes bs h 0) where
   -- what the copy of the points asks
@@ -40,10 +46,16 @@ module _ (bs : List ℕ) (h : Header) {t : Plan} {list : List ℕ} (a : list ≡
       let G = put_gives _ C (length-take-le (3 * t.spots) (entries list) (omega (arith, entries_length list, (points_asked R e n).0))) (omega (arith, R)) in
       (G.0.len, G.1 ∙ (λ i. take (3 * e i) (entries (a i))) ∙ p)
 
+-- as many points as there are spots
+pub spots_in : (w : List ℕ) (t : Plan) → t.points + 3 * t.spots ≤ length w → length (points_in w t) / 3 ≡ t.spots
+unfolding points_in seg
+spots_in w t h =
+    let n : length (take (3 * t.spots) (drop t.points w)) ≡ 3 * t.spots = length-take-le (3 * t.spots) (drop t.points w) (omega (arith, length-drop t.points w)) in
+    omega arith
+
 -- FORMAT 7.4: tables that list faces over these points, with room above the owners, are what the textures ask
 pub textures_asked : {bs : List ℕ} {h : Header} {t : Plan} {w : List ℕ} {ls : List Listing} → t.spots ≡ point_count h → points_in w t ≡ entries (list_bytes bs h 0) → Listed w t ls
     → t.owners + t.count + 2 * t.count ≤ length w → Placed bs h t w
-unfolding point_in
 textures_asked {bs} {h} {t} {w} {ls} s p L r =
     let R = L.room in
     record {
@@ -66,10 +78,10 @@ module _ {bs : List ℕ} {h : Header} {t : Plan} {w : List ℕ} {fit : Fit} (P :
   fit_by_lem : fit ≡ fit_of (entries (list_bytes bs h 0)) (point_count h)
   fit_by_lem = e ∙ (λ i. fit_of (P.points i) (P.spots i))
 
-  pub fitted_by : Fitted w fit t.points t.spots t.corners t.places (t.owners + t.count) t.count
-  fitted_by = subst (λ (f : Fit). Fitted w f t.points t.spots t.corners t.places (t.owners + t.count) t.count) (sym fit_by_lem) P.fitted
+  pub fitted_by : Fitted w fit t (t.owners + t.count)
+  fitted_by = subst (λ (f : Fit). Fitted w f t (t.owners + t.count)) (sym fit_by_lem) P.fitted
 
   pub texture_put : {coord : List ℕ} (s : Settings) → coord ≡ list_bytes bs h 1 → (c : ℕ)
-      → set_texture bs coord h s fit w t.points t.spots t.corners t.places c ≡ face_set_texture bs h s (owner_in w t c) (use_in w t c)
-  unfolding set_texture face_set_texture point_in place_in points_in
+      → set_texture bs coord h s fit w t c ≡ face_set_texture bs h s (owner_in w t c) (use_in w t c)
+  unfolding set_texture face_set_texture
   texture_put s b c = λ i. texture_in bs (b i) h s (place_in w t c) (default_at (P.points i) (fit_by_lem i) (point_in w t c))

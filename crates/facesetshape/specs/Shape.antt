@@ -1,5 +1,5 @@
 -- FORMAT 4, 6.2, 7, 8.1: the plan of a face set, its faces as they are listed, and its texture.
-use Rattle.std.specs.Prelude.{◌≡◌, List, ℕ, ◌+◌}
+use Rattle.std.specs.Prelude.{◌≡◌, List, ℕ, ◌+◌, ◌*◌, ◌/◌, ◌≤◌, length, take}
 use Rattle.bits.specs.Bits.{entries}
 use Rattle.bits.specs.declared.Words2.{Words2}
 use Rattle.block.specs.declared.header.Header.{Header}
@@ -15,6 +15,12 @@ use Rattle.tables.specs.Listed.{Use, Listing}
 use Rattle.texture.specs.Corner.{texture_in}
 use Rattle.texture.specs.Textured.{Fitted}
 use Rattle.faceset.specs.Listings.{listings_of}
+
+-- FORMAT 2.4: coord is the list of coordIndex, and the list of points has the words of all points and no more
+pub record Lists (bs coord : List ℕ) (h : Header) : Type 0 where
+  pub coord_is : coord ≡ list_bytes bs h 1
+  pub room : 3 * point_count h ≤ length (list_bytes bs h 0) / 4
+  pub whole : take (3 * point_count h) (entries (list_bytes bs h 0)) ≡ entries (list_bytes bs h 0)
 
 -- FORMAT 4, 6.2: P points, and the corners and the number of the kept faces among some runs
 unfoldable pub run_plan : ℕ → List Run → Plan
@@ -34,4 +40,4 @@ face_set_texture bs h s number u =
 pub record Placed (bs : List ℕ) (h : Header) (t : Plan) (w : List ℕ) : Type 0 where
   pub spots : t.spots ≡ point_count h
   pub points : points_in w t ≡ entries (list_bytes bs h 0)
-  pub fitted : Fitted w (fit_of (entries (list_bytes bs h 0)) (point_count h)) t.points t.spots t.corners t.places (t.owners + t.count) t.count
+  pub fitted : Fitted w (fit_of (entries (list_bytes bs h 0)) (point_count h)) t (t.owners + t.count)

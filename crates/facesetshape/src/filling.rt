@@ -1,5 +1,5 @@
 // FORMAT 8.1: the tables of a face set, as `build` reads them.
-ghost use Rattle.std.specs.Prelude.{◌≡◌, ◌+◌, ◌*◌, ◌/◌, ◌≤◌, length, take};
+ghost use Rattle.std.specs.Prelude.{◌≡◌, ◌+◌, ◌*◌, ◌≤◌, length};
 ghost use Rattle.bits.specs.Bits.{entries};
 ghost use Rattle.block.specs.Extents.{list_bytes};
 ghost use Rattle.mesh.specs.FaceSet.{point_count};
@@ -9,35 +9,28 @@ ghost use Rattle.faceset.specs.Passing.{Planned};
 ghost use Rattle.shaping.specs.Tabled.{Tabled, TexturesAt};
 ghost use Rattle.facesetshape.specs.Shape.{face_set_listings, face_set_texture, Placed};
 
-use block::{Header, Settings, list_part};
+use crate::listed::SetBlock;
+use block::list_part;
 use build::Shared;
 use faceset::{list_faces, put_points};
 use mesh::Fit;
 use soups::prepare;
 use tables::Plan;
-use texture::{fit_of, put_textures};
+use texture::fit_of;
 
 // All tables but that of texture. Not one with primitiveshape's, for the reason that stands there.
-pub fn put_tables<'a>(
-    block: &'a [u8],
-    coord: &'a [u8],
-    h: Header,
-    s: Settings,
-    shared: Shared,
-    t: Plan,
-    work: &mut [u32],
-    floats: &mut [f32],
-)
-    requires { (coord.now ≡ list_bytes block.now h 1) × Planned (point_count h) coord.now (length work.old) t
-        × (3 * point_count h ≤ length (list_bytes block.now h 0) / 4) × (take (3 * point_count h) (entries (list_bytes block.now h 0)) ≡ entries (list_bytes block.now h 0))
-        × (3 * t.count + 6 * t.faces ≤ length floats.old) }
-    ensures { Tabled (entries (list_bytes block.now h 0)) (face_set_listings block.now h) shared s.crease t work.old work.new floats.old floats.new }
+pub fn put_tables(b: &SetBlock<'_>, shared: Shared, t: Plan, work: &mut [u32], floats: &mut [f32])
+    requires { Planned (point_count b.now.source.header) b.now.source.coord.now (length work.old) t × (3 * t.count + 6 * t.faces ≤ length floats.old) }
+    ensures { Tabled (entries (list_bytes b.now.source.block.now b.now.source.header 0)) (face_set_listings b.now.source.block.now b.now.source.header) shared b.now.source.settings.crease t
+        work.old work.new floats.old floats.new }
 {
+    let source = b.source;
+    let h = source.header;
+    let s = source.settings;
     let counts = h.counts;
-    let points = counts[0];
-    let list = list_part(block, h, 0);
+    let list = list_part(source.block, h, 0);
     put_points(list, work, t.points, 3 * t.spots);
-    list_faces(coord, points, work, t);
+    list_faces(source.coord, counts[0], work, t);
     let rule = s.crease;
     let attributes = shared.attributes;
     prepare(
@@ -57,39 +50,19 @@ fn fit_in(work: &[u32], t: Plan) -> Fit
 {
     let from = t.points;
     let to = from + 3 * t.spots;
-    fit_of(&work[from..to], t.spots)
+    fit_of(&work[from..to])
 }
 
 // The table of texture, where texture is made.
-pub fn texture_where<'a>(
-    block: &'a [u8],
-    coord: &'a [u8],
-    h: Header,
-    s: Settings,
-    shared: Shared,
-    t: Plan,
-    work: &mut [u32],
-)
-    requires { (coord.now ≡ list_bytes block.now h 1) × Placed block.now h t work.old }
-    ensures { TexturesAt shared (face_set_texture block.now h s) t work.old work.new }
+pub fn texture_where(b: &SetBlock<'_>, shared: Shared, t: Plan, work: &mut [u32])
+    requires { Placed b.now.source.block.now b.now.source.header t work.old }
+    ensures { TexturesAt shared (face_set_texture b.now.source.block.now b.now.source.header b.now.source.settings) t work.old work.new }
 {
     let widths = shared.widths;
     if widths.texture == 0 {
         return;
     }
+    let source = b.source;
     let fit = fit_in(work, t);
-    put_textures(
-        block,
-        coord,
-        h,
-        s,
-        fit,
-        work,
-        t.points,
-        t.spots,
-        t.corners,
-        t.places,
-        t.owners + t.count,
-        t.count,
-    );
+    source.put_textures(fit, work, t, t.owners + t.count);
 }

@@ -2,7 +2,9 @@
 #![tactic(auto)]
 
 mod filling;
+mod listed;
 mod whole;
 
 pub use filling::texture_where;
+pub use listed::SetBlock;
 pub use whole::make_face_set;

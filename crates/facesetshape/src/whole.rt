@@ -7,6 +7,7 @@ ghost use Rattle.lent.specs.Buffers.{slices_in, Same};
 ghost use Rattle.sizes.specs.Known.{Counted};
 
 use crate::filling::{put_tables, texture_where};
+use crate::listed::SetBlock;
 use bits::Words4;
 use block::{Header, Settings, list_part};
 use build::build;
@@ -14,6 +15,7 @@ use lent::{Buffers, Counts};
 use shaping::listed_shared;
 use sizes::Sizes;
 use tables::plan_of;
+use texture::Source;
 
 // The mesh of an accepted face set of the sizes z, into the six slices; the working slices are left with zeros.
 pub fn make_face_set(
@@ -33,7 +35,14 @@ pub fn make_face_set(
     let t = plan_of(z.points, z.corners, z.faces, 0);
     let shared = listed_shared(h, missing, h.convex);
     let coord = list_part(block, h, 1);
-    put_tables(block, coord, h, s, shared, t, b.words, b.floats);
-    texture_where(block, coord, h, s, shared, t, b.words);
+    let source = Source {
+        block,
+        coord,
+        header: h,
+        settings: s,
+    };
+    let set = SetBlock { source };
+    put_tables(&set, shared, t, b.words, b.floats);
+    texture_where(&set, shared, t, b.words);
     build(block, coord, shared, t, b)
 }

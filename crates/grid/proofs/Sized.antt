@@ -18,7 +18,6 @@ use Rattle.mesh.specs.Grid.{x_dimension, z_dimension}
 use Rattle.mesh.specs.Sizes.{height_count, is_no_grid}
 use Rattle.tables.specs.declared.layout.Plan.{Plan}
 use Rattle.tables.specs.Layout.{most}
-use Rattle.tables.specs.Soups.{point_in}
 use Rattle.tables.specs.Listed.{Listing, Listed}
 use Rattle.lists.proofs.Tests.{or_none}
 use Rattle.grid.specs.Sides.{Sides}
@@ -49,8 +48,7 @@ shape_of h e =
 
 -- the corners that are listed name points of the grid
 pub placed : (h : Header) (w : List ℕ) (t : Plan) (ls : List Listing) (textures : ℕ) → Listed w t ls → t.spots ≡ x_dimension h * z_dimension h → t.corners + t.count ≤ textures
-    → textures + 2 * t.count ≤ length w → Placed h w t.corners textures t.count
-unfolding point_in
+    → textures + 2 * t.count ≤ length w → Placed h w t textures
 placed h w t ls textures L s b r = record {
   few = L.room.few;
   below = b;

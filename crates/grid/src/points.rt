@@ -51,6 +51,7 @@ impl<'a> GridBlock<'a> {
         let counts = self.header.counts;
         let n = wide(counts[0]) * wide(counts[1]);
         let heights = list_part(self.block, self.header, 3);
+        // Point by point: `put_each` takes one word at a time, so that each point would be made three times; and there is no list of all words for `put_all`.
         for k in 0..n {
             put3(work, at + 3 * k, self.grid_point(heights, s, k));
         }

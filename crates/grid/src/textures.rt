@@ -1,15 +1,16 @@
 // FORMAT 7.3, 7.4, elevation_grid (st, t_out): the textures of a grid's corners.
-ghost use Rattle.std.specs.Prelude.{◌≡◌, ℕ, ◌+◌, ◌*◌, ◌/◌, ◌%◌, ◌≤◌, ◌<◌, get_or};
+ghost use Rattle.std.specs.Prelude.{◌≡◌, ℕ, ◌*◌, ◌/◌, ◌%◌, ◌≤◌, ◌<◌};
 ghost use Rattle.mesh.specs.Grid.{x_dimension, z_dimension, part_word, grid_default};
 ghost use Rattle.lists.specs.Parts.{spliced};
+ghost use Rattle.tables.specs.Soups.{point_in};
 ghost use Rattle.texture.specs.Textured.{texture_words};
 ghost use Rattle.grid.specs.Textures.{grid_texture, Placed};
 
 use crate::sided::GridBlock;
 use bits::Words2;
 use block::{PointNumber, Settings};
-use tables::wide;
-use texture::{corner_texture, put2};
+use tables::{Plan, wide};
+use texture::{Source, put2};
 
 // The bits of i of n - 1 steps.
 fn part_word(i: usize, n: usize) -> u32
@@ -39,25 +40,23 @@ impl<'a> GridBlock<'a> {
         requires { p.0 < x_dimension self.now.header * z_dimension self.now.header }
         ensures { result ≡ grid_texture self.now.block.now self.now.header s p.0 }
     {
-        let d = self.default_of(p);
-        corner_texture(self.block, &self.block[0..0], self.header, s, p.0, d)
+        let source = Source {
+            block: self.block,
+            coord: &self.block[0..0],
+            header: self.header,
+            settings: s,
+        };
+        source.corner_texture(p.0, self.default_of(p))
     }
 
-    // The textures of all corners.
-    pub fn put_textures(
-        &self,
-        s: Settings,
-        work: &mut [u32],
-        corners: usize,
-        textures: usize,
-        count: usize,
-    )
-        requires { Placed self.now.header work.old corners textures count }
-        ensures { work.new ≡ spliced work.old textures (texture_words (λ (c : ℕ). grid_texture self.now.block.now self.now.header s (get_or work.old (corners + c) 0)) count) }
+    // The textures of all corners, from place `textures` on: the plan says where their points stand.
+    pub fn put_textures(&self, s: Settings, work: &mut [u32], t: Plan, textures: usize)
+        requires { Placed self.now.header work.old t textures }
+        ensures { work.new ≡ spliced work.old textures (texture_words (λ (c : ℕ). grid_texture self.now.block.now self.now.header s (point_in work.old t c)) t.count) }
     {
         // A loop of its own, as in texture and extrusion: each reads other tables of `work`, and a shared one would take this body back as a closure.
-        for c in 0..count {
-            let p = PointNumber(wide(work[corners + c]));
+        for c in 0..t.count {
+            let p = PointNumber(wide(work[t.corners + c]));
             put2(work, textures + 2 * c, self.texture_of(s, p));
         }
     }

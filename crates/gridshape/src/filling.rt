@@ -60,12 +60,12 @@ pub fn put_tables(
 
 // The table of texture, where texture is made.
 pub fn texture_where(g: &GridBlock<'_>, s: Settings, shared: Shared, t: Plan, work: &mut [u32])
-    requires { Placed g.now.header work.old t.corners (t.owners + t.count) t.count }
+    requires { Placed g.now.header work.old t (t.owners + t.count) }
     ensures { TexturesAt shared (texture_of g.now.block.now g.now.header s) t work.old work.new }
 {
     let widths = shared.widths;
     if widths.texture == 0 {
         return;
     }
-    g.put_textures(s, work, t.corners, t.owners + t.count, t.count);
+    g.put_textures(s, work, t, t.owners + t.count);
 }

@@ -1,5 +1,5 @@
 // FORMAT 8.5: the tables of a triangle, fan, strip or quad set, as `build` reads them.
-ghost use Rattle.std.specs.Prelude.{◌≡◌, ◌+◌, ◌*◌, ◌/◌, ◌≤◌, length, take};
+ghost use Rattle.std.specs.Prelude.{◌≡◌, ◌+◌, ◌*◌, ◌≤◌, length};
 ghost use Rattle.bits.specs.Bits.{entries};
 ghost use Rattle.block.specs.Extents.{list_bytes};
 ghost use Rattle.mesh.specs.FaceSet.{point_count};
@@ -7,36 +7,36 @@ ghost use Rattle.primitiveset.specs.Passing.{Planned};
 ghost use Rattle.shaping.specs.Tabled.{Tabled};
 ghost use Rattle.primitiveshape.specs.Shape.{listings_in};
 
-use block::{Header, Settings, Topology, list_part};
+use block::{Topology, list_part};
 use build::Shared;
 use faceset::put_points;
+use facesetshape::SetBlock;
 use primitiveset::list_primitives;
 use soups::prepare;
 use tables::Plan;
 
 // All tables but that of texture.
-// As in facesetshape but for one call: with that call as a closure (tried), the contract is longer than the lines that it saves.
-pub fn put_tables<'a>(
-    block: &'a [u8],
-    coord: &'a [u8],
-    h: Header,
+// As in facesetshape but for one call. One function of both would take that call as a closure, and its contract what the call asks and leaves, in either
+// kind's words: longer than the lines that it saves.
+pub fn put_tables(
+    b: &SetBlock<'_>,
     g: Topology,
-    s: Settings,
     shared: Shared,
     t: Plan,
     work: &mut [u32],
     floats: &mut [f32],
 )
-    requires { (coord.now ≡ list_bytes block.now h 1) × Planned (point_count h) g coord.now (length work.old) t
-        × (3 * point_count h ≤ length (list_bytes block.now h 0) / 4) × (take (3 * point_count h) (entries (list_bytes block.now h 0)) ≡ entries (list_bytes block.now h 0))
-        × (3 * t.count + 6 * t.faces ≤ length floats.old) }
-    ensures { Tabled (entries (list_bytes block.now h 0)) (listings_in g block.now h) shared s.crease t work.old work.new floats.old floats.new }
+    requires { Planned (point_count b.now.source.header) g b.now.source.coord.now (length work.old) t × (3 * t.count + 6 * t.faces ≤ length floats.old) }
+    ensures { Tabled (entries (list_bytes b.now.source.block.now b.now.source.header 0)) (listings_in g b.now.source.block.now b.now.source.header) shared b.now.source.settings.crease t
+        work.old work.new floats.old floats.new }
 {
+    let source = b.source;
+    let h = source.header;
+    let s = source.settings;
     let counts = h.counts;
-    let points = counts[0];
-    let list = list_part(block, h, 0);
+    let list = list_part(source.block, h, 0);
     put_points(list, work, t.points, 3 * t.spots);
-    list_primitives(coord, points, g, work, t);
+    list_primitives(source.coord, counts[0], g, work, t);
     let rule = s.crease;
     let attributes = shared.attributes;
     prepare(

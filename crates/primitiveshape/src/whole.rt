@@ -10,11 +10,12 @@ use crate::filling::put_tables;
 use bits::Words4;
 use block::{Header, Settings, Topology, list_part};
 use build::build;
-use facesetshape::texture_where;
+use facesetshape::{SetBlock, texture_where};
 use lent::{Buffers, Counts};
 use shaping::listed_shared;
 use sizes::Sizes;
 use tables::plan_of;
+use texture::Source;
 
 // The mesh of an accepted set of primitives of the sizes z, into the six slices; the working slices are left with zeros. A quad is split as a fan, whatever
 // the convex bit says.
@@ -37,7 +38,14 @@ pub fn make_primitives(
     let t = plan_of(z.points, z.corners, z.faces, 0);
     let shared = listed_shared(h, missing, true);
     let coord = list_part(block, h, 1);
-    put_tables(block, coord, h, g, s, shared, t, b.words, b.floats);
-    texture_where(block, coord, h, s, shared, t, b.words);
+    let source = Source {
+        block,
+        coord,
+        header: h,
+        settings: s,
+    };
+    let set = SetBlock { source };
+    put_tables(&set, g, shared, t, b.words, b.floats);
+    texture_where(&set, shared, t, b.words);
     build(block, coord, shared, t, b)
 }

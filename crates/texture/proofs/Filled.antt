@@ -16,6 +16,8 @@ use Rattle.lists.specs.Parts.{seg, spliced, Kept}
 use Rattle.lists.proofs.Keep.{kept_at, kept_seg, seg_at}
 use Rattle.lists.proofs.Splices.{put_kept}
 use Rattle.lists.proofs.Pieces.{length_pieces, piece_put}
+use Rattle.tables.specs.declared.layout.Plan.{Plan}
+use Rattle.tables.specs.Soups.{point_in, place_in, points_in}
 use Rattle.texture.specs.Corner.{texture_in}
 use Rattle.texture.specs.Textured.{pair_at, set_texture, Fitted, texture_words}
 
@@ -44,16 +46,20 @@ textures_put l a n f {m} h e =
     (put_kept l a (texture_words f n) e (length_pieces F 2 (λ t. refl) n) (omega arith), λ c b. pair_put m (a + 2 * c) (f c) (at c b))
 
 -- ---- the loop over a face set's corners reads tables that stand below what it writes
-module _ (w₀ w : List ℕ) (fit : Fit) (points spots corners places textures count c : ℕ) (F : Fitted w₀ fit points spots corners places textures count)
-    (K : Kept textures w₀ w) (h : c < count) where
-  pub point_within : get_or w (corners + c) 0 < spots
-  point_within = rw (kept_at K (corners + c) (omega (arith, F.corners_below))) (F.within c h)
+module _ {w₀ w : List ℕ} {fit : Fit} {t : Plan} {textures : ℕ} (F : Fitted w₀ fit t textures) (K : Kept textures w₀ w) {c : ℕ} (h : c < t.count) where
+  point_read : point_in w t c ≡ point_in w₀ t c
+  unfolding point_in
+  point_read = kept_at K (t.corners + c) (omega (arith, F.corners_below))
 
-  pub texture_read : (bs coord : List ℕ) (head : Header) (s : Settings) (v : Words2) (p k : ℕ) → p ≡ get_or w (corners + c) 0 → k ≡ get_or w (places + c) 0
-      → v ≡ texture_in bs coord head s k (default_at (seg w points (3 * spots)) fit p) → v ≡ set_texture bs coord head s fit w₀ points spots corners places c
-  unfolding set_texture
-  texture_read bs coord head s v p k ep ek e =
-      let x : p ≡ get_or w₀ (corners + c) 0 = ep ∙ kept_at K (corners + c) (omega (arith, F.corners_below)) in
-      let y : k ≡ get_or w₀ (places + c) 0 = ek ∙ kept_at K (places + c) (omega (arith, F.places_below)) in
-      let z : seg w points (3 * spots) ≡ seg w₀ points (3 * spots) = kept_seg K points (3 * spots) F.points_below (omega (arith, F.points_below, F.room)) in
+  pub point_within : {p : ℕ} → p ≡ get_or w (t.corners + c) 0 → p < t.spots
+  unfolding point_in
+  point_within e = omega (arith, e, point_read, F.within c h)
+
+  pub texture_read : (bs coord : List ℕ) (head : Header) (s : Settings) {v : Words2} {p k : ℕ} → p ≡ get_or w (t.corners + c) 0 → k ≡ get_or w (t.places + c) 0
+      → v ≡ texture_in bs coord head s k (default_at (points_in w t) fit p) → v ≡ set_texture bs coord head s fit w₀ t c
+  unfolding set_texture point_in place_in points_in
+  texture_read bs coord head s ep ek e =
+      let x = ep ∙ point_read in
+      let y = ek ∙ kept_at K (t.places + c) (omega (arith, F.places_below)) in
+      let z = kept_seg K t.points (3 * t.spots) F.points_below (omega (arith, F.points_below, F.room)) in
       e ∙ (λ i. texture_in bs coord head s (y i) (default_at (z i) fit (x i)))

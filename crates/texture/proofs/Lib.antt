@@ -2,4 +2,5 @@
 pub mod Axes
 pub mod Streams
 pub mod Filled
+mod Spans
 mod Rows

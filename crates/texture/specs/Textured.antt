@@ -5,11 +5,12 @@ use Rattle.block.specs.declared.header.Header.{Header}
 use Rattle.block.specs.declared.settings.Settings.{Settings}
 use Rattle.mesh.specs.declared.texture.Fit.{Fit}
 use Rattle.mesh.specs.Texture.{default_at}
-use Rattle.lists.specs.Parts.{seg}
 use Rattle.lists.specs.Loops.{tab}
 use Rattle.lists.specs.Lists.{flat}
 use Rattle.mesh.specs.Words.{words2}
+use Rattle.tables.specs.declared.layout.Plan.{Plan}
 use Rattle.tables.specs.Layout.{most}
+use Rattle.tables.specs.Soups.{point_in, place_in, points_in}
 use Rattle.texture.specs.Corner.{texture_in}
 
 -- the words at a and a + 1
@@ -21,17 +22,16 @@ abbrev pub texture_words : (ℕ → Words2) → ℕ → List ℕ
 texture_words f n = flat (tab (λ c. words2 (f c)) n 0)
 
 -- FORMAT 7.1 to 7.4, indexed_face_set (t_out): corner c of a face set, from the tables of points, of the corners' points and of their places
-unfoldable pub set_texture : List ℕ → List ℕ → Header → Settings → Fit → List ℕ → ℕ → ℕ → ℕ → ℕ → ℕ → Words2
-set_texture bs coord h s fit w points spots corners places c =
-    texture_in bs coord h s (get_or w (places + c) 0) (default_at (seg w points (3 * spots)) fit (get_or w (corners + c) 0))
+unfoldable pub set_texture : List ℕ → List ℕ → Header → Settings → Fit → List ℕ → Plan → ℕ → Words2
+set_texture bs coord h s fit w t c = texture_in bs coord h s (place_in w t c) (default_at (points_in w t) fit (point_in w t c))
 
 -- what is asked of the tables: they stand below the textures, which have room, and the corners name points
-pub record Fitted (w : List ℕ) (fit : Fit) (points spots corners places textures count : ℕ) : Type 0 where
-  pub few : count ≤ most
+pub record Fitted (w : List ℕ) (fit : Fit) (t : Plan) (textures : ℕ) : Type 0 where
+  pub few : t.count ≤ most
   pub first : fit.s_axis < 3
   pub second : fit.t_axis < 3
-  pub points_below : points + 3 * spots ≤ textures
-  pub corners_below : corners + count ≤ textures
-  pub places_below : places + count ≤ textures
-  pub room : textures + 2 * count ≤ length w
-  pub within : (c : ℕ) → c < count → get_or w (corners + c) 0 < spots
+  pub points_below : t.points + 3 * t.spots ≤ textures
+  pub corners_below : t.corners + t.count ≤ textures
+  pub places_below : t.places + t.count ≤ textures
+  pub room : textures + 2 * t.count ≤ length w
+  pub within : (c : ℕ) → c < t.count → point_in w t c < t.spots

@@ -5,25 +5,31 @@ ghost use Rattle.texture.specs.Corner.{texture_in};
 use bits::Words2;
 use block::{Header, Settings, texture_stream, uv};
 
-// The listed texture point or, where no list is there, the default one; then the transform and 1 - t.
-pub fn corner_texture<'a>(
-    block: &'a [u8],
-    coord: &'a [u8],
-    h: Header,
-    s: Settings,
-    place: usize,
-    default: Words2,
-) -> Words2
-    ensures { result ≡ texture_in block.now coord.now h s place default }
-{
-    let x = h.transformed.then_some(s.transform);
-    if h.texture_points {
-        let none = Words2 { s: 0, t: 0 };
-        let listed = block::get(block, coord, texture_stream(h), place, 0, none);
-        return uv(x, listed);
+// What the texture of a corner is read from: the block, its coordIndex, its header and its settings.
+#[derive(Clone, Copy)]
+pub struct Source<'a> {
+    pub block: &'a [u8],
+    pub coord: &'a [u8],
+    pub header: Header,
+    pub settings: Settings,
+}
+
+impl<'a> Source<'a> {
+    // The listed texture point or, where no list is there, the default one; then the transform and 1 - t.
+    pub fn corner_texture(&self, place: usize, default: Words2) -> Words2
+        ensures { result ≡ texture_in self.now.block.now self.now.coord.now self.now.header self.now.settings place default }
+    {
+        let h = self.header;
+        let s = self.settings;
+        let x = h.transformed.then_some(s.transform);
+        if h.texture_points {
+            let none = Words2 { s: 0, t: 0 };
+            let listed = block::get(self.block, self.coord, texture_stream(h), place, 0, none);
+            return uv(x, listed);
+        }
+        if h.need_uvs {
+            return uv(x, default);
+        }
+        Words2 { s: 0, t: 0 }
     }
-    if h.need_uvs {
-        return uv(x, default);
-    }
-    Words2 { s: 0, t: 0 }
 }

@@ -1,21 +1,25 @@
+use Prim.Native.Nat.{◌+◌}
 use Rattle.block.specs.declared.texture.Pair.{Pair}
-use Rattle.extrusion.proofs.Values.{at2_is}
+use Rattle.extrusion.proofs.Values.{at2_is, left_all, left_next, left_here, left_over}
 use Rattle.extrusion.proofs.Fitting.{fit_is, span_more, span_none}
-use lib.ListN.{length}
-use mathlib.Core.Path.{◌≡◌, ap}
-use native.Mathlib.Omega.{arith}
+use mathlib.Core.Path.{ap}
 use Rattle.extrusion.proofs.caps.section_fit.Goals as goal
 
-pub loop-j-init : goal.loop-j-init
-loop-j-init c = (span_none _ _ _ c.nowhere-a.ensures, span_none _ _ _ c.nowhere-b.ensures)
+pub loop-p-init : goal.loop-p-init
+loop-p-init c = rw (c.into_iter-p-iterator.ensures.into_iter_gives, c.iter-p-items.ensures) (0, left_all, span_none _ _ _ c.nowhere-a.ensures, span_none _ _ _ c.nowhere-b.ensures)
 
-pub loop-j-preserved : goal.loop-j-preserved
-loop-j-preserved c = (
-  span_more _ _ _ _ _ c.loop-j.invariant.0 (ap (λ (p : Pair). p.s) (at2_is _ _ _ c.at-p.ensures)) c.widen-a.ensures,
-  span_more _ _ _ _ _ c.loop-j.invariant.1 (ap (λ (p : Pair). p.t) (at2_is _ _ _ c.at-p.ensures)) c.widen-b.ensures,
-)
+pub loop-p-preserved : goal.loop-p-preserved
+loop-p-preserved c =
+    let I = c.loop-p.invariant in
+    let e = c.in-Some.ensures.steps in
+    let q = at2_is _ I.0 _ (left_here I.1 e).1 in (
+      I.0 + 1,
+      left_next I.1 e,
+      span_more _ I.0 _ _ _ I.2 (ap (λ (p : Pair). p.s) q) c.widen-a.ensures,
+      span_more _ I.0 _ _ _ I.3 (ap (λ (p : Pair). p.t) q) c.widen-b.ensures,
+    )
 
 pub returns : goal.returns
 returns c =
-    let e : c.loop-j.j ≡ length c.args.section.now = omega arith in
-    fit_is _ c.loop-j.j _ _ _ _ e c.loop-j.invariant.0 c.loop-j.invariant.1 c.max.ensures c.divisor_of.ensures
+    let I = c.loop-p.invariant in
+    fit_is _ I.0 _ _ _ _ (left_over I.1 c.in-None.ensures.steps.0) I.2 I.3 c.max.ensures c.divisor_of.ensures

@@ -4,9 +4,11 @@ use Rattle.facesetshape.proofs.Tabling.{points_copied}
 use Rattle.facesetshape.proofs.filling.put_tables.Goals as goal
 
 pub prepare-requires : goal.prepare-requires
-prepare-requires c = (listed_sound c.list_faces.ensures.listed, c.requires.4)
+prepare-requires c = (listed_sound c.list_faces.ensures.listed, c.requires.1)
 
 pub returns : goal.returns
 returns c =
-    tabled c.requires.1.room (points_copied _ c.args.h c.list_part-list.ensures _ c.requires.1.room c.requires.1.spots c.requires.2 c.requires.3 c.put_points.ensures) c.list_faces.ensures.beside
-    (rw (← c.requires.0) c.list_faces.ensures.listed) (rw c.is_some.ensures at c.prepare.ensures) c.prepare.auto.floats
+    let P = c.requires.0 in
+    let L = c.args.b.now.lists in
+    tabled P.room (points_copied _ c.args.b.now.source.header c.list_part-list.ensures _ P.room P.spots L.room L.whole c.put_points.ensures) c.list_faces.ensures.beside
+    (rw (← L.coord_is) c.list_faces.ensures.listed) (rw c.is_some.ensures at c.prepare.ensures) c.prepare.auto.floats

@@ -1,8 +1,6 @@
 use mathlib.Core.Path.{refl}
-use Rattle.tables.specs.Soups.{point_in}
 use Rattle.shaping.proofs.Tabling.{textures_put}
 use Rattle.gridshape.proofs.filling.texture_where.Goals as goal
 
 pub returns : goal.returns
-unfolding point_in
 returns c = textures_put c.requires.room c.put_textures.ensures (λ k l. refl)

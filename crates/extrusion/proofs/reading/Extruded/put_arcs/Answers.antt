@@ -30,4 +30,4 @@ put_params-requires-2-clause-room c = omega (arith, c.len-m.ensures, ap length c
 
 pub returns : goal.returns
 returns c =
-    arcs_put c.args.self.now.given _ _ _ _ _ _ _ _ c.section-section.ensures c.len-m.ensures c.spine-spine.ensures c.len.ensures c.requires (c.put_params.ensures (step2 c.section-section.result) (λ i d b p. search rules)) (c.put_params-2.ensures (step3 c.spine-spine.result) (λ i d b p. search rules))
+    arcs_put c.args.self.now.given _ _ _ _ _ _ _ _ c.section-section.ensures c.len-m.ensures c.spine-spine.ensures c.len.ensures c.requires (c.put_params.ensures (step2 c.section-section.result) (λ i d b p. search rules)) (c.put_params-2.ensures (step3 c.spine-spine.result.points) (λ i d b p. search rules))

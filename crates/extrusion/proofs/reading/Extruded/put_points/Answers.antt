@@ -2,14 +2,10 @@ use Rattle.extrusion.proofs.Blocks.{points_put, section_long, spine_long}
 use lib.ListN.{length}
 use Rattle.lists.proofs.Numbers.{rows_room}
 use mathlib.Core.Path.{◌∙◌, ap, sym}
-use native.Mathlib.Omega.{arith}
 use Rattle.extrusion.proofs.reading.Extruded.put_points.Goals as goal
 
 pub put_rows-requires : goal.put_rows-requires
-put_rows-requires c = (
-  omega (arith, ap length c.spine.ensures, spine_long c.args.self.now.given, c.args.self.now.given.spine),
-  rows_room _ _ _ _ _ _ (ap length c.spine.ensures ∙ sym (spine_long c.args.self.now.given)) (ap length c.section.ensures ∙ sym (section_long c.args.self.now.given)) c.requires,
-)
+put_rows-requires c = rows_room _ _ _ _ _ _ (ap length c.spine.ensures ∙ sym (spine_long c.args.self.now.given)) (ap length c.section.ensures ∙ sym (section_long c.args.self.now.given)) c.requires
 
 pub returns : goal.returns
 returns c =

@@ -2,6 +2,7 @@ use Rattle.grid.specs.Textures.{grid_texture}
 use Rattle.lists.proofs.Keep.{kept_at}
 use Rattle.lists.proofs.Pieces.{pieces_none, pieces_more, pieces_kept}
 use Rattle.mesh.specs.Words.{words2}
+use Rattle.tables.specs.Soups.{point_in}
 use mathlib.Core.Path.{◌∙◌, ap, refl}
 use Prim.Native.Nat.{◌+◌}
 use native.Mathlib.Omega.{arith}
@@ -11,12 +12,14 @@ pub loop-c-init : goal.loop-c-init
 loop-c-init c = pieces_none
 
 pub texture_of-requires : goal.texture_of-requires
+unfolding point_in
 texture_of-requires c =
-    let q = c.wide.ensures ∙ kept_at (pieces_kept c.loop-c.invariant (omega (arith, c.requires.room))) (c.args.corners + c.loop-c.c) (omega (arith, c.requires.below, c.loop-c-test.true)) in rw q (c.requires.within c.loop-c.c c.loop-c-test.true)
+    let q = c.wide.ensures ∙ kept_at (pieces_kept c.loop-c.invariant (omega (arith, c.requires.room))) (c.args.t.corners + c.loop-c.c) (omega (arith, c.requires.below, c.loop-c-test.true)) in rw q (c.requires.within c.loop-c.c c.loop-c-test.true)
 
 pub loop-c-preserved : goal.loop-c-preserved
+unfolding point_in
 loop-c-preserved c =
     let T = c.loop-c.invariant in
-    let q = c.wide.ensures ∙ kept_at (pieces_kept T (omega (arith, c.requires.room))) (c.args.corners + c.loop-c.c) (omega (arith, c.requires.below, c.loop-c-test.true)) in
+    let q = c.wide.ensures ∙ kept_at (pieces_kept T (omega (arith, c.requires.room))) (c.args.t.corners + c.loop-c.c) (omega (arith, c.requires.below, c.loop-c-test.true)) in
     let v = c.texture_of.ensures ∙ ap (grid_texture c.args.self.now.block.now c.args.self.now.header c.args.s) q in
     pieces_more 2 (λ t. refl) (omega (arith, c.requires.room)) T c.loop-c-test.true (omega arith) (ap words2 v) c.put2.ensures

@@ -3,4 +3,4 @@ use Rattle.grid.proofs.sided.GridBlock.texture_of.Goals as goal
 
 pub returns : goal.returns
 unfolding grid_texture
-returns c = rw (c.corner_texture.ensures, c.default_of-d.ensures)
+returns c = rw (c.corner_texture.ensures, c.default_of.ensures)

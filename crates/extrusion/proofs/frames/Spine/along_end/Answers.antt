@@ -1,5 +1,5 @@
 use Rattle.extrusion.proofs.Planes.{closed_is, end_closed, end_first, end_last}
-use Rattle.extrusion.proofs.frames.along_end.Goals as goal
+use Rattle.extrusion.proofs.frames.Spine.along_end.Goals as goal
 
 pub returns-then-closes : goal.returns-then-closes
 returns-then-closes c = rw (← c.len-n.ensures) (end_closed _ _ _ _ (closed_is _ _ c.closes.ensures) _ c.if-closes.true c.step.ensures)

@@ -1,5 +1,5 @@
 use Rattle.extrusion.proofs.Planes.{closed_is, z_closed, z_first, z_last, z_none}
-use Rattle.extrusion.proofs.frames.z_end.Goals as goal
+use Rattle.extrusion.proofs.frames.Spine.z_end.Goals as goal
 
 pub returns-then-closes : goal.returns-then-closes
 returns-then-closes c = rw (← c.len-n.ensures) (z_closed _ _ _ _ (closed_is _ _ c.closes.ensures) _ c.if-closes.true c.plane.ensures)

@@ -1,6 +1,6 @@
 use Rattle.block.specs.Texture.{uv_words}
 use Rattle.texture.specs.Corner.{texture_in}
-use Rattle.texture.proofs.corner.corner_texture.Goals as goal
+use Rattle.texture.proofs.corner.Source.corner_texture.Goals as goal
 
 pub returns-then-h : goal.returns-then-h
 unfolding texture_in uv_words

@@ -1,0 +1,10 @@
+use Rattle.extrusion.proofs.Finding.{found_is}
+use Rattle.mesh.specs.Frames.{first_y, y_own}
+use lib.ListN.{length}
+use Rattle.std.proofs.Common.{rules}
+use Rattle.extrusion.proofs.frames.Spine.first_y.Goals as goal
+
+pub returns : goal.returns
+unfolding first_y
+returns c =
+    found_is _ _ (y_own c.args.self.now.points) (length c.args.self.now.points) _ c.find_map.ensures.runs.0 _ c.find_map.ensures.runs.1 c.len.ensures c.find_map.ensures.runs.2 (search rules) (search rules)
