@@ -25,12 +25,11 @@ fn counted(n: usize, a: bool, b: bool) -> usize
 fn run_totals(run: &[u8], points: u32) -> LineTotals
     ensures { Counted points (entries run.now) result }
 {
-    let n = run.len() / 4;
     let mut corners: usize = 0;
     let mut lines: usize = 0;
     let mut after = false;
-    for j in 0..n {
-        let here = bits::entry(run, j) < points;
+    for e in run.chunks_exact(4) {
+        let here = bits::word(e, 0) < points;
         corners = counted(corners, true, here);
         lines = counted(lines, after, here);
         after = here;
