@@ -34,6 +34,7 @@ impl<'a> Source<'a> {
     }
 
     // The faces at number p, once for each use.
+    #[tactic(auto, using(crate::proofs::Walks::ends_fit))]
     pub fn faces_at(&self, p: PointNumber) -> &'a [u32]
         requires { p.0 < self.now.tables.plan.now.spots }
         ensures low { All (λ (g : ℕ). g < self.now.tables.plan.now.faces) result.now }
@@ -46,6 +47,7 @@ impl<'a> Source<'a> {
     }
 
     // The facing normal of face g.
+    #[tactic(auto, unfolding(crate::specs::Rows::normal_in))]
     pub fn normal_of(&self, g: usize) -> V3
         requires { g < self.now.tables.plan.now.faces }
         ensures { result ≡ normal_in self.now.tables.work.now self.now.tables.plan.now g }
@@ -54,6 +56,7 @@ impl<'a> Source<'a> {
     }
 
     // Its unit vector.
+    #[tactic(auto, unfolding(crate::specs::Rows::unit_in))]
     pub fn unit_of(&self, g: usize) -> Option<V3>
         requires { g < self.now.tables.plan.now.faces }
         ensures { result ≡ unit_of (normal_in self.now.tables.work.now self.now.tables.plan.now g) }
@@ -95,6 +98,7 @@ impl<'a> Source<'a> {
     }
 
     // Whether two corners are of one face and gathered under one number.
+    #[tactic(auto, unfolding(crate::specs::Written::again))]
     pub fn is_again(&self, c: CornerNumber, d: CornerNumber) -> bool
         requires { (c.0 < self.now.tables.plan.now.count) × (d.0 < self.now.tables.plan.now.count) }
         ensures { result ≡ again self.now.tables.work.now self.now.tables.plan.now c.0 d.0 }

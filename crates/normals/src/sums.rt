@@ -85,6 +85,7 @@ impl<'a> Near<'a> {
     }
 }
 
+// `Summed` stays a clause: floats are written between two corners, so a struct with it would be made anew for each.
 impl<'a> Source<'a> {
     // The unit vector at a corner of face own, whose own one is k, that is gathered under p. Only the cosine rule takes a root here: that of every face is made
     // once for each number.
