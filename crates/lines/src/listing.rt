@@ -13,6 +13,7 @@ use corners::CornerTables;
 use tables::{narrow, wide};
 
 // Corner c: its point, its place in coordIndex, and the number of its line.
+#[tactic(auto, unfolding(crate::specs::Uses::listed_at))]
 fn list_corner(
     work: &mut [u32],
     t: CornerTables,

@@ -22,6 +22,7 @@ fn counted(n: usize, a: bool, b: bool) -> usize
 }
 
 // The entries of one run: those that name a point, and the lines between them.
+#[tactic(auto, using(bits::proofs::Entries::entries_length))]
 fn run_totals(run: &[u8], points: u32) -> LineTotals
     ensures { Counted points (entries run.now) result }
 {
@@ -38,6 +39,7 @@ fn run_totals(run: &[u8], points: u32) -> LineTotals
 }
 
 // Run by run: no line goes from one run to the next.
+#[tactic(auto, using(bits::proofs::Entries::entries_length))]
 pub fn line_totals(list: &[u8], points: u32) -> LineTotals
     ensures { (result.corners ≡ sum_over (sizes.named points) (runs (entries list.now)))
         × (result.lines ≡ sum_over (sizes.lines_after points false) (runs (entries list.now))) }

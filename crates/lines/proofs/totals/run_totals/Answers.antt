@@ -1,15 +1,8 @@
 use mathlib.Core.Path.{◌∙◌}
 use native.Mathlib.Omega.{arith}
-use Rattle.bits.proofs.Entries.{entries_length}
 use Rattle.lines.proofs.Chunks.{entries_first, entries_none}
 use Rattle.lines.proofs.Counting.{counting_next, counting_end}
 use Rattle.lines.proofs.totals.run_totals.Goals as goal
-
-pub counted-corners-requires : goal.counted-corners-requires
-counted-corners-requires c = omega (arith, entries_length c.args.run.now)
-
-pub counted-lines-requires : goal.counted-lines-requires
-counted-lines-requires c = omega (arith, entries_length c.args.run.now)
 
 pub loop-e-preserved : goal.loop-e-preserved
 loop-e-preserved c =
