@@ -9,6 +9,7 @@ use bits::{Words2, Words3, Words4};
 use block::{CornerNumber, PointNumber, get4};
 use tables::wide;
 
+#[tactic(auto, unfolding(crate::specs::Corner::point_at))]
 pub fn point_of(work: &[u32], t: CornerTables, c: CornerNumber) -> PointNumber
     requires { Laid t (length work.now) × (c.0 < t.count) }
     ensures { result.0 ≡ point_at work.now t c.0 }
@@ -28,6 +29,7 @@ struct Corner<'a> {
 
 impl<'a> Corner<'a> {
     // Its place in coordIndex. Not one with `number`: each says in its contract what its table holds.
+    #[tactic(auto, unfolding(crate::specs::Corner::place_at))]
     fn place(&self) -> usize
         ensures { result ≡ place_at self.now.work.now self.now.tables.now self.now.c.0 }
     {
@@ -35,12 +37,14 @@ impl<'a> Corner<'a> {
     }
 
     // The number of its face.
+    #[tactic(auto, unfolding(crate::specs::Corner::number_at))]
     fn number(&self) -> usize
         ensures { result ≡ number_at self.now.work.now self.now.tables.now self.now.c.0 }
     {
         wide(self.work[self.tables.numbers + self.c.0])
     }
 
+    #[tactic(auto, unfolding(crate::specs::Corner::texture_at))]
     fn texture(&self) -> Words2
         ensures { result ≡ texture_at self.now.work.now self.now.tables.now self.now.c.0 }
     {
@@ -52,6 +56,7 @@ impl<'a> Corner<'a> {
     }
 
     // Its normal as it goes into the key: supplied, or generated.
+    #[tactic(auto, unfolding(crate::specs::Corner::normal_at))]
     fn normal(&self, block: &'a [u8], coord: &'a [u8], a: Attributes, floats: &[f32]) -> Words3
         requires { 3 * self.now.tables.now.count ≤ length floats.now }
         ensures { result ≡ normal_at (record { block = block.now; coord = coord.now; floats = floats.now }) a self.now.work.now self.now.tables.now self.now.c.0 }
@@ -63,6 +68,7 @@ impl<'a> Corner<'a> {
         block::get(block, coord, s, self.place(), self.number(), none)
     }
 
+    #[tactic(auto, unfolding(crate::specs::Corner::colour_at))]
     fn colour(&self, block: &'a [u8], coord: &'a [u8], a: Attributes) -> Words4
         ensures { result ≡ colour_at (record { block = block.now; coord = coord.now; floats = [] }) a self.now.work.now self.now.tables.now self.now.c.0 }
     {

@@ -23,6 +23,7 @@ pub struct CornerTables {
 // The tables from the face numbers on stand one after another; those before are where a shape has put them. There is a
 // bucket for each three corners and two for each point: the words that are lent (FORMAT 4) have room for that many, however
 // many faces there are.
+#[tactic(auto, unfolding(crate::specs::Laid::tables_at))]
 pub fn corner_tables(
     count: usize,
     points: usize,

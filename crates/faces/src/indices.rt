@@ -36,6 +36,7 @@ fn put_plane(x: &Tables<'_>, f: Outline, floats: &mut [f32])
 }
 
 // The same where ears are clipped; of a fan there is no plane.
+#[tactic(auto, unfolding(crate::specs::Indices::corners_floats))]
 fn put_plane_where(x: &Tables<'_>, f: Outline, floats: &mut [f32])
     requires { Sound x.now.work.now x.now.plan.now × (f.a.0 + f.n ≤ x.now.plan.now.count) }
     ensures { floats.new ≡ corners_floats x.now.work.now x.now.plan.now f.ccw f.convex f.a.0 f.n floats.old }

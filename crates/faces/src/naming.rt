@@ -31,6 +31,7 @@ fn put_three(s: &mut [u32], k: usize, a: VertexNumber, b: VertexNumber, c: Verte
 }
 
 // One triangle; b and c are exchanged where ccw is off.
+#[tactic(auto, unfolding(crate::specs::Naming::numbered, mesh::specs::Vertices::wound))]
 fn name_tri(s: &mut [u32], k: usize, named: &[u32], ccw: bool)
     requires { k + 3 ≤ length s.old }
     ensures { s.new ≡ spliced s.old k (numbered ccw named.now

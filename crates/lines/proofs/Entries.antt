@@ -5,7 +5,7 @@ use Prim.Native.Nat.{ℕ, suc, ◌+◌, ◌≤◌, ◌<◌}
 use native.Mathlib.Nat.{add-zero, suc-add, add-suc}
 use native.Mathlib.Numerals.{add-one}
 use native.Mathlib.Omega.{arith}
-use lib.ListN.{length, get_or, set, drop, drop_of_length-le, length-set}
+use lib.ListN.{length, get_or, set, drop, length-set}
 use Rattle.bits.specs.Bits.{entries}
 use Rattle.block.specs.Runs.{Run, run_of, runs, sum_over}
 use Rattle.lists.specs.Lists.{map_n, join_n}
@@ -20,7 +20,6 @@ use Rattle.corners.specs.Corner.{point_at, place_at, number_at}
 use Rattle.lists.proofs.Splices.{table_miss}
 use Rattle.lines.specs.Uses.{LineUse, no_use, use_of, run_uses, line_uses, listed_at, listed, Listed}
 use Rattle.lists.specs.Parts.{Added}
-use Rattle.lists.proofs.Lists.{drop_next}
 use Rattle.lists.proofs.Putting.{Split, Way, Left, left_all, left_here, left_next, left_end}
 use Rattle.lines.proofs.Usage.{use_here, length_uses, uses_below}
 
@@ -44,35 +43,38 @@ module _ (t : CornerTables) where
 
 -- ---- the entries of a run
 
--- the first k entries es of the run at s, line `num`, are passed, since the next corner was c₀ and the words were w₀
-pub record RunListing (p num s : ℕ) (es : List ℕ) (t : CornerTables) (c₀ : ℕ) (w₀ : List ℕ) (k c : ℕ) (w : List ℕ) : Type 0 where
-  pub left : Left (listed t) (run_uses p num (run_of s es)) c₀ w₀ (somes (map_n (use_of p num) (s + k) (drop k es))) c w
+-- of the entries es of the run at s, line `num`, `rest` are left, the first of them at place s + k, since the next corner was c₀ and the words were w₀
+pub record RunListing (p num s : ℕ) (es : List ℕ) (t : CornerTables) (c₀ : ℕ) (w₀ : List ℕ) (k : ℕ) (rest : List ℕ) (c : ℕ) (w : List ℕ) : Type 0 where
+  pub passed : k + length rest ≡ length es
+  pub left : Left (listed t) (run_uses p num (run_of s es)) c₀ w₀ (somes (map_n (use_of p num) (s + k) rest)) c w
 
-pub run_start : {p num s : ℕ} {es : List ℕ} {t : CornerTables} {c : ℕ} {w : List ℕ} → RunListing p num s es t c w 0 c w
+pub run_start : {p num s : ℕ} {es : List ℕ} {t : CornerTables} {c : ℕ} {w : List ℕ} → RunListing p num s es t c w 0 es c w
 unfolding run_uses
-run_start {t = t} = record { left = rw add-zero (left_all (listed t)) }
+run_start {t = t} = record { passed = omega arith; left = rw add-zero (left_all (listed t)) }
 
-module _ {p num s : ℕ} {es : List ℕ} {t : CornerTables} {c₀ : ℕ} {w₀ : List ℕ} {k c : ℕ} {w : List ℕ} (L : RunListing p num s es t c₀ w₀ k c w) where
-  module _ (h : k < length es) where
-    next_entry : Split (somes (map_n (use_of p num) (s + k) (drop k es))) (these (use_of p num (s + k) (get_or es k 0))) (somes (map_n (use_of p num) (s + (k + 1)) (drop (k + 1) es)))
+module _ {p num s : ℕ} {es : List ℕ} {t : CornerTables} {c₀ : ℕ} {w₀ : List ℕ} {k : ℕ} {rest : List ℕ} {c : ℕ} {w : List ℕ} (L : RunListing p num s es t c₀ w₀ k rest c w) where
+  module _ {e : ℕ} {r : List ℕ} (d : rest ≡ e ∷ r) where
+    next_entry : Split (somes (map_n (use_of p num) (s + k) rest)) (these (use_of p num (s + k) e)) (somes (map_n (use_of p num) (s + (k + 1)) r))
     unfolding somes map_n
     next_entry =
-        let e : suc (s + k) ≡ s + (k + 1) = omega arith in
+        let q : suc (s + k) ≡ s + (k + 1) = omega arith in
         record {
-          is = ap (λ (l : List ℕ). somes (map_n (use_of p num) (s + k) l)) (drop_next 0 es k h)
-              ∙ ap (λ (n : ℕ). these (use_of p num (s + k) (get_or es k 0)) ++ somes (map_n (use_of p num) n (drop (k + 1) es))) e;
+          is = ap (λ (l : List ℕ). somes (map_n (use_of p num) (s + k) l)) d ∙ ap (λ (n : ℕ). these (use_of p num (s + k) e) ++ somes (map_n (use_of p num) n r)) q;
         }
 
+    pub entry_place : k + 1 ≤ length es
+    entry_place = omega (arith, L.passed, ap length d)
+
     -- an entry that names a point is one of the corners
-    pub entry_here : c₀ + length (run_uses p num (run_of s es)) ≤ t.count → get_or es k 0 < p → c < t.count
+    pub entry_here : c₀ + length (run_uses p num (run_of s es)) ≤ t.count → e < p → c < t.count
     entry_here q b = omega (arith, left_here L.left next_entry, ap length (use_here num (s + k) b))
 
-    pub entry_next : {c' : ℕ} {w' : List ℕ} → Added (listed t) (these (use_of p num (s + k) (get_or es k 0))) c w c' w' → RunListing p num s es t c₀ w₀ (k + 1) c' w'
-    entry_next A = record { left = left_next L.left next_entry (listing t) (length_listed t _ _ _) A }
+    pub entry_next : {c' : ℕ} {w' : List ℕ} → Added (listed t) (these (use_of p num (s + k) e)) c w c' w' → RunListing p num s es t c₀ w₀ (k + 1) r c' w'
+    entry_next A = record { passed = omega (arith, L.passed, ap length d); left = left_next L.left next_entry (listing t) (length_listed t _ _ _) A }
 
-  pub run_end : length es ≤ k → Added (listed t) (run_uses p num (run_of s es)) c₀ w₀ c w
+  pub run_end : rest ≡ [] → Added (listed t) (run_uses p num (run_of s es)) c₀ w₀ c w
   unfolding somes map_n
-  run_end h = left_end L.left (listing t) (ap (λ (l : List ℕ). somes (map_n (use_of p num) (s + k) l)) (drop_of_length-le es h))
+  run_end d = left_end L.left (listing t) (ap (λ (l : List ℕ). somes (map_n (use_of p num) (s + k) l)) d)
 
 -- ---- the runs
 

@@ -1,4 +1,5 @@
 -- The laws and proofs of the crate.
+mod Chunks
 mod Counting
 pub mod Usage
 mod Entries

@@ -10,7 +10,7 @@ use native.Mathlib.Numerals.{add-one}
 use native.Mathlib.Omega.{arith}
 use borrow.Author.Tests.{lt-ltb, le-ltb}
 use lib.Dec.{ltb}
-use lib.ListN.{length, get_or, drop, drop_of_length-le}
+use lib.ListN.{length, get_or}
 use Rattle.bits.specs.Bits.{entries}
 use Rattle.block.specs.Runs.{Run, runs, sum_over}
 use Rattle.block.proofs.Walks.{sum_first}
@@ -20,7 +20,6 @@ use Rattle.lists.proofs.Splices.{splice_start, splice_front}
 use Rattle.lines.specs.declared.pairing.Progress.{Progress}
 use Rattle.lists.specs.Parts.{spliced, Added}
 use Rattle.lines.specs.Steps.{last_of, vertex_at, corner_after, pairs, run_pairs, Stepped, RunPut, Put}
-use Rattle.lists.proofs.Lists.{drop_next}
 use Rattle.lists.proofs.Numbers.{carry}
 use Rattle.lines.proofs.Lengths.{length_lines}
 use Rattle.lists.proofs.Putting.{Split, splices, Left, left_here, left_spliced, left_end}
@@ -66,34 +65,34 @@ module _ (p c : ℕ) {e : ℕ} where
 
 -- ---- the entries of a run
 
--- the first k entries of the run es are passed, since the progress was f and the indices were o₀
-pub record Pairing (p : ℕ) (es numbers : List ℕ) (f : Progress) (o₀ : List ℕ) (k : ℕ) (w : Progress) (o : List ℕ) : Type 0 where
+-- of the entries es of a run, `rest` are left, since the progress was f and the indices were o₀
+pub record Pairing (p : ℕ) (es numbers : List ℕ) (f : Progress) (o₀ rest : List ℕ) (w : Progress) (o : List ℕ) : Type 0 where
   pub fits : IfSome w.last (λ v. v.0 < 2 ^ 32)
-  pub corners : w.corner.0 + named p (drop k es) ≡ f.corner.0 + named p es
-  pub left : Left spliced (pairs p numbers f.corner.0 None es) f.at o₀ (pairs p numbers w.corner.0 (last_of w.last) (drop k es)) w.at o
+  pub corners : w.corner.0 + named p rest ≡ f.corner.0 + named p es
+  pub left : Left spliced (pairs p numbers f.corner.0 None es) f.at o₀ (pairs p numbers w.corner.0 (last_of w.last) rest) w.at o
 
-module _ {p : ℕ} {es numbers : List ℕ} {f : Progress} {o₀ : List ℕ} {k : ℕ} {w : Progress} {o : List ℕ} (P : Pairing p es numbers f o₀ k w o) where
-  module _ (h : k < length es) where
-    next_line : Split (pairs p numbers w.corner.0 (last_of w.last) (drop k es))
-        (line (last_of w.last) (vertex_at p numbers w.corner.0 (get_or es k 0)))
-        (pairs p numbers (corner_after p w.corner.0 (get_or es k 0)) (vertex_at p numbers w.corner.0 (get_or es k 0)) (drop (k + 1) es))
+module _ {p : ℕ} {es numbers : List ℕ} {f : Progress} {o₀ rest : List ℕ} {w : Progress} {o : List ℕ} (P : Pairing p es numbers f o₀ rest w o) where
+  module _ {e : ℕ} {r : List ℕ} (d : rest ≡ e ∷ r) where
+    next_line : Split (pairs p numbers w.corner.0 (last_of w.last) rest)
+        (line (last_of w.last) (vertex_at p numbers w.corner.0 e))
+        (pairs p numbers (corner_after p w.corner.0 e) (vertex_at p numbers w.corner.0 e) r)
     unfolding pairs
-    next_line = record { is = ap (pairs p numbers w.corner.0 (last_of w.last)) (drop_next 0 es k h) }
+    next_line = record { is = ap (pairs p numbers w.corner.0 (last_of w.last)) d }
 
-    corners_next : corner_after p w.corner.0 (get_or es k 0) + named p (drop (k + 1) es) ≡ f.corner.0 + named p es
+    corners_next : corner_after p w.corner.0 e + named p r ≡ f.corner.0 + named p es
     unfolding corner_after named
     corners_next =
-        carry (ltb (get_or es k 0) p) w.corner.0 (named p (drop (k + 1) es)) ∙ ap (λ (l : List ℕ). w.corner.0 + named p l) (sym (drop_next 0 es k h)) ∙ P.corners
+        carry (ltb e p) w.corner.0 (named p r) ∙ ap (λ (l : List ℕ). w.corner.0 + named p l) (sym d) ∙ P.corners
 
     -- there is a number for an entry that names a point, and room for the line to it
-    pub pairing_here : f.corner.0 + named p es ≤ length numbers → get_or es k 0 < p → w.corner.0 < length numbers
+    pub pairing_here : f.corner.0 + named p es ≤ length numbers → e < p → w.corner.0 < length numbers
     pairing_here q l = omega (arith, corner_here p w.corner.0 l, corners_next)
 
     pub pairing_room : f.at + length (pairs p numbers f.corner.0 None es) ≤ length o₀
-        → w.at + length (line (last_of w.last) (vertex_at p numbers w.corner.0 (get_or es k 0))) ≤ length o
+        → w.at + length (line (last_of w.last) (vertex_at p numbers w.corner.0 e)) ≤ length o
     pairing_room q = omega (arith, left_here P.left next_line, P.left.len)
 
-    pub pairing_next : f.at + length (pairs p numbers f.corner.0 None es) ≤ length o₀ → {r : Progress} {o' : List ℕ} → Stepped p (get_or es k 0) numbers w o r o' → Pairing p es numbers f o₀ (k + 1) r o'
+    pub pairing_next : f.at + length (pairs p numbers f.corner.0 None es) ≤ length o₀ → {w' : Progress} {o' : List ℕ} → Stepped p e numbers w o w' o' → Pairing p es numbers f o₀ r w' o'
     pairing_next q S =
         record {
           fits = S.fits;
@@ -101,10 +100,9 @@ module _ {p : ℕ} {es numbers : List ℕ} {f : Progress} {o₀ : List ℕ} {k :
           left = rw (S.corner, S.last) (left_spliced P.left q next_line S.added);
         }
 
-  pub pairing_end : length es ≤ k → RunPut p es numbers f o₀ w o
+  pub pairing_end : rest ≡ [] → RunPut p es numbers f o₀ w o
   unfolding pairs named
-  pairing_end h =
-      let d : drop k es ≡ [] = drop_of_length-le es h in
+  pairing_end d =
       record {
         added = left_end P.left splices (ap (pairs p numbers w.corner.0 (last_of w.last)) d);
         corner = omega (arith, P.corners, ap (named p) d);

@@ -8,11 +8,12 @@ ghost use Rattle.corners.specs.Laid.{Laid};
 ghost use Rattle.lists.specs.Parts.{Added};
 ghost use Rattle.lines.specs.Uses.{use_of, run_uses, listed_at, listed, Listed};
 
-use block::{CornerNumber, PointNumber, point_at, runs_in};
+use block::{CornerNumber, PointNumber, runs_in};
 use corners::CornerTables;
 use tables::{narrow, wide};
 
 // Corner c: its point, its place in coordIndex, and the number of its line.
+#[tactic(auto, unfolding(crate::specs::Uses::listed_at))]
 fn list_corner(
     work: &mut [u32],
     t: CornerTables,
@@ -63,10 +64,10 @@ fn list_run(
         × (start + length run.now / 4 ≤ 2 ^ 32) × (line < 2 ^ 32) }
     ensures { Added (listed t) (run_uses points line (run_of start (entries run.now))) first.0 work.old result.0 work.new }
 {
-    let n = run.len() / 4;
     let mut c = first;
-    for j in 0..n {
-        c = list_entry(work, t, wide(points), c, point_at(run, j), start + j, line);
+    for (j, e) in run.chunks_exact(4).enumerate() {
+        let p = PointNumber(wide(bits::word(e, 0)));
+        c = list_entry(work, t, wide(points), c, p, start + j, line);
     }
     c
 }

@@ -7,7 +7,7 @@ ghost use Rattle.mesh.specs.Sizes as sizes;
 ghost use Rattle.lists.specs.Parts.{spliced, Added};
 ghost use Rattle.lines.specs.Steps.{last_of, vertex_at, pairs, run_pairs, Stepped, RunPut, Put};
 
-use block::{CornerNumber, PointNumber, VertexNumber, point_at, runs_in};
+use block::{CornerNumber, PointNumber, VertexNumber, runs_in};
 use lists::put_all;
 use tables::{narrow, wide};
 
@@ -75,15 +75,15 @@ fn put_run(
         × (from.at + length (pairs points numbers.now from.corner.0 None (entries run.now)) ≤ length indices.old) }
     ensures { RunPut points (entries run.now) numbers.now from indices.old result indices.new }
 {
-    let n = run.len() / 4;
     let corner = from.corner;
     let mut w = Progress {
         at: from.at,
         corner,
         last: None,
     };
-    for j in 0..n {
-        w = put_entry(point_at(run, j), wide(points), numbers, w, indices);
+    for e in run.chunks_exact(4) {
+        let p = PointNumber(wide(bits::word(e, 0)));
+        w = put_entry(p, wide(points), numbers, w, indices);
     }
     w
 }

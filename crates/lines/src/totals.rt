@@ -22,15 +22,15 @@ fn counted(n: usize, a: bool, b: bool) -> usize
 }
 
 // The entries of one run: those that name a point, and the lines between them.
+#[tactic(auto, using(bits::proofs::Entries::entries_length))]
 fn run_totals(run: &[u8], points: u32) -> LineTotals
     ensures { Counted points (entries run.now) result }
 {
-    let n = run.len() / 4;
     let mut corners: usize = 0;
     let mut lines: usize = 0;
     let mut after = false;
-    for j in 0..n {
-        let here = bits::entry(run, j) < points;
+    for e in run.chunks_exact(4) {
+        let here = bits::word(e, 0) < points;
         corners = counted(corners, true, here);
         lines = counted(lines, after, here);
         after = here;
@@ -39,6 +39,7 @@ fn run_totals(run: &[u8], points: u32) -> LineTotals
 }
 
 // Run by run: no line goes from one run to the next.
+#[tactic(auto, using(bits::proofs::Entries::entries_length))]
 pub fn line_totals(list: &[u8], points: u32) -> LineTotals
     ensures { (result.corners ≡ sum_over (sizes.named points) (runs (entries list.now)))
         × (result.lines ≡ sum_over (sizes.lines_after points false) (runs (entries list.now))) }

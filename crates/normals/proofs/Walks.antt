@@ -2,8 +2,10 @@
 use mathlib.Core.Path.{◌≡◌, refl, sym, ap, ◌∙◌}
 use mathlib.Core.List.{List, [], ◌∷◌, map}
 use Prim.Native.Nat.{ℕ, suc, ◌+◌, ◌-◌, ◌≤◌, ◌<◌}
+use native.Mathlib.Numerals.{add-one}
 use native.Mathlib.Omega.{arith}
-use lib.ListN.{length, get_or, take, drop, drop_of_length-le}
+use lib.ListN.{length, get_or, take, drop, length-drop, drop_of_length-le}
+use lib.Seq.{take_all, drop-drop, length-take-le}
 use lib.Ieee.{Float}
 use Rattle.math.specs.declared.vector.V3.{V3}
 use Rattle.std.specs.Prelude.{Option}
@@ -11,10 +13,10 @@ use Rattle.std.specs.Prelude.{Some}
 use Rattle.math.specs.Vector.{vadd, unit_of}
 use Rattle.mesh.specs.Normals.{Hit, sum_all, sum_near, near_by, near_step, or_else}
 use Rattle.tables.specs.declared.layout.Plan.{Plan}
+use Rattle.tables.specs.Layout.{most}
 use Rattle.tables.specs.Soups.{gather_in, owner_in}
 use Rattle.lists.specs.Loops.{All}
 use Rattle.lists.specs.Parts.{seg}
-use Rattle.lists.proofs.Keep.{part_seg}
 use Rattle.lists.proofs.Tabs.{length_tab, tab_at}
 use Rattle.lists.proofs.Lists.{drop_next, All_map, All_of_map, map_map}
 use Rattle.normals.specs.Group.{below, uses_from, gathers_in}
@@ -34,33 +36,42 @@ module _ {w : List ℕ} {t : Plan} (R : Ready w t) where
       let l = length_gathers in
       below_all t.spots (gathers_in w t) (λ j b. rw (tab_at (gather_in w t) t.count j 0 (omega arith)) (R.gathers j (omega arith))) ∙ l
 
-  pub last_end : (p : ℕ) → p < t.spots → t.spots ≤ p + 1 → t.nexts + t.count ≡ t.nexts + below (suc p) (gathers_in w t)
-  last_end p h k = let e : t.spots ≡ suc p = omega arith in ap (λ (n : ℕ). t.nexts + n) (sym all_below_lem ∙ ap (λ (n : ℕ). below n (gathers_in w t)) e)
+  pub all_before : (p : ℕ) → p ≤ t.spots → t.spots ≤ p → t.count ≡ below p (gathers_in w t)
+  all_before p h k = let e : t.spots ≡ p = omega arith in sym all_below_lem ∙ ap (λ (n : ℕ). below n (gathers_in w t)) e
 
-  -- the faces of number p stand from a to b
-  module _ (p a b : ℕ) (h : p < t.spots) (ea : a ≡ t.nexts + below p (gathers_in w t)) (eb : b ≡ t.nexts + below (suc p) (gathers_in w t)) where
-    pub ends_fit : (a ≤ b) × (b ≤ length w)
+  -- of all faces by number, those of number p stand from a to b
+  module _ (p a b : ℕ) (h : p < t.spots) (ea : a ≡ below p (gathers_in w t)) (eb : b ≡ below (p + 1) (gathers_in w t)) where
+    ends_at : b ≡ below (suc p) (gathers_in w t)
+    ends_at = eb ∙ ap (λ (n : ℕ). below n (gathers_in w t)) (add-one p)
+
+    abbrev pub rest : List ℕ
+    rest = take (length w - t.nexts) (drop t.nexts w)
+
+    pub ends_fit : (a ≤ b) × (b ≤ length rest) × (b ≤ most)
     ends_fit =
         let r = R.room in
         let n = below_next p (gathers_in w t) in
         let m = below_le (suc p) (gathers_in w t) in
         let l = length_gathers in
-        (omega arith, omega arith)
+        let e = ends_at in
+        let k : length rest ≡ length w - t.nexts = length-take-le (length w - t.nexts) (drop t.nexts w) (omega (arith, length-drop t.nexts w)) in
+        (omega arith, omega arith, omega arith)
 
-    faces_are : take (b - a) (drop a w) ≡ map (owner_in w t) (uses_from (gathers_in w t) p 0)
+    faces_are : take (b - a) (drop a rest) ≡ map (owner_in w t) (uses_from (gathers_in w t) p 0)
+    unfolding seg
     faces_are =
-        let G = gathers_in w t in
-        let d : b ≡ a + (below (suc p) G - below p G) = omega (arith, below_next p G) in
-        part_seg w a b (below (suc p) G - below p G) d ∙ ap (λ (k : ℕ). seg w k (below (suc p) G - below p G)) ea ∙ R.grouped.faces p h
+        let d = take_all (length w - t.nexts) (drop t.nexts w) (omega (arith, length-drop t.nexts w)) in
+        ap (λ (l : List ℕ). take (b - a) (drop a l)) d ∙ ap (take (b - a)) (drop-drop a t.nexts w)
+        ∙ (λ i. take (ends_at i - ea i) (drop (t.nexts + ea i) w)) ∙ R.grouped.faces p h
 
-    pub faces_low : All (λ (g : ℕ). g < t.faces) (take (b - a) (drop a w))
+    pub faces_low : All (λ (g : ℕ). g < t.faces) (take (b - a) (drop a rest))
     unfolding uses_from
     faces_low =
         let l = length_gathers in
         rw faces_are (All_of_map (λ (g : ℕ). g < t.faces) (owner_in w t) (uses_from (gathers_in w t) p 0)
         (All_map (λ c k. R.owned c (omega arith)) (uses_from (gathers_in w t) p 0) (uses_within p 0 (gathers_in w t))))
 
-    pub faces_hit : map (hit_of w t) (take (b - a) (drop a w)) ≡ hits_at w t p
+    pub faces_hit : map (hit_of w t) (take (b - a) (drop a rest)) ≡ hits_at w t p
     unfolding hits_from hit_in
     faces_hit = ap (map (hit_of w t)) faces_are ∙ map_map (hit_of w t) (owner_in w t) (uses_from (gathers_in w t) p 0)
 

@@ -18,8 +18,8 @@ use math::V3;
 impl<'a> Source<'a> {
     // The normal of corner c, whose sum has the unit vector s.
     fn put_normal(&self, bound: f32, floats: &mut [f32], c: CornerNumber, s: Option<V3>)
-        requires { (c.0 < self.now.plan.now.count) × (3 * self.now.plan.now.count ≤ length floats.old) × (s ≡ unit_of (corner_sum_in self.now.work.now self.now.plan.now (Bound bound) c.0)) }
-        ensures { (floats.new ≡ spliced floats.old (3 * c.0) (three (corner_normal_in self.now.work.now self.now.plan.now (Bound bound) c.0))) × (length floats.new ≡ length floats.old) }
+        requires { (c.0 < self.now.tables.plan.now.count) × (3 * self.now.tables.plan.now.count ≤ length floats.old) × (s ≡ unit_of (corner_sum_in self.now.tables.work.now self.now.tables.plan.now (Bound bound) c.0)) }
+        ensures { (floats.new ≡ spliced floats.old (3 * c.0) (three (corner_normal_in self.now.tables.work.now self.now.tables.plan.now (Bound bound) c.0))) × (length floats.new ≡ length floats.old) }
     {
         let own = self.owner_of(c);
         put3(floats, 3 * c.0, self.normal_by(own, s));
@@ -28,10 +28,10 @@ impl<'a> Source<'a> {
     // The normals of the first corners under the cosine rule, four at a time, since their roots are taken together; and how many they are.
     // Not one with `rows_by_fours`: a corner may take the sum of one before it, so a four is not one closure called four times.
     fn near_normals(&self, bound: f32, floats: &mut [f32]) -> usize
-        requires { Summed self.now.work.now self.now.plan.now (Bound bound) floats.old × (3 * self.now.plan.now.count ≤ length floats.old) }
-        ensures { Begun floats.old floats.new self.now.work.now self.now.plan.now (Bound bound) result }
+        requires { Summed self.now.tables.work.now self.now.tables.plan.now (Bound bound) floats.old × (3 * self.now.tables.plan.now.count ≤ length floats.old) }
+        ensures { Begun floats.old floats.new self.now.tables.work.now self.now.tables.plan.now (Bound bound) result }
     {
-        let fours = self.plan.count / 4;
+        let fours = self.tables.plan.count / 4;
         for q in 0..fours {
             let c = 4 * q;
             let i = CornerNumber(c);
@@ -58,8 +58,8 @@ impl<'a> Source<'a> {
 
     // The other rules take no root at a corner, and begin with none.
     fn first_normals(&self, rule: CreaseRule, floats: &mut [f32]) -> usize
-        requires { Summed self.now.work.now self.now.plan.now rule floats.old × (3 * self.now.plan.now.count ≤ length floats.old) }
-        ensures { Begun floats.old floats.new self.now.work.now self.now.plan.now rule result }
+        requires { Summed self.now.tables.work.now self.now.tables.plan.now rule floats.old × (3 * self.now.tables.plan.now.count ≤ length floats.old) }
+        ensures { Begun floats.old floats.new self.now.tables.work.now self.now.tables.plan.now rule result }
     {
         match rule {
             CreaseRule::Own | CreaseRule::Every => 0,
@@ -69,10 +69,10 @@ impl<'a> Source<'a> {
 
     // The normals from corner c on.
     fn normals_from(&self, rule: CreaseRule, floats: &mut [f32], c: usize)
-        requires { Summed self.now.work.now self.now.plan.now rule floats.old × (3 * self.now.plan.now.count ≤ length floats.old) × (c ≤ self.now.plan.now.count) }
-        ensures { Continued floats.old floats.new self.now.work.now self.now.plan.now rule c self.now.plan.now.count }
+        requires { Summed self.now.tables.work.now self.now.tables.plan.now rule floats.old × (3 * self.now.tables.plan.now.count ≤ length floats.old) × (c ≤ self.now.tables.plan.now.count) }
+        ensures { Continued floats.old floats.new self.now.tables.work.now self.now.tables.plan.now rule c self.now.tables.plan.now.count }
     {
-        for k in c..self.plan.count {
+        for k in c..self.tables.plan.count {
             let v = self.corner_normal(floats, CornerNumber(k), rule);
             put3(floats, 3 * k, v);
         }
@@ -80,8 +80,8 @@ impl<'a> Source<'a> {
 
     // The rows that stand behind them are kept.
     pub fn corner_normals(&self, rule: CreaseRule, floats: &mut [f32])
-        requires { Summed self.now.work.now self.now.plan.now rule floats.old × (3 * self.now.plan.now.count ≤ length floats.old) }
-        ensures { floats.new ≡ spread (tab (corner_normal_in self.now.work.now self.now.plan.now rule) self.now.plan.now.count 0) ++ drop (3 * self.now.plan.now.count) floats.old }
+        requires { Summed self.now.tables.work.now self.now.tables.plan.now rule floats.old × (3 * self.now.tables.plan.now.count ≤ length floats.old) }
+        ensures { floats.new ≡ spread (tab (corner_normal_in self.now.tables.work.now self.now.tables.plan.now rule) self.now.tables.plan.now.count 0) ++ drop (3 * self.now.tables.plan.now.count) floats.old }
     {
         let c = self.first_normals(rule, floats);
         self.normals_from(rule, floats, c);

@@ -10,13 +10,16 @@ use crate::vectors::store_unit;
 use block::{CreaseRule, PointNumber};
 use tables::{Plan, Tables};
 
-// The unit vector of the sum of the faces at it, for each number.
+// For each number, the unit vector of the sum of the facing normals of its faces.
 fn sum_points(work: &mut [u32], t: Plan)
     requires { Ready work.old t }
     ensures { Kept t.sums work.old work.new × SummedTo work.old work.new t t.spots }
 {
     for p in 0..t.spots {
-        let s = Source { work, plan: &t }.sum_all(PointNumber(p));
+        let x = Source {
+            tables: Tables { work, plan: &t },
+        };
+        let s = x.sum_all(PointNumber(p));
         store_unit(work, t.sums + 4 * p, math::normalize(s));
     }
 }

@@ -1,5 +1,5 @@
 // FORMAT 10.2, generate_normals: what a corner's normal is read from.
-ghost use Rattle.std.specs.Prelude.{◌≡◌, map, ℕ, suc, ◌+◌, ◌<◌};
+ghost use Rattle.std.specs.Prelude.{◌≡◌, map, ℕ, ◌<◌, ◌≤◌};
 ghost use Rattle.math.specs.Vector.{v3, zero_f, y_axis, unit_of};
 ghost use Rattle.lists.specs.Loops.{All};
 ghost use Rattle.mesh.specs.Normals.{sum_all, or_else};
@@ -11,70 +11,63 @@ ghost use Rattle.normals.specs.Written.{again};
 use crate::vectors::{load, load_unit};
 use block::{CornerNumber, PointNumber};
 use math::{V3, Y_AXIS};
-use tables::{Plan, Tables, wide};
+use tables::{Tables, wide};
 
 // The tables of a soup, once owners, rows and faces by number are made.
 #[derive(Clone, Copy)]
 pub struct Source<'a> {
-    pub work: &'a [u32],
-    pub plan: &'a Plan,
-    ghost ready: { Ready work.now plan.now },
+    pub tables: Tables<'a>,
+    ghost ready: { Ready tables.work.now tables.plan.now },
 }
 
 impl<'a> Source<'a> {
-    // Where the faces of number p start.
-    fn start_at(&self, p: PointNumber) -> usize
-        requires { p.0 < self.now.plan.now.spots }
-        ensures { result ≡ self.now.plan.now.nexts + below p.0 (gathers_in self.now.work.now self.now.plan.now) }
+    // How many faces stand before those of number p; before the number after the last, all of them.
+    fn before(&self, p: PointNumber) -> usize
+        requires { p.0 ≤ self.now.tables.plan.now.spots }
+        ensures { result ≡ below p.0 (gathers_in self.now.tables.work.now self.now.tables.plan.now) }
     {
-        let t = self.plan;
-        t.nexts + wide(self.work[t.heads + p.0])
-    }
-
-    // Where they end: those of the next number start there.
-    fn end_at(&self, p: PointNumber) -> usize
-        requires { p.0 < self.now.plan.now.spots }
-        ensures { result ≡ self.now.plan.now.nexts + below (suc p.0) (gathers_in self.now.work.now self.now.plan.now) }
-    {
-        let t = self.plan;
-        let next = p.0 + 1;
-        if next < t.spots {
-            return self.start_at(PointNumber(next));
+        let t = self.tables.plan;
+        if p.0 < t.spots {
+            return wide(self.tables.work[t.heads + p.0]);
         }
-        t.nexts + t.count
+        t.count
     }
 
     // The faces at number p, once for each use.
+    #[tactic(auto, using(crate::proofs::Walks::ends_fit))]
     pub fn faces_at(&self, p: PointNumber) -> &'a [u32]
-        requires { p.0 < self.now.plan.now.spots }
-        ensures low { All (λ (g : ℕ). g < self.now.plan.now.faces) result.now }
-        ensures hits { map (hit_of self.now.work.now self.now.plan.now) result.now ≡ hits_at self.now.work.now self.now.plan.now p.0 }
+        requires { p.0 < self.now.tables.plan.now.spots }
+        ensures low { All (λ (g : ℕ). g < self.now.tables.plan.now.faces) result.now }
+        ensures hits { map (hit_of self.now.tables.work.now self.now.tables.plan.now) result.now ≡ hits_at self.now.tables.work.now self.now.tables.plan.now p.0 }
     {
-        let from = self.start_at(p);
-        let to = self.end_at(p);
-        &self.work[from..to]
+        let faces = &self.tables.work[self.tables.plan.nexts..];
+        let from = self.before(p);
+        let to = self.before(PointNumber(p.0 + 1));
+        &faces[from..to]
     }
 
     // The facing normal of face g.
+    #[tactic(auto, unfolding(crate::specs::Rows::normal_in))]
     pub fn normal_of(&self, g: usize) -> V3
-        requires { g < self.now.plan.now.faces }
-        ensures { result ≡ normal_in self.now.work.now self.now.plan.now g }
+        requires { g < self.now.tables.plan.now.faces }
+        ensures { result ≡ normal_in self.now.tables.work.now self.now.tables.plan.now g }
     {
-        load(self.work, self.plan.rows + 7 * g)
+        load(self.tables.work, self.tables.plan.rows + 7 * g)
     }
 
     // Its unit vector.
+    #[tactic(auto, unfolding(crate::specs::Rows::unit_in))]
     pub fn unit_of(&self, g: usize) -> Option<V3>
-        requires { g < self.now.plan.now.faces }
-        ensures { result ≡ unit_of (normal_in self.now.work.now self.now.plan.now g) }
+        requires { g < self.now.tables.plan.now.faces }
+        ensures { result ≡ unit_of (normal_in self.now.tables.work.now self.now.tables.plan.now g) }
     {
-        load_unit(self.work, self.plan.rows + 7 * g + 3)
+        load_unit(self.tables.work, self.tables.plan.rows + 7 * g + 3)
     }
 
     // The facing normals of the faces at p, from (0, 0, 0), each once for each use.
     pub fn sum_all(&self, p: PointNumber) -> V3
-        requires { p.0 < self.now.plan.now.spots }
-        ensures { result ≡ sum_all (v3 zero_f zero_f zero_f) (hits_at self.now.work.now self.now.plan.now p.0) }
+        requires { p.0 < self.now.tables.plan.now.spots }
+        ensures { result ≡ sum_all (v3 zero_f zero_f zero_f) (hits_at self.now.tables.work.now self.now.tables.plan.now p.0) }
     {
         let faces = self.faces_at(p);
         let mut s = V3 {
@@ -90,40 +83,33 @@ impl<'a> Source<'a> {
 
     // The number that corner c is gathered by.
     pub fn gather_of(&self, c: CornerNumber) -> PointNumber
-        requires { c.0 < self.now.plan.now.count }
-        ensures { (result.0 ≡ gather_in self.now.work.now self.now.plan.now c.0) × (result.0 < self.now.plan.now.spots) }
+        requires { c.0 < self.now.tables.plan.now.count }
+        ensures { (result.0 ≡ gather_in self.now.tables.work.now self.now.tables.plan.now c.0) × (result.0 < self.now.tables.plan.now.spots) }
     {
-        let x = Tables {
-            work: self.work,
-            plan: self.plan,
-        };
-        x.gather_of(c)
+        self.tables.gather_of(c)
     }
 
     // Its face.
     pub fn owner_of(&self, c: CornerNumber) -> usize
-        requires { c.0 < self.now.plan.now.count }
-        ensures { (result ≡ owner_in self.now.work.now self.now.plan.now c.0) × (result < self.now.plan.now.faces) }
+        requires { c.0 < self.now.tables.plan.now.count }
+        ensures { (result ≡ owner_in self.now.tables.work.now self.now.tables.plan.now c.0) × (result < self.now.tables.plan.now.faces) }
     {
-        let x = Tables {
-            work: self.work,
-            plan: self.plan,
-        };
-        x.owner_of(c)
+        self.tables.owner_of(c)
     }
 
     // Whether two corners are of one face and gathered under one number.
+    #[tactic(auto, unfolding(crate::specs::Written::again))]
     pub fn is_again(&self, c: CornerNumber, d: CornerNumber) -> bool
-        requires { (c.0 < self.now.plan.now.count) × (d.0 < self.now.plan.now.count) }
-        ensures { result ≡ again self.now.work.now self.now.plan.now c.0 d.0 }
+        requires { (c.0 < self.now.tables.plan.now.count) × (d.0 < self.now.tables.plan.now.count) }
+        ensures { result ≡ again self.now.tables.work.now self.now.tables.plan.now c.0 d.0 }
     {
         self.gather_of(c).0 == self.gather_of(d).0 && self.owner_of(c) == self.owner_of(d)
     }
 
     // The normal of a corner of face own, whose sum has the unit vector s.
     pub fn normal_by(&self, own: usize, s: Option<V3>) -> V3
-        requires { own < self.now.plan.now.faces }
-        ensures { result ≡ or_else s (or_else (unit_of (normal_in self.now.work.now self.now.plan.now own)) y_axis) }
+        requires { own < self.now.tables.plan.now.faces }
+        ensures { result ≡ or_else s (or_else (unit_of (normal_in self.now.tables.work.now self.now.tables.plan.now own)) y_axis) }
     {
         s.unwrap_or(self.unit_of(own).unwrap_or(Y_AXIS))
     }

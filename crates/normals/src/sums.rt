@@ -34,18 +34,18 @@ pub struct Near<'a> {
     pub source: Source<'a>,
     pub floats: &'a [f32],
     pub bound: f32,
-    ghost mirrored: { Mirrored floats.now source.work.now source.plan.now source.plan.now.faces },
+    ghost mirrored: { Mirrored floats.now source.tables.work.now source.tables.plan.now source.tables.plan.now.faces },
 }
 
 impl<'a> Near<'a> {
     // Not one with `sum_all`: they share the walk alone, which is one line.
     // The normal of face own, and then those of the faces at p, once for each use, that are near to its unit vector u.
     pub fn sum_near(&self, p: PointNumber, own: usize, u: V3) -> V3
-        requires { (p.0 < self.now.source.plan.now.spots) × (own < self.now.source.plan.now.faces) }
-        ensures { result ≡ sum_near self.now.bound own u (normal_in self.now.source.work.now self.now.source.plan.now own)
-            (hits_at self.now.source.work.now self.now.source.plan.now p.0) }
+        requires { (p.0 < self.now.source.tables.plan.now.spots) × (own < self.now.source.tables.plan.now.faces) }
+        ensures { result ≡ sum_near self.now.bound own u (normal_in self.now.source.tables.work.now self.now.source.tables.plan.now own)
+            (hits_at self.now.source.tables.work.now self.now.source.tables.plan.now p.0) }
     {
-        let count = self.source.plan.count;
+        let count = self.source.tables.plan.count;
         let faces = self.source.faces_at(p);
         let mut s = get3(self.floats, 3 * count + 6 * own);
         for x in faces {
@@ -57,8 +57,8 @@ impl<'a> Near<'a> {
 
     // The sum at corner c.
     pub fn sum_at(&self, c: CornerNumber) -> V3
-        requires { c.0 < self.now.source.plan.now.count }
-        ensures { result ≡ corner_sum_in self.now.source.work.now self.now.source.plan.now (Bound self.now.bound) c.0 }
+        requires { c.0 < self.now.source.tables.plan.now.count }
+        ensures { result ≡ corner_sum_in self.now.source.tables.work.now self.now.source.tables.plan.now (Bound self.now.bound) c.0 }
     {
         let p = self.source.gather_of(c);
         let own = self.source.owner_of(c);
@@ -70,10 +70,10 @@ impl<'a> Near<'a> {
 
     // The same, where the sums at two corners are known, x at a and y at b: a face that uses a point again has the same sum there.
     pub fn sum_after(&self, c: CornerNumber, a: CornerNumber, x: V3, b: CornerNumber, y: V3) -> V3
-        requires { (c.0 < self.now.source.plan.now.count) × (a.0 < self.now.source.plan.now.count) × (b.0 < self.now.source.plan.now.count)
-            × (x ≡ corner_sum_in self.now.source.work.now self.now.source.plan.now (Bound self.now.bound) a.0)
-            × (y ≡ corner_sum_in self.now.source.work.now self.now.source.plan.now (Bound self.now.bound) b.0) }
-        ensures { result ≡ corner_sum_in self.now.source.work.now self.now.source.plan.now (Bound self.now.bound) c.0 }
+        requires { (c.0 < self.now.source.tables.plan.now.count) × (a.0 < self.now.source.tables.plan.now.count) × (b.0 < self.now.source.tables.plan.now.count)
+            × (x ≡ corner_sum_in self.now.source.tables.work.now self.now.source.tables.plan.now (Bound self.now.bound) a.0)
+            × (y ≡ corner_sum_in self.now.source.tables.work.now self.now.source.tables.plan.now (Bound self.now.bound) b.0) }
+        ensures { result ≡ corner_sum_in self.now.source.tables.work.now self.now.source.tables.plan.now (Bound self.now.bound) c.0 }
     {
         if self.source.is_again(c, a) {
             return x;
@@ -85,6 +85,7 @@ impl<'a> Near<'a> {
     }
 }
 
+// `Summed` stays a clause: floats are written between two corners, so a struct with it would be made anew for each.
 impl<'a> Source<'a> {
     // The unit vector at a corner of face own, whose own one is k, that is gathered under p. Only the cosine rule takes a root here: that of every face is made
     // once for each number.
@@ -96,18 +97,18 @@ impl<'a> Source<'a> {
         rule: CreaseRule,
         k: Option<V3>,
     ) -> Option<V3>
-        requires { Summed self.now.work.now self.now.plan.now rule floats.now × (p.0 < self.now.plan.now.spots)
-            × (own < self.now.plan.now.faces) × (k ≡ unit_of (normal_in self.now.work.now self.now.plan.now own)) }
-        ensures { result ≡ unit_of (crease_sum rule own (normal_in self.now.work.now self.now.plan.now own)
-            (hits_at self.now.work.now self.now.plan.now p.0)) }
+        requires { Summed self.now.tables.work.now self.now.tables.plan.now rule floats.now × (p.0 < self.now.tables.plan.now.spots)
+            × (own < self.now.tables.plan.now.faces) × (k ≡ unit_of (normal_in self.now.tables.work.now self.now.tables.plan.now own)) }
+        ensures { result ≡ unit_of (crease_sum rule own (normal_in self.now.tables.work.now self.now.tables.plan.now own)
+            (hits_at self.now.tables.work.now self.now.tables.plan.now p.0)) }
     {
         match rule {
             CreaseRule::Own => {
                 return k;
             }
             CreaseRule::Every => {
-                let t = self.plan;
-                return load_unit(self.work, t.sums + 4 * p.0);
+                let t = self.tables.plan;
+                return load_unit(self.tables.work, t.sums + 4 * p.0);
             }
             CreaseRule::Bound(bound) => {
                 let Some(u) = k else {
@@ -125,8 +126,8 @@ impl<'a> Source<'a> {
 
     // The normal of corner c.
     pub fn corner_normal(&self, floats: &[f32], c: CornerNumber, rule: CreaseRule) -> V3
-        requires { Summed self.now.work.now self.now.plan.now rule floats.now × (c.0 < self.now.plan.now.count) }
-        ensures { result ≡ corner_normal_in self.now.work.now self.now.plan.now rule c.0 }
+        requires { Summed self.now.tables.work.now self.now.tables.plan.now rule floats.now × (c.0 < self.now.tables.plan.now.count) }
+        ensures { result ≡ corner_normal_in self.now.tables.work.now self.now.tables.plan.now rule c.0 }
     {
         let p = self.gather_of(c);
         let own = self.owner_of(c);

@@ -7,7 +7,8 @@ ghost use Rattle.normals.specs.Written.{three};
 use lists::put_all;
 use math::V3;
 
-// Not one with `get3`, nor `store3` with `put3`: words hold the bits of a float, so it would take a trait with its laws for three lines.
+// Not one with `get3`: words hold the bits of a float, so one for both would take a trait, or a closure and what it computes, for three lines.
+#[tactic(auto, unfolding(crate::specs::Rows::at3))]
 pub fn load(work: &[u32], a: usize) -> V3
     requires { a + 3 ≤ length work.now }
     ensures { result ≡ at3 work.now a }
@@ -20,6 +21,7 @@ pub fn load(work: &[u32], a: usize) -> V3
 }
 
 // A flag word, since every pattern is a float.
+#[tactic(auto, unfolding(crate::specs::Rows::unit_at))]
 pub fn load_unit(work: &[u32], a: usize) -> Option<V3>
     requires { a + 4 ≤ length work.now }
     ensures { result ≡ unit_at work.now a }
@@ -30,6 +32,7 @@ pub fn load_unit(work: &[u32], a: usize) -> Option<V3>
     Some(load(work, a + 1))
 }
 
+// Not one with `put3`: here the bits of a float are put, and by what mesh puts them with; each is one line.
 pub fn store3(work: &mut [u32], a: usize, v: V3)
     requires { a + 3 ≤ length work.old }
     ensures { Kept a work.old work.new × (at3 work.new a ≡ v) }
@@ -62,6 +65,7 @@ pub fn put3(part: &mut [f32], a: usize, v: V3)
     put_all(part, a, &[v.x, v.y, v.z]);
 }
 
+#[tactic(auto, unfolding(crate::specs::Rows::vector))]
 pub fn get3(part: &[f32], a: usize) -> V3
     requires { a + 3 ≤ length part.now }
     ensures { result ≡ vector part.now a }

@@ -9,7 +9,7 @@ use crate::groups::group;
 use crate::points::share;
 use crate::source::Source;
 use block::CreaseRule;
-use tables::Plan;
+use tables::{Plan, Tables};
 
 // The owners, the rows and the faces by number.
 fn prepare(work: &mut [u32], t: Plan, ccw: bool)
@@ -29,5 +29,8 @@ pub fn generate(work: &mut [u32], t: Plan, ccw: bool, rule: CreaseRule, floats: 
 {
     prepare(work, t, ccw);
     share(work, t, rule, floats);
-    Source { work, plan: &t }.corner_normals(rule, floats);
+    let x = Source {
+        tables: Tables { work, plan: &t },
+    };
+    x.corner_normals(rule, floats);
 }

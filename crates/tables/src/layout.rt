@@ -27,6 +27,7 @@ pub struct Plan {
 }
 
 // The tables one after another, in the order in which they are written.
+#[tactic(auto, unfolding(crate::specs::Layout::plan_of))]
 pub fn plan_of(spots: usize, count: usize, faces: usize, ring: usize) -> Plan
     requires { (spots ≤ most) × (count ≤ most) × (faces ≤ most) }
     ensures { result ≡ plan_of spots count faces ring }

@@ -46,6 +46,7 @@ pub struct Tables<'a> {
 
 impl<'a> Tables<'a> {
     // The number that a corner is gathered by for normals (FORMAT 10.2).
+    #[tactic(auto, unfolding(crate::specs::Soups::gather_in, crate::specs::Soups::point_in))]
     pub fn gather_of(&self, c: CornerNumber) -> PointNumber
         requires { c.0 < self.now.plan.now.count }
         ensures { result.0 ≡ gather_in self.now.work.now self.now.plan.now c.0 }
@@ -55,6 +56,7 @@ impl<'a> Tables<'a> {
     }
 
     // At the number of faces, the number of corners.
+    #[tactic(auto, unfolding(crate::specs::Soups::start_in))]
     fn start_of(&self, face: usize) -> CornerNumber
         requires { face ≤ self.now.plan.now.faces }
         ensures { result.0 ≡ start_in self.now.work.now self.now.plan.now face }
@@ -73,6 +75,7 @@ impl<'a> Tables<'a> {
     }
 
     // The face of a corner, among the kept ones.
+    #[tactic(auto, unfolding(crate::specs::Soups::owner_in))]
     pub fn owner_of(&self, c: CornerNumber) -> usize
         requires { c.0 < self.now.plan.now.count }
         ensures { result ≡ owner_in self.now.work.now self.now.plan.now c.0 }

@@ -12,6 +12,7 @@ use block::{PointNumber, VertexNumber};
 use tables::narrow;
 
 // Vertex n is the last of the chain of a bucket.
+#[tactic(auto, unfolding(crate::specs::Adding::linked))]
 pub fn link(work: &mut [u32], t: Chains, n: VertexNumber, bucket: Bucket)
     requires { Laid t (length work.old) (n.0 + 1) × (bucket.0 < t.buckets) × (n.0 < most) }
     ensures { work.new ≡ linked t work.old n.0 bucket.0 }
@@ -85,6 +86,7 @@ pub fn vertex(
 }
 
 // How many vertices there are, once there were n and a corner's vertex got number r.
+#[tactic(auto, unfolding(crate::specs::Adding::count_after))]
 pub fn count_after(n: VertexNumber, r: VertexNumber) -> VertexNumber
     requires { n.0 < most }
     ensures { result.0 ≡ count_after n.0 r.0 }

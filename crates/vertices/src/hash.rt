@@ -20,6 +20,7 @@ fn word_where(key: &[u32], at: usize, n: usize, k: usize) -> usize
 }
 
 // Both halves of a sum together, and a product that carries what differs into the high bits.
+#[tactic(auto, unfolding(crate::specs::Hash::spread_of))]
 fn spread(sum: usize) -> usize
     ensures { (result ≡ spread_of sum) × (result < 2 ^ 32) }
 {
@@ -30,6 +31,7 @@ fn spread(sum: usize) -> usize
 impl<'a> CornerKey<'a> {
     // The words of a normal, each times its weight. No product waits for another.
     // Not one with the two below: each has a number of words and weights of its own.
+    #[tactic(auto, unfolding(crate::specs::Hash::normal_sum))]
     fn normal_sum(&self, n: usize) -> usize
         ensures { (result ≡ normal_sum (three (seg self.now.words.now 0 n))) × (result < 3 * 2 ^ 60) }
     {
@@ -39,6 +41,7 @@ impl<'a> CornerKey<'a> {
         x * 0xb52_97a5 + y * 0x85e_bca7 + z * 0xc2b_2ae3
     }
 
+    #[tactic(auto, unfolding(crate::specs::Hash::colour_sum))]
     fn colour_sum(&self, n: usize) -> usize
         ensures { (result ≡ colour_sum (four (seg self.now.words.now 3 n))) × (result < 4 * 2 ^ 60) }
     {
@@ -49,6 +52,7 @@ impl<'a> CornerKey<'a> {
         r * 0xd6e_8feb + g * 0xa13_6aaf + b * 0xe2d_0b4d + a * 0x8f1_bbcd
     }
 
+    #[tactic(auto, unfolding(crate::specs::Hash::texture_sum))]
     fn texture_sum(&self, n: usize) -> usize
         ensures { (result ≡ texture_sum (two (seg self.now.words.now 7 n))) × (result < 2 * 2 ^ 60) }
     {

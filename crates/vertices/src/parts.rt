@@ -21,7 +21,8 @@ pub fn same_row(key: &[u32], j: usize, l: &[u32], w: usize, i: usize) -> bool
     true
 }
 
-// The n words of src from j, into dst from at. Three, as positions and normals have, go one by one: a copy of any number is a call.
+// The n words of src from j, into dst from at. Three, as positions and normals have, go one by one: as a copy of n words
+// they take near twice as long (measured by themselves).
 pub fn put_words(dst: &mut [u32], at: usize, src: &[u32], j: usize, n: usize)
     requires { (at + n ≤ length dst.old) × (j + n ≤ length src.now) }
     ensures { dst.new ≡ sets dst.old at (seg src.now j n) }

@@ -1,19 +1,9 @@
-use mathlib.Core.Path.{ap}
 use mathlib.Core.Bool.{false}
 use native.Mathlib.Omega.{arith}
-use lib.ListN.{length}
 use Rattle.bits.proofs.Entries.{entries_length}
 use Rattle.block.proofs.Walks.{walks_on, sum_first, sum_end}
 use Rattle.mesh.specs.Sizes.{named, lines_after}
 use Rattle.lines.proofs.totals.line_totals.Goals as goal
-
-pub overflow_add-corners : goal.overflow_add-corners
-overflow_add-corners c =
-    let G = c.in-Some.ensures.steps in omega (arith, entries_length c.in-Some.run'.now, ap length c.loop-run.invariant.walk.list, G.part.within)
-
-pub overflow_add-lines : goal.overflow_add-lines
-overflow_add-lines c =
-    let G = c.in-Some.ensures.steps in omega (arith, entries_length c.in-Some.run'.now, ap length c.loop-run.invariant.walk.list, G.part.within)
 
 pub loop-run-preserved : goal.loop-run-preserved
 loop-run-preserved c =

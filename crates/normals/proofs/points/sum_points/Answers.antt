@@ -1,8 +1,8 @@
 use Rattle.normals.proofs.Summing.{ready_kept, sums_next}
 use Rattle.normals.proofs.points.sum_points.Goals as goal
 
-pub invariant_of-sum_all : goal.invariant_of-sum_all
-invariant_of-sum_all c = record { ready = ready_kept c.loop-p.invariant.0 c.requires }
+pub invariant_of-x-in-loop-p : goal.invariant_of-x-in-loop-p
+invariant_of-x-in-loop-p c = record { ready = ready_kept c.loop-p.invariant.0 c.requires }
 
 pub loop-p-preserved : goal.loop-p-preserved
 loop-p-preserved c =

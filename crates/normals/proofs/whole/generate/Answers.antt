@@ -5,8 +5,8 @@ use Rattle.normals.proofs.Soups.{generated_all}
 use Rattle.normals.proofs.Summing.{made_kept}
 use Rattle.normals.proofs.whole.generate.Goals as goal
 
-pub invariant_of-corner_normals : goal.invariant_of-corner_normals
-invariant_of-corner_normals c = record { ready = (made_kept c.prepare.ensures c.share.ensures.0).ready }
+pub invariant_of-x-2 : goal.invariant_of-x-2
+invariant_of-x-2 c = record { ready = (made_kept c.prepare.ensures c.share.ensures.0).ready }
 
 pub returns : goal.returns
 returns c =

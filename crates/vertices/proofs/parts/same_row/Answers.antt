@@ -1,10 +1,6 @@
-use native.Mathlib.Nat.{add-zero, sub-zero}
-use mathlib.Core.Path.{sym, ◌∙◌, refl}
+use mathlib.Core.Path.{sym, ◌∙◌}
 use Rattle.lists.proofs.Words.{same_next, same_differ, same_end}
 use Rattle.vertices.proofs.parts.same_row.Goals as goal
-
-pub loop-t-init : goal.loop-t-init
-loop-t-init c = rw (add-zero, sub-zero, add-zero) refl
 
 pub returns-then-key-j : goal.returns-then-key-j
 returns-then-key-j c =

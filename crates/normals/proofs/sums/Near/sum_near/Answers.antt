@@ -6,7 +6,7 @@ use Rattle.normals.proofs.sums.Near.sum_near.Goals as goal
 
 pub loop-x-preserved : goal.loop-x-preserved
 loop-x-preserved c =
-    let l = all_low c.args.self.now.source.plan.now.faces c.faces_at-faces.result.now c.faces_at-faces.ensures.low _ _ c.loop-x-test.true c.wide-g.ensures in
+    let l = all_low c.args.self.now.source.tables.plan.now.faces c.faces_at-faces.result.now c.faces_at-faces.ensures.low _ _ c.loop-x-test.true c.wide-g.ensures in
     left_step (sum_near _ _ _) _ _ _ c.loop-x.invariant c.loop-x-test.true (near_one_lem _ _ _ _ _ _ c.wide-g.ensures _ _ _ _ _ c.args.self.now.source.ready l (c.args.self.now.mirrored.unit _ l) (c.args.self.now.mirrored.normal _ l) c.near_step-s.ensures)
 
 pub returns : goal.returns

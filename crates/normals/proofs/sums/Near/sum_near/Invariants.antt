@@ -3,4 +3,4 @@ use Rattle.normals.proofs.Walks.{Left}
 use Rattle.normals.proofs.sums.Near.sum_near.Given as goal
 
 abbrev pub invariant-loop-x : goal.invariant-loop-x
-invariant-loop-x l = Left (sum_near l.self.bound l.own l.u) l.self.source.work.now l.self.source.plan.now l.initial.s l.faces l.s l.x-index
+invariant-loop-x l = Left (sum_near l.self.bound l.own l.u) l.self.source.tables.work.now l.self.source.tables.plan.now l.initial.s l.faces l.s l.x-index
