@@ -8,6 +8,7 @@ use lists::put_all;
 use math::V3;
 
 // Not one with `get3`: words hold the bits of a float, so one for both would take a trait, or a closure and what it computes, for three lines.
+// Nor with `point_at` of paths, which reads by a point's number: a function under both would be as long as either, and one more to promise.
 #[tactic(auto, unfolding(crate::specs::Rows::at3))]
 pub fn load(work: &[u32], a: usize) -> V3
     requires { a + 3 ≤ length work.now }
