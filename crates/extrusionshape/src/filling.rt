@@ -43,16 +43,8 @@ pub fn put_tables(
 {
     x.put_points(work, t.points);
     list_faces(x.header, cap, work, t);
-    let rule = s.crease;
-    let attributes = shared.attributes;
-    prepare(
-        work,
-        t,
-        attributes.normals.is_some(),
-        shared.ccw,
-        rule,
-        floats,
-    );
+    let supplied = shared.attributes.normals.is_some();
+    prepare(work, t, supplied, shared.ccw, s.crease, floats);
     arcs_where(x, t, floats);
 }
 

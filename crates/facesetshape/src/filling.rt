@@ -31,16 +31,8 @@ pub fn put_tables(b: &SetBlock<'_>, shared: Shared, t: Plan, work: &mut [u32], f
     let list = list_part(source.block, h, 0);
     put_points(list, work, t.points, 3 * t.spots);
     list_faces(source.coord, counts[0], work, t);
-    let rule = s.crease;
-    let attributes = shared.attributes;
-    prepare(
-        work,
-        t,
-        attributes.normals.is_some(),
-        shared.ccw,
-        rule,
-        floats,
-    );
+    let supplied = shared.attributes.normals.is_some();
+    prepare(work, t, supplied, shared.ccw, s.crease, floats);
 }
 
 // FORMAT 7.4: how the points in the tables fit.

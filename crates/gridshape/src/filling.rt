@@ -46,16 +46,8 @@ pub fn put_tables(
 {
     g.put_points(s, work, t.points);
     g.list_faces(work, t);
-    let rule = s.crease;
-    let attributes = shared.attributes;
-    prepare(
-        work,
-        t,
-        attributes.normals.is_some(),
-        shared.ccw,
-        rule,
-        floats,
-    );
+    let supplied = shared.attributes.normals.is_some();
+    prepare(work, t, supplied, shared.ccw, s.crease, floats);
 }
 
 // The table of texture, where texture is made.

@@ -37,14 +37,6 @@ pub fn put_tables(
     let list = list_part(source.block, h, 0);
     put_points(list, work, t.points, 3 * t.spots);
     list_primitives(source.coord, counts[0], g, work, t);
-    let rule = s.crease;
-    let attributes = shared.attributes;
-    prepare(
-        work,
-        t,
-        attributes.normals.is_some(),
-        shared.ccw,
-        rule,
-        floats,
-    );
+    let supplied = shared.attributes.normals.is_some();
+    prepare(work, t, supplied, shared.ccw, s.crease, floats);
 }

@@ -9,6 +9,6 @@ prepare-requires c = (listed_sound c.list_faces.ensures.1, c.requires.2)
 
 pub returns : goal.returns
 returns c = (
-  tabled c.requires.0.room (points_there _ c.args.x.now.given c.requires.0 c.put_points.ensures) c.list_faces.ensures.0 c.list_faces.ensures.1 (prepared_front (rw c.is_some.ensures at c.prepare.ensures) c.arcs_where.ensures.1) (c.arcs_where.auto.floats ∙ c.prepare.auto.floats),
+  tabled c.requires.0.room (points_there _ c.args.x.now.given c.requires.0 c.put_points.ensures) c.list_faces.ensures.0 c.list_faces.ensures.1 (prepared_front (rw c.is_some-supplied.ensures at c.prepare.ensures) c.arcs_where.ensures.1) (c.arcs_where.auto.floats ∙ c.prepare.auto.floats),
   c.arcs_where.ensures.0,
 )

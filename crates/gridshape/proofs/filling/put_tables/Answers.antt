@@ -8,4 +8,4 @@ prepare-requires c = (listed_sound c.list_faces.ensures.1, c.requires.2)
 
 pub returns : goal.returns
 returns c =
-    tabled c.requires.0.room (points_there _ _ _ _ c.requires.0 c.put_points.ensures) c.list_faces.ensures.0 c.list_faces.ensures.1 (rw c.is_some.ensures at c.prepare.ensures) c.prepare.auto.floats
+    tabled c.requires.0.room (points_there _ _ _ _ c.requires.0 c.put_points.ensures) c.list_faces.ensures.0 c.list_faces.ensures.1 (rw c.is_some-supplied.ensures at c.prepare.ensures) c.prepare.auto.floats
