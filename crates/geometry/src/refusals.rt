@@ -10,6 +10,7 @@ use block::{Header, Refusal};
 use sizes::Sizes;
 
 // Row 8. One slice after another: in one chain of || (tried) each goal of the proof holds every way to come to it.
+#[tactic(auto, unfolding(crate::specs::Answer::is_short))]
 fn is_short(z: Sizes, l: Lengths) -> bool
     requires { (z.points ≤ most) × (z.corners ≤ most) }
     ensures { result ≡ is_short (record { points = z.points; corners = z.corners; indices = z.indices }) l }
