@@ -5,7 +5,7 @@ ghost use Rattle.text.specs.Digits.{digit_byte, digits};
 
 use crate::writer::Writer;
 
-// The character of a digit.
+// The character of a digit. By hand: of the library's formatting it is known which bytes it writes to a `String` alone, and nothing is allocated here.
 fn digit_byte(d: usize) -> u8
     requires { d < 16 }
     ensures { result ≡ digit_byte d }
