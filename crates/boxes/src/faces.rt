@@ -3,6 +3,7 @@ ghost use Rattle.std.specs.Prelude.{◌≡◌, ◌<◌};
 ghost use Rattle.boxes.specs.Box.{face, face_at};
 
 use math::{V3, X_AXIS, Y_AXIS, Z_AXIS};
+use parts::MINUS_Y;
 
 // The outward normal, right and up.
 #[derive(Clone, Copy)]
@@ -15,12 +16,6 @@ pub struct BoxFace {
 const MINUS_X: V3 = V3 {
     x: -1.0,
     y: 0.0,
-    z: 0.0,
-};
-
-const MINUS_Y: V3 = V3 {
-    x: 0.0,
-    y: -1.0,
     z: 0.0,
 };
 

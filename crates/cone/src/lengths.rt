@@ -26,10 +26,8 @@ pub struct Lengths {
 fn first_before(b: u32) -> u32
     ensures { result < 2 ^ 31 }
 {
-    if 0 < b {
-        if b < 0x7f80_0000 {
-            return b - 1;
-        }
+    if 0 < b && b < 0x7f80_0000 {
+        return b - 1;
     }
     0
 }
@@ -46,7 +44,7 @@ pub fn lengths_near(k: Round) -> Lengths {
     Lengths { first, roots }
 }
 
-// Whether the root of the number with the bits w is at hand.
+// Whether the root of the number with the bits w is at hand. Not an Option of the root: `scaled` asks this of three numbers before it looks up any.
 pub fn is_known(k: Lengths, w: u32) -> bool
     ensures { result ≡ true → (k.first ≤ w) × (w < k.first + 4) }
 {

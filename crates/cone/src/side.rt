@@ -7,7 +7,7 @@ ghost use Rattle.cone.specs.Cone.{cone_normal, cone_foot, cone_apex, cone_verts,
 
 use crate::lengths::{Lengths, is_known, known_unit, lengths_near};
 use block::Pair;
-use math::V3;
+use math::{V3, Y_AXIS};
 use parts::{Builder, Round, Vert, put_words, ring_at, share};
 use tables::narrow;
 
@@ -23,16 +23,6 @@ fn cone_slope(pairs: &[f32], k: Round, p: usize) -> V3
         y: k.r,
         z: q.z * k.height,
     }
-}
-
-fn or_up(u: Option<V3>) -> V3
-    ensures { result ≡ or_else u y_axis }
-{
-    u.unwrap_or(V3 {
-        x: 0.0,
-        y: 1.0,
-        z: 0.0,
-    })
 }
 
 // The normals of a slice: at its two places of the foot, and at the apex.
@@ -54,9 +44,9 @@ fn three_normals(a: V3, b: V3, c: V3) -> SliceNormals
     let ub = k.b;
     let uc = k.c;
     SliceNormals {
-        from: or_up(ua),
-        to: or_up(ub),
-        apex: or_up(uc),
+        from: ua.unwrap_or(Y_AXIS),
+        to: ub.unwrap_or(Y_AXIS),
+        apex: uc.unwrap_or(Y_AXIS),
     }
 }
 
@@ -69,16 +59,12 @@ fn scaled(known: Lengths, a: V3, b: V3, c: V3) -> SliceNormals
     let x = math::bits_of(math::dot(a, a));
     let y = math::bits_of(math::dot(b, b));
     let z = math::bits_of(math::dot(c, c));
-    if is_known(known, x) {
-        if is_known(known, y) {
-            if is_known(known, z) {
-                return SliceNormals {
-                    from: or_up(known_unit(known, a, x)),
-                    to: or_up(known_unit(known, b, y)),
-                    apex: or_up(known_unit(known, c, z)),
-                };
-            }
-        }
+    if is_known(known, x) && is_known(known, y) && is_known(known, z) {
+        return SliceNormals {
+            from: known_unit(known, a, x).unwrap_or(Y_AXIS),
+            to: known_unit(known, b, y).unwrap_or(Y_AXIS),
+            apex: known_unit(known, c, z).unwrap_or(Y_AXIS),
+        };
     }
     three_normals(a, b, c)
 }

@@ -7,6 +7,7 @@ use crate::answers::answered;
 use crate::context::is_on;
 
 // The mesh of a PointSet, into the lent slices, and 0; or the number of the refusal, and every lent element as it was.
+// The flags and the slices one by one, as C hands them.
 #[unsafe(no_mangle)]
 pub extern "C" fn sitemesh_point_set(
     points: &[u32],

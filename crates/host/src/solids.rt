@@ -14,6 +14,7 @@ use crate::context::{ctx_of, is_on};
 use math::V3;
 
 // The mesh of a Box of a size, into the lent slices, and 0; or the number of the refusal, and every lent element as it was.
+// Here and below: the numbers and the slices one by one, as C hands them.
 #[unsafe(no_mangle)]
 pub extern "C" fn sitemesh_box(
     x: f32,

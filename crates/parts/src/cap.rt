@@ -13,7 +13,8 @@ use math::{V3, Y_AXIS};
 use tables::narrow;
 
 // Height, radius and slices, top or bottom; the numbers of its first vertex and of its first pair. `top` is a bool, as FORMAT has it:
-// three functions choose a value by it, and an enum of two would say no more.
+// three functions choose a value by it, and an enum of two would say no more. Its bounds (`Numbered`) are clauses, not facts of the type:
+// the definition `cap_at` makes a Cap of any numbers.
 #[derive(Clone, Copy)]
 pub struct Cap {
     pub y: f32,
@@ -24,17 +25,20 @@ pub struct Cap {
     pub pair: usize,
 }
 
+// Downwards.
+pub const MINUS_Y: V3 = V3 {
+    x: 0.0,
+    y: -1.0,
+    z: 0.0,
+};
+
 fn cap_normal(top: bool) -> V3
     ensures { result ≡ cap_normal top }
 {
     if top {
         return Y_AXIS;
     }
-    V3 {
-        x: 0.0,
-        y: -1.0,
-        z: 0.0,
-    }
+    MINUS_Y
 }
 
 // t grows towards -Z on top, towards +Z on the bottom.

@@ -11,7 +11,7 @@ mod turns;
 mod vert;
 
 pub use builder::Builder;
-pub use cap::{Cap, cap_sizes};
+pub use cap::{Cap, MINUS_Y, cap_sizes};
 pub use marks::{Marks, marks_of};
 pub use ring::{Ring, cosine_at, float_at, ring_at, share, sine_at};
 pub use round::{Round, round_of};

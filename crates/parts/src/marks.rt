@@ -20,8 +20,10 @@ pub fn marks_of(side: Option<PartSizes>, n: usize, top: bool, bottom: bool) -> M
     ensures { result ≡ marks_of (unwrap_or side no_sizes) n top bottom }
 {
     let a = side.unwrap_or(NO_PART);
-    let b = sum_sizes(a, top.then_some(cap_sizes(n)).unwrap_or(NO_PART));
-    let all = sum_sizes(b, bottom.then_some(cap_sizes(n)).unwrap_or(NO_PART));
+    let upper = if top { cap_sizes(n) } else { NO_PART };
+    let lower = if bottom { cap_sizes(n) } else { NO_PART };
+    let b = sum_sizes(a, upper);
+    let all = sum_sizes(b, lower);
     Marks {
         top: a,
         bottom: b,

@@ -5,7 +5,7 @@ ghost use Rattle.parts.specs.Sizes.{dim_of, held_to};
 
 use crate::sizes::{dim, held};
 
-// The radius, the height and the slices.
+// The radius, the height and the slices, of the node. The pairs that are lent go beside it: a cap reads them with a Cap and not with this.
 #[derive(Clone, Copy)]
 pub struct Round {
     pub r: f32,

@@ -34,7 +34,8 @@ pub fn dim(v: f32, d: f32) -> f32
     d
 }
 
-// u32::clamp to the least number and 1,024. Not clamp itself, which asks that the least is at most 1,024: this is called for any.
+// u32::clamp to the least number and 1,024. Not clamp itself, which asks that the least is at most 1,024:
+// a public function may not ask for more than it did, and this asks nothing.
 #[tactic(auto, unfolding(crate::specs::Sizes::held_to))]
 pub fn held(n: u32, least: u32) -> usize
     ensures { result ≡ held_to n least }

@@ -12,7 +12,7 @@ use tables::{narrow, put_each};
 
 const ONE: u32 = 0x3f80_0000;
 
-// The first n words.
+// The first n words. Kept beside the library's `copy_from_slice`, as its contract says once what that leaves of the other words.
 pub fn copy_words(from: &[u32], to: &mut [u32], n: usize)
     requires { (n ≤ length from.now) × (n ≤ length to.old) }
     ensures { to.new ≡ spliced to.old 0 (take n from.now) }

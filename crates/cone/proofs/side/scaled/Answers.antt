@@ -1,9 +1,6 @@
-use Rattle.math.specs.declared.vector.V3.{V3}
 use mathlib.Core.Path.{ap, ◌∙◌}
 use lib.Ieee.{binary32, to_bits}
-use Rattle.std.specs.Prelude.{Option}
-use Rattle.math.specs.Vector.{y_axis}
-use Rattle.mesh.specs.Normals.{or_else}
+use Rattle.cone.proofs.Scaling.{or_axis}
 use Rattle.cone.proofs.side.scaled.Goals as goal
 
 pub known_unit-requires : goal.known_unit-requires
@@ -19,4 +16,5 @@ known_unit-requires-then-is_known-3-2 c =
     ((c.is_known-then-is_known-2.ensures c.if-is_known-3.true).0, (c.is_known-then-is_known-2.ensures c.if-is_known-3.true).1, c.bits_of-z.ensures ∙ ap (to_bits binary32) c.dot-3.ensures)
 
 pub returns-then-is_known-3 : goal.returns-then-is_known-3
-returns-then-is_known-3 c = (c.or_up.ensures ∙ ap (λ (u : (Option V3)). or_else u y_axis) c.known_unit.ensures, c.or_up-then-is_known-3.ensures ∙ ap (λ (u : (Option V3)). or_else u y_axis) c.known_unit-then-is_known-3.ensures, c.or_up-then-is_known-3-2.ensures ∙ ap (λ (u : (Option V3)). or_else u y_axis) c.known_unit-then-is_known-3-2.ensures)
+returns-then-is_known-3 c =
+    (or_axis c.unwrap_or.ensures c.known_unit.ensures, or_axis c.unwrap_or-then-is_known-3.ensures c.known_unit-then-is_known-3.ensures, or_axis c.unwrap_or-then-is_known-3-2.ensures c.known_unit-then-is_known-3-2.ensures)

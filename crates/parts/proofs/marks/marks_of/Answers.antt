@@ -1,18 +1,29 @@
+use mathlib.Core.Path.{◌≡◌, sym, subst, ◌∙◌}
 use native.Mathlib.Omega.{arith}
-use Rattle.parts.proofs.Parting.{where_small, some_small, cap_small, sum_small, sum_low, sizes_there}
+use Rattle.parts.specs.Cap.{cap_sizes}
+use Rattle.parts.specs.Sizes.{sizes_where, Small}
 use Rattle.parts.specs.Round.{marks_of}
+use Rattle.parts.proofs.Parting.{where_small, some_small, cap_small, sum_small, sum_low}
 use Rattle.parts.proofs.marks.marks_of.Goals as goal
+use Rattle.parts.proofs.marks.marks_of.Goals.{then-top, else-top, then-bottom, else-bottom}
 
 pub sum_sizes-b-requires : goal.sum_sizes-b-requires
+unfolding sizes_where
 sum_sizes-b-requires c =
-    sum_low 8192 8192 (rw c.unwrap_or-a.ensures (some_small 8192 _ c.requires.0)) (rw (sizes_there _ _ c.then_some.ensures c.unwrap_or.ensures, c.cap_sizes.ensures) (where_small 8192 _ _ (cap_small _ c.requires.1))) (omega arith) (omega arith)
+    let T : c.if-top.upper ≡ sizes_where c.args.top (cap_sizes c.args.n) = elim c.if-top.branch [ then-top w ↦ rw w.if-top.true (w.upper-is ∙ w.cap_sizes-upper.ensures) | else-top w ↦ rw w.if-top.false w.upper-is ] in
+    sum_low 8192 8192 (rw c.unwrap_or-a.ensures (some_small 8192 _ c.requires.0)) (subst (Small 8192) (sym T) (where_small 8192 _ _ (cap_small _ c.requires.1))) (omega arith) (omega arith)
 
 pub sum_sizes-all-requires : goal.sum_sizes-all-requires
+unfolding sizes_where
 sum_sizes-all-requires c =
-    sum_low 16384 8192 (rw c.sum_sizes-b.ensures (sum_small 8192 8192 _ _ (rw c.unwrap_or-a.ensures (some_small 8192 _ c.requires.0)) (rw (sizes_there _ _ c.then_some.ensures c.unwrap_or.ensures, c.cap_sizes.ensures) (where_small 8192 _ _ (cap_small _ c.requires.1)))))
-    (rw (sizes_there _ _ c.then_some-2.ensures c.unwrap_or-2.ensures, c.cap_sizes-2.ensures) (where_small 8192 _ _ (cap_small _ c.requires.1))) (omega arith) (omega arith)
+    let T : c.if-top.upper ≡ sizes_where c.args.top (cap_sizes c.args.n) = elim c.if-top.branch [ then-top w ↦ rw w.if-top.true (w.upper-is ∙ w.cap_sizes-upper.ensures) | else-top w ↦ rw w.if-top.false w.upper-is ] in
+    let B : c.if-bottom.lower ≡ sizes_where c.args.bottom (cap_sizes c.args.n) = elim c.if-bottom.branch [ then-bottom w ↦ rw w.if-bottom.true (w.lower-is ∙ w.cap_sizes-lower.ensures) | else-bottom w ↦ rw w.if-bottom.false w.lower-is ] in
+    sum_low 16384 8192 (rw c.sum_sizes-b.ensures (sum_small 8192 8192 _ _ (rw c.unwrap_or-a.ensures (some_small 8192 _ c.requires.0)) (subst (Small 8192) (sym T) (where_small 8192 _ _ (cap_small _ c.requires.1)))))
+    (rw B (where_small 8192 _ _ (cap_small _ c.requires.1))) (omega arith) (omega arith)
 
 pub returns : goal.returns
-unfolding marks_of
+unfolding marks_of sizes_where
 returns c =
-    rw (c.sum_sizes-all.ensures, c.sum_sizes-b.ensures, c.unwrap_or-a.ensures, sizes_there _ _ c.then_some.ensures c.unwrap_or.ensures, sizes_there _ _ c.then_some-2.ensures c.unwrap_or-2.ensures, c.cap_sizes.ensures, c.cap_sizes-2.ensures)
+    let T : c.if-top.upper ≡ sizes_where c.args.top (cap_sizes c.args.n) = elim c.if-top.branch [ then-top w ↦ rw w.if-top.true (w.upper-is ∙ w.cap_sizes-upper.ensures) | else-top w ↦ rw w.if-top.false w.upper-is ] in
+    let B : c.if-bottom.lower ≡ sizes_where c.args.bottom (cap_sizes c.args.n) = elim c.if-bottom.branch [ then-bottom w ↦ rw w.if-bottom.true (w.lower-is ∙ w.cap_sizes-lower.ensures) | else-bottom w ↦ rw w.if-bottom.false w.lower-is ] in
+    rw (c.sum_sizes-all.ensures, c.sum_sizes-b.ensures, c.unwrap_or-a.ensures, T, B)
