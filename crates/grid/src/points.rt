@@ -48,7 +48,7 @@ impl<'a> GridBlock<'a> {
     {
         let n = self.x_dimension() * self.z_dimension();
         let heights = list_part(self.block, self.header, 3);
-        // Point by point: `put_each` takes one word at a time, so that each point would be made three times; and there is no list of all words for `put_all`.
+        // Not parts' `put_words`, a row a point: grid does not stand on parts, which is of the solids. `put_each` would make each point three times.
         for k in 0..n {
             put3(work, at + 3 * k, self.grid_point(heights, s, k));
         }
