@@ -27,7 +27,14 @@ impl<'a> Source<'a> {
         // As in extrusion: the flag is the header's and the transform the settings', so that a function of both would be no shorter to call.
         let x = h.transformed.then_some(s.transform);
         if h.texture_points {
-            let listed = block::get(self.block, self.coord, texture_stream(h), place, 0, NO_TEXTURE);
+            let listed = block::get(
+                self.block,
+                self.coord,
+                texture_stream(h),
+                place,
+                0,
+                NO_TEXTURE,
+            );
             return uv(x, listed);
         }
         if h.need_uvs {
