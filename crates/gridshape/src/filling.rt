@@ -30,6 +30,7 @@ pub fn plan_grid(g: &GridBlock<'_>) -> Plan
 
 // All tables but that of texture.
 // Not one with the other shapes: what puts the points and the faces is this kind's own, and the contract needs what each of these calls asks and gives.
+// The room in the floats stays a clause, as in soups: they are lent to be written.
 pub fn put_tables(
     g: &GridBlock<'_>,
     s: Settings,
