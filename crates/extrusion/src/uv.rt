@@ -71,6 +71,7 @@ impl<'a> Textured<'a> {
         let h = self.source.header;
         if h.need_uvs {
             let w = self.plain_texture(number, point);
+            // As in texture: the flag is the header's and the transform the settings', so that a function of both would be no shorter to call.
             return block::uv(h.transformed.then_some(s.transform), w);
         }
         Words2 { s: 0, t: 0 }

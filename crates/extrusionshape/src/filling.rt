@@ -26,6 +26,7 @@ fn arcs_where(x: &Extruded<'_>, t: Plan, floats: &mut [f32])
 
 // All tables but that of texture. The floats behind the normals are free once these are made.
 // Not one with the other shapes: what puts the points and the faces is this kind's own, and the contract needs what each of these calls asks and gives.
+// The room in the floats stays a clause, as in soups: they are lent to be written.
 pub fn put_tables(
     x: &Extruded<'_>,
     s: Settings,

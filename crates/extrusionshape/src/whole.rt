@@ -26,7 +26,7 @@ pub fn make_extrusion(block: &[u8], h: Header, s: Settings, b: &mut Buffers<'_>)
     let ring = x.ring_width();
     let t = plan_extrusion(h, cap, ring);
     let shared = plain_shared(h, h.convex);
-    let coord = bits::part(block, 0, 0);
+    let coord = &block[0..0];
     put_tables(&x, s, cap, shared, t, b.words, b.floats);
     let floats = &mut *b.floats;
     texture_where(&x, s, shared, t, floats, b.words);

@@ -19,6 +19,7 @@ use tables::Plan;
 use texture::fit_of;
 
 // All tables but that of texture. Not one with primitiveshape's, for the reason that stands there.
+// The room in the floats stays a clause, as in soups: they are lent to be written.
 pub fn put_tables(b: &SetBlock<'_>, shared: Shared, t: Plan, work: &mut [u32], floats: &mut [f32])
     requires { Planned (point_count b.now.source.header) b.now.source.coord.now (length work.old) t × (3 * t.count + 6 * t.faces ≤ length floats.old) }
     ensures { Tabled (entries (list_bytes b.now.source.block.now b.now.source.header 0)) (face_set_listings b.now.source.block.now b.now.source.header) shared b.now.source.settings.crease t

@@ -10,7 +10,6 @@ use crate::sided::GridBlock;
 use bits::Words3;
 use block::{Settings, list_part};
 use lists::put_all;
-use tables::wide;
 
 // The bits of n steps of a spacing.
 fn step_word(spacing: f32, n: usize) -> u32
@@ -33,8 +32,7 @@ impl<'a> GridBlock<'a> {
         requires { (k < x_dimension self.now.header * z_dimension self.now.header) × (k < length (entries heights.now)) }
         ensures { result ≡ grid_point self.now.header s (entries heights.now) k }
     {
-        let counts = self.header.counts;
-        let xd = wide(counts[0]);
+        let xd = self.x_dimension();
         Words3 {
             x: step_word(s.x_spacing, k % xd),
             y: bits::entry(heights, k),
@@ -48,10 +46,9 @@ impl<'a> GridBlock<'a> {
             × (at + 3 * (x_dimension self.now.header * z_dimension self.now.header) ≤ length work.old) }
         ensures { work.new ≡ spliced work.old at (grid_points self.now.header s (entries (list_bytes self.now.block.now self.now.header 3))) }
     {
-        let counts = self.header.counts;
-        let n = wide(counts[0]) * wide(counts[1]);
+        let n = self.x_dimension() * self.z_dimension();
         let heights = list_part(self.block, self.header, 3);
-        // Point by point: `put_each` takes one word at a time, so that each point would be made three times; and there is no list of all words for `put_all`.
+        // Not parts' `put_words`, a row a point: grid does not stand on parts, which is of the solids. `put_each` would make each point three times.
         for k in 0..n {
             put3(work, at + 3 * k, self.grid_point(heights, s, k));
         }

@@ -10,7 +10,7 @@ ghost use Rattle.grid.specs.Listings.{corner_point, grid_listings};
 
 use crate::sided::GridBlock;
 use block::{CornerNumber, PointNumber};
-use tables::{Plan, narrow, put_each, wide};
+use tables::{Plan, narrow, put_each};
 
 // The number of the point in column i of row j.
 fn point_at(xd: usize, i: usize, j: usize) -> PointNumber
@@ -55,8 +55,7 @@ impl<'a> GridBlock<'a> {
         requires { Planned self.now.header (length work.old) t }
         ensures { Beside t work.old work.new × Listed work.new t (grid_listings (x_dimension self.now.header) (z_dimension self.now.header)) }
     {
-        let counts = self.header.counts;
-        let xd = wide(counts[0]);
+        let xd = self.x_dimension();
         put_corners(work, t.corners, t.count, xd);
         put_each(work, t.starts, t.faces + 1, |j| narrow(4 * j));
         put_corners(work, t.places, t.count, xd);

@@ -1,7 +1,10 @@
 // FORMAT 2.2, 3: the block of a grid that was not refused for its sides.
+ghost use Rattle.std.specs.Prelude.{◌≡◌};
+ghost use Rattle.mesh.specs.Grid.{x_dimension, z_dimension};
 ghost use Rattle.grid.specs.Sides.{Sides};
 
 use block::Header;
+use tables::wide;
 
 // The block and its header: each side is 2 or more, and there are no more points than the tables hold.
 #[derive(Clone, Copy)]
@@ -9,4 +12,20 @@ pub struct GridBlock<'a> {
     pub block: &'a [u8],
     pub header: Header,
     ghost sides: { Sides header },
+}
+
+impl<'a> GridBlock<'a> {
+    pub fn x_dimension(&self) -> usize
+        ensures { result ≡ x_dimension self.now.header }
+    {
+        let counts = self.header.counts;
+        wide(counts[0])
+    }
+
+    pub fn z_dimension(&self) -> usize
+        ensures { result ≡ z_dimension self.now.header }
+    {
+        let counts = self.header.counts;
+        wide(counts[1])
+    }
 }

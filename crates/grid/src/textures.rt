@@ -26,9 +26,8 @@ impl<'a> GridBlock<'a> {
         requires { p.0 < x_dimension self.now.header * z_dimension self.now.header }
         ensures { result ≡ grid_default self.now.header (p.0 % x_dimension self.now.header) (p.0 / x_dimension self.now.header) }
     {
-        let counts = self.header.counts;
-        let xd = wide(counts[0]);
-        let zd = wide(counts[1]);
+        let xd = self.x_dimension();
+        let zd = self.z_dimension();
         Words2 {
             s: part_word(p.0 % xd, xd),
             t: part_word(p.0 / xd, zd),

@@ -15,22 +15,22 @@ use block::Settings;
 use build::Shared;
 use grid::GridBlock;
 use soups::prepare;
-use tables::{Plan, plan_of, wide};
+use tables::{Plan, plan_of};
 
 // The plan for a grid's points, corners and quads.
 pub fn plan_grid(g: &GridBlock<'_>) -> Plan
     requires { 4 * quad_count g.now.header ≤ most }
     ensures { result ≡ grid_plan g.now.header }
 {
-    let counts = g.header.counts;
-    let xd = wide(counts[0]);
-    let zd = wide(counts[1]);
+    let xd = g.x_dimension();
+    let zd = g.z_dimension();
     let quads = (zd - 1) * (xd - 1);
     plan_of(xd * zd, 4 * quads, quads, 0)
 }
 
 // All tables but that of texture.
 // Not one with the other shapes: what puts the points and the faces is this kind's own, and the contract needs what each of these calls asks and gives.
+// The room in the floats stays a clause, as in soups: they are lent to be written.
 pub fn put_tables(
     g: &GridBlock<'_>,
     s: Settings,

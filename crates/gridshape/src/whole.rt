@@ -30,7 +30,7 @@ pub fn make_grid(
     let g = GridBlock { block, header: h };
     let t = plan_grid(&g);
     let shared = listed_shared(h, missing, true);
-    let coord = bits::part(block, 0, 0);
+    let coord = &block[0..0];
     put_tables(&g, s, shared, t, b.words, b.floats);
     texture_where(&g, s, shared, t, b.words);
     build(block, coord, shared, t, b)

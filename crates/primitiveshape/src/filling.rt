@@ -18,6 +18,7 @@ use tables::Plan;
 // All tables but that of texture.
 // As in facesetshape but for one call. One function of both would take that call as a closure, and its contract what the call asks and leaves, in either
 // kind's words: longer than the lines that it saves.
+// The room in the floats stays a clause, as in soups: they are lent to be written.
 pub fn put_tables(
     b: &SetBlock<'_>,
     g: Topology,

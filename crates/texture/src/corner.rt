@@ -5,6 +5,9 @@ ghost use Rattle.texture.specs.Corner.{texture_in};
 use bits::Words2;
 use block::{Header, Settings, texture_stream, uv};
 
+// The words of a corner without texture.
+pub const NO_TEXTURE: Words2 = Words2 { s: 0, t: 0 };
+
 // What the texture of a corner is read from: the block, its coordIndex, its header and its settings.
 #[derive(Clone, Copy)]
 pub struct Source<'a> {
@@ -21,15 +24,22 @@ impl<'a> Source<'a> {
     {
         let h = self.header;
         let s = self.settings;
+        // As in extrusion: the flag is the header's and the transform the settings', so that a function of both would be no shorter to call.
         let x = h.transformed.then_some(s.transform);
         if h.texture_points {
-            let none = Words2 { s: 0, t: 0 };
-            let listed = block::get(self.block, self.coord, texture_stream(h), place, 0, none);
+            let listed = block::get(
+                self.block,
+                self.coord,
+                texture_stream(h),
+                place,
+                0,
+                NO_TEXTURE,
+            );
             return uv(x, listed);
         }
         if h.need_uvs {
             return uv(x, default);
         }
-        Words2 { s: 0, t: 0 }
+        NO_TEXTURE
     }
 }

@@ -7,7 +7,7 @@ ghost use Rattle.tables.specs.Soups.{points_in};
 ghost use Rattle.texture.specs.Corner.{texture_in};
 ghost use Rattle.texture.specs.Textured.{texture_words, set_texture, Fitted};
 
-use crate::corner::Source;
+use crate::corner::{NO_TEXTURE, Source};
 use crate::extents::default_at;
 use bits::Words2;
 use block::PointNumber;
@@ -30,8 +30,7 @@ impl<'a> Source<'a> {
     {
         let h = self.header;
         if h.texture_points {
-            let none = Words2 { s: 0, t: 0 };
-            return self.corner_texture(place, none);
+            return self.corner_texture(place, NO_TEXTURE);
         }
         let from = t.points;
         let to = from + 3 * t.spots;

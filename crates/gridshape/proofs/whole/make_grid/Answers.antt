@@ -1,3 +1,4 @@
+use mathlib.Core.Path.{refl}
 use native.Mathlib.Omega.{arith}
 use Rattle.shaping.proofs.Tabling.{faces_held}
 use Rattle.shaping.proofs.Theorem.{ready, shaped}
@@ -25,11 +26,11 @@ texture_where-requires c =
 pub build-requires : goal.build-requires
 build-requires c =
     ready c.requires (sizes_are c.requires) (counted c.requires c.plan_grid-t.ensures) c.put_tables.ensures c.texture_where.ensures
-    (shape c.args.missing _ c.requires.accepted.header c.requires.accepted.settings c.listed_shared-shared.ensures c.part-coord.ensures c.requires.kind)
+    (shape c.args.missing _ c.requires.accepted.header c.requires.accepted.settings c.listed_shared-shared.ensures refl c.requires.kind)
 
 pub returns-clause-made : goal.returns-clause-made
 returns-clause-made c =
     let h = c.requires.accepted.header in
     let s = c.requires.accepted.settings in
     shaped c.requires (sizes_are c.requires) (counted c.requires c.plan_grid-t.ensures) c.put_tables.ensures c.texture_where.ensures
-    (shape c.args.missing _ h s c.listed_shared-shared.ensures c.part-coord.ensures c.requires.kind) (mesh_is c.args.missing _ h s c.listed_shared-shared.ensures (sides c.requires).wide) c.build.ensures.built
+    (shape c.args.missing _ h s c.listed_shared-shared.ensures refl c.requires.kind) (mesh_is c.args.missing _ h s c.listed_shared-shared.ensures (sides c.requires).wide) c.build.ensures.built

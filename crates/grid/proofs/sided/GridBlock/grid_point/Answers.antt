@@ -8,4 +8,4 @@ entry-requires c = omega (arith, c.requires.1, entries_length c.args.heights.now
 
 pub returns : goal.returns
 unfolding grid_point
-returns c = rw (c.step_word-2.ensures, c.entry.ensures, c.step_word.ensures, c.wide-xd.ensures)
+returns c = rw (c.step_word-2.ensures, c.entry.ensures, c.step_word.ensures, c.x_dimension-xd.ensures)

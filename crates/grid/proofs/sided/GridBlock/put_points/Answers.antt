@@ -9,7 +9,7 @@ use native.Mathlib.Omega.{arith}
 use Rattle.grid.proofs.sided.GridBlock.put_points.Goals as goal
 
 pub loop-k-init : goal.loop-k-init
-loop-k-init c = (λ i. c.wide.ensures i * c.wide-2.ensures i, c.list_part-heights.ensures, pieces_none)
+loop-k-init c = (λ i. c.x_dimension.ensures i * c.z_dimension.ensures i, c.list_part-heights.ensures, pieces_none)
 
 pub loop-k-preserved : goal.loop-k-preserved
 loop-k-preserved c =
