@@ -8,7 +8,7 @@ fn is_zero(x: f32) -> bool
     x == 0.0
 }
 
-// f32::abs
+// f32::abs. A name of its own, as the contract says it with FORMAT 9.4's magnitude.
 pub fn abs(x: f32) -> f32
     ensures { result ≡ magnitude x }
 {
