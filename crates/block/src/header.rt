@@ -19,7 +19,7 @@ pub struct Header {
     pub color_per_vertex: bool,
     pub normal_per_vertex: bool,
     pub need_uvs: bool,
-    // Whether the transform in `Settings` counts. It is no Option there: its words stand in the block either way (FORMAT 2.3), and all bits of 2.2 are here.
+    // Whether the transform in `Settings` counts. `read_settings` makes no Option of it: the twelve words are read alike whatever the bits are (FORMAT 2.3).
     pub transformed: bool,
     pub colors: bool,
     pub alpha: bool,
