@@ -57,6 +57,7 @@ fn zeros_in(block: &[u8], e: Edition) -> u32
     bits::field_at(block, COUNTS_AT + e.counts * e.count_bits, e.zero_bits)
 }
 
+// Eight calls, and no `from_fn`: its closure is given a usize, which it would cast, and has to show of it that `count_at` may be asked.
 fn read_counts(block: &[u8], width: u32) -> [u32; 8]
     requires { width ≤ 32 }
     ensures { result ≡ counts_of block.now width }
