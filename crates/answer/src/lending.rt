@@ -16,8 +16,8 @@ pub struct Conversion {
     pub textures: [u32; 512],
 }
 
-// Slices for C and P of 256 each and 768 indices, all zeros; white is passed for a missing colour. No struct over a const N serves `limits` and `replay` too: a type takes
-// no 3 * N.
+// Slices for C and P of 256 each and 768 indices, all zeros; white is passed for a missing colour.
+// `limits` and `replay` lend for the largest block: no struct over a const N serves them too, as a type takes no 3 * N.
 pub fn lend_and_convert(block: &[u8]) -> Conversion
     ensures { Left block.now result }
 {

@@ -1,7 +1,7 @@
 -- Laws of the choice of a value's number, and that it is what the source's Stream::get reads. Assumes nothing.
 use Prim.Native.Nat.{ℕ, zero, suc, ◌-◌, ◌/◌, ◌^◌, ◌≤◌, ◌<◌}
 use mathlib.Core.Path.{◌≡◌, refl, sym, ap, ◌∙◌}
-use mathlib.Core.Bool.{Bool, true, false, cond}
+use mathlib.Core.Bool.{Bool, true, false, cond, not}
 use mathlib.Core.List.{List, [], ◌∷◌}
 use borrow.Author.Tests.{lt-ltb, le-ltb, eq-eqb, ne_eqb, leb-false, ltb-false}
 use native.Mathlib.Omega.{arith}
@@ -10,7 +10,9 @@ use lib.IntN.{ℤ, pos, negsuc}
 use lib.ListN.{length, get_or}
 use Rattle.bits.specs.Bits.{entries}
 use Rattle.bits.proofs.Entries.{entries_length}
-use Rattle.std.specs.Prelude.{Option, Some, None, slice_get}
+use Rattle.std.specs.Prelude.{Option, Some, None, Result, Ok, Err, slice_get}
+use Rattle.std.specs.Bool.{then_some}
+use Rattle.std.specs.Result.{OkIff, result_ok}
 use Rattle.block.specs.Value.{count_of, value_at}
 use Rattle.block.specs.Stream.{is_negative, chosen, itself, entry_at, number_in, number_at, signed, index_get, through, stream_index, found_of, value_get, stream_get, listed, values_of, or_else, Corner, indexed, bare}
 
@@ -27,15 +29,26 @@ module _ (own coord : List ℕ) where
 
 -- ---- which number
 
+above : (k : ℕ) → ((k < 2 ^ 32) → ⊥) → 2 ^ 32 ≤ k
+above k h = omega arith
+
+given_or : (t : Bool) (w : ℕ) → then_some (not t) w ≡ cond t None (Some w)
+given_or true w = refl
+given_or false w = refl
+
 module _ (list : List ℕ) (k : ℕ) where
   module _ (e : length list / 4 ≡ 0) where
-    pub itself_fits : k < 2 ^ 32 → Some k ≡ number_in list k
+    itself_fits : k < 2 ^ 32 → Some k ≡ number_in list k
     unfolding number_in itself
     itself_fits h = rw (entries_length, eq-eqb _ _ e, lt-ltb k (2 ^ 32) h)
 
-    pub itself_large : 2 ^ 32 ≤ k → None ≡ number_in list k
+    itself_large : 2 ^ 32 ≤ k → None ≡ number_in list k
     unfolding number_in itself
     itself_large h = rw (entries_length, eq-eqb _ _ e, le-ltb k (2 ^ 32) h)
+
+    pub itself_tried : {E : Type 0} (r : Result ℕ E) → OkIff r (k < 2 ^ 32) k → result_ok r ≡ number_in list k
+    itself_tried (Ok x) h = rw h.1 (itself_fits h.0)
+    itself_tried (Err x) h = itself_large (above k h)
 
   module _ (n : length list / 4 ≡ 0 → ⊥) where
     listed_in : entry_at (entries list) k ≡ number_in list k
@@ -46,14 +59,9 @@ module _ (list : List ℕ) (k : ℕ) where
     unfolding entry_at
     entry_past h = rw (← listed_in, entries_length, le-ltb _ _ h)
 
-    module _ (w : ℕ) (h : k < length list / 4) (e : w ≡ get_or (entries list) k 0) (t : Bool) (q : t ≡ is_negative w) where
-      pub entry_negative : t ≡ true → None ≡ number_in list k
-      unfolding entry_at
-      entry_negative p = rw (← listed_in, entries_length, lt-ltb _ _ h, ← e, ← q, p)
-
-      pub entry_found : t ≡ false → Some w ≡ number_in list k
-      unfolding entry_at
-      entry_found p = rw (← listed_in, entries_length, lt-ltb _ _ h, ← e, ← q, p)
+    pub entry_given : (w : ℕ) (t : Bool) → k < length list / 4 → w ≡ get_or (entries list) k 0 → t ≡ is_negative w → then_some (not t) w ≡ number_in list k
+    unfolding entry_at
+    entry_given w t h e q = rw (← listed_in, entries_length, lt-ltb _ _ h, ← e, ← q) (given_or t w)
 
 -- ---- Stream::get
 

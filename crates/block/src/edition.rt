@@ -15,16 +15,19 @@ pub struct Edition {
 // The limit of edition 1, for whoever lends slices for its largest block.
 pub const LIMIT: usize = 8192;
 
+// The words of the header of edition 1.
+pub(crate) const HEADER_WORDS: u32 = 5;
+
 // A block of an edition that is not known is read as one of edition 1, and refused.
 pub fn edition_of(_number: u32) -> Edition
     ensures { result ≡ edition_of _number }
 {
     Edition {
-        header_words: 5,
+        header_words: HEADER_WORDS,
         counts: 8,
         count_bits: 14,
         zero_bits: 28,
-        limit: 8192,
+        limit: LIMIT as u32,
     }
 }
 

@@ -19,17 +19,15 @@ fn color_width(alpha: bool) -> u8
     if alpha { 4 } else { 3 }
 }
 
-// The words of an entry of each list.
+// The words of an entry of each list. Lists go by their numbers, and by no enum: FORMAT 2.4 numbers them, and a number is another list in another kind.
 fn list_widths(kind: Kind, alpha: bool) -> [u8; 8]
     ensures { result ≡ widths_by kind alpha }
 {
     let c = color_width(alpha);
     match kind {
-        Kind::FaceSet => [3, 1, c, 1, 3, 1, 2, 1],
-        Kind::LineSet => [3, 1, c, 1, 3, 1, 2, 1],
+        Kind::FaceSet | Kind::LineSet | Kind::Primitives(_) => [3, 1, c, 1, 3, 1, 2, 1],
         Kind::Grid => [0, 0, c, 1, 3, 0, 2, 0],
         Kind::Extrusion => [3, 2, 2, 5, 0, 0, 0, 0],
-        Kind::Primitives(_) => [3, 1, c, 1, 3, 1, 2, 1],
     }
 }
 

@@ -19,7 +19,7 @@ pub struct Header {
     pub color_per_vertex: bool,
     pub normal_per_vertex: bool,
     pub need_uvs: bool,
-    // Whether the transform in `Settings` counts. It is no Option there: its words stand in the block either way (FORMAT 2.3), and all bits of 2.2 are here.
+    // Whether the transform in `Settings` counts. `read_settings` makes no Option of it: the twelve words are read alike whatever the bits are (FORMAT 2.3).
     pub transformed: bool,
     pub colors: bool,
     pub alpha: bool,
@@ -57,6 +57,7 @@ fn zeros_in(block: &[u8], e: Edition) -> u32
     bits::field_at(block, COUNTS_AT + e.counts * e.count_bits, e.zero_bits)
 }
 
+// Eight calls, and no `from_fn`: its closure is given a usize, which it would cast, and has to show of it that `count_at` may be asked.
 fn read_counts(block: &[u8], width: u32) -> [u32; 8]
     requires { width ≤ 32 }
     ensures { result ≡ counts_of block.now width }

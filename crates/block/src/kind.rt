@@ -4,7 +4,7 @@ ghost use Rattle.block.specs.Kind.{kind_of, is_primitives, is_indexed, is_lines}
 
 use crate::topology::Topology;
 
-// The number of a kind has three bits, so every number is a kind's.
+// The number of a kind has three bits (FORMAT 2.2), and each of those eight numbers is a kind's.
 #[derive(Clone, Copy)]
 pub enum Kind {
     FaceSet,
@@ -14,7 +14,7 @@ pub enum Kind {
     Primitives(Topology),
 }
 
-// No From: a number of more than three bits is no kind's.
+// No TryFrom: a block has no number of more than three bits, and an error for one would be answered by nobody. Nor From: such a number is no kind's.
 pub fn kind_of(number: u32) -> Kind
     ensures { result ≡ kind_of number }
 {

@@ -1,10 +1,9 @@
 // What is refused of a block (FORMAT 3): the table's answers, and its rows 1 to 5 and 9.
 ghost use Rattle.std.specs.Prelude.{◌≡◌, not, suc};
-ghost use Rattle.block.specs.Edition.{edition1, header_bytes};
 ghost use Rattle.block.specs.Runs.{all_below};
 ghost use Rattle.block.specs.Refusal.{is_by_point, is_other_attributes, block_rows, first_of, number_of, refused_as};
 
-use crate::edition::{edition_of, is_known, limit_of};
+use crate::edition::{HEADER_WORDS, is_known, limit_of};
 use crate::extents::block_bytes;
 use crate::header::Header;
 use crate::kind::is_primitives;
@@ -44,11 +43,7 @@ impl From<Refusal> for u32 {
 }
 
 // The bytes of the header of edition 1: no block is shorter.
-fn header_bytes() -> usize
-    ensures { result ≡ header_bytes edition1 }
-{
-    4 * edition_of(1).header_words as usize
-}
+const HEADER_BYTES: usize = 4 * HEADER_WORDS as usize;
 
 fn over_limit(n: [u32; 8], limit: u32) -> bool
     ensures { result ≡ not (all_below (suc limit) n) }
@@ -75,7 +70,7 @@ fn is_other_attributes(h: Header) -> bool
 pub fn refusal_of(block: &[u8], h: Header) -> Result<(), Refusal>
     ensures { refused_as result ≡ first_of (block_rows block.now h) }
 {
-    if block.len() < header_bytes() {
+    if block.len() < HEADER_BYTES {
         return Err(Refusal::Stub);
     }
     if !is_known(h.edition) {

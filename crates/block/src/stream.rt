@@ -11,6 +11,7 @@ use bits::Words4;
 // An attribute of a block: where its values and its own index list lie.
 #[derive(Clone, Copy)]
 pub struct Stream {
+    // A bit of the header, as `Header` has it; of texture points it is set.
     pub per_vertex: bool,
     pub values: Place,
     pub index: Place,
@@ -80,17 +81,11 @@ fn number_in(list: &[u8], k: usize) -> Option<u32>
 {
     let n = list.len() / 4;
     if n == 0 {
-        if k < 0x1_0000_0000 {
-            return Some(k as u32);
-        }
-        return None;
+        return u32::try_from(k).ok();
     }
     if k < n {
         let w = bits::entry(list, k);
-        if is_negative(w) {
-            return None;
-        }
-        return Some(w);
+        return (!is_negative(w)).then_some(w);
     }
     None
 }
@@ -131,8 +126,9 @@ fn found_at<'a>(
 }
 
 // What an attribute has at a corner. `block` and `coord` are two slices here and above, and no struct with the fact that `coord` is the block's list 1, which
-// facesetshape and primitiveshape ask: a grid and an extrusion have no coordIndex, and an empty slice goes for it. `place` and `face` are two numbers, and
-// `number_at` reads the one or the other: a struct of both would be built at each call only to be taken apart.
+// facesetshape and primitiveshape ask: a grid and an extrusion have no coordIndex, and an empty slice goes for it. Nor are they a struct without the fact:
+// whoever lists runs reads `coord` alone. `place` and `face` are two numbers, and `number_at` reads the one or the other: a struct of both would be built
+// at each call only to be taken apart.
 pub fn get<'a, V: Value>(
     block: &'a [u8],
     coord: &'a [u8],

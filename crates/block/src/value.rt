@@ -119,7 +119,7 @@ pub fn value_or<V: Value>(values: &[u8], found: Option<u32>, missing: V) -> V
     missing
 }
 
-// A colour of 4 words, or of 3.
+// A colour of 4 words, or of 3. `alpha` is a bit of the header and stays one, as `Header` has it.
 pub fn value4(values: &[u8], alpha: bool, found: Option<u32>, missing: Words4) -> Words4
     ensures { result ≡ value4_at values.now alpha found missing }
 {

@@ -16,11 +16,8 @@ fn put_word(block: &mut [u8], at: usize, v: u32)
     }
 }
 
-// A bit that is set, where a zero bit stands.
-fn put_bit(block: &mut [u8], at: usize, is_set: bool) {
-    if !is_set {
-        return;
-    }
+// Sets a bit, where a zero bit stands.
+fn put_bit(block: &mut [u8], at: usize) {
     let i = at / 8;
     if i < block.len() {
         let s = 7 - at % 8;
@@ -34,7 +31,9 @@ fn put_field(block: &mut [u8], at: usize, width: u32, v: u32)
 {
     let mut left = v;
     for k in (0..width).rev() {
-        put_bit(block, at + (k as usize), left % 2 == 1);
+        if left % 2 == 1 {
+            put_bit(block, at + (k as usize));
+        }
         left = left / 2;
     }
 }

@@ -5,7 +5,8 @@ use block::LIMIT;
 use geometry::Call;
 use lent::Buffers;
 
-// The refusal's number, the number of indices, and the first triangle. The number is 0 for none, and no Option, as a host's call returns it and as it is printed.
+// The refusal's number, the number of indices, and the first triangle. The number is 0 for none, and no Option:
+// a host's call returns it so, and so it is printed.
 #[derive(Clone, Copy, PartialEq, Eq)]
 pub struct Seen {
     pub number: u32,
@@ -18,7 +19,8 @@ pub struct Seen {
 pub fn convert_full(block: &[u8]) -> Seen
     ensures { Shows block.now result }
 {
-    // The lengths are those of `replay`'s `Slices` and, with 256, of `answer`'s slices; no struct over a const N serves the three: a type takes no 3 * N.
+    // `replay` lends the same lengths: it is another program, and a struct for both would need a crate of its own.
+    // `answer` lends for 256, and no struct over a const N serves it too: a type takes no 3 * N.
     let mut positions = [0u32; 3 * LIMIT];
     let mut normals = [0u32; 3 * LIMIT];
     let mut colours = [0u32; 4 * LIMIT];

@@ -1,4 +1,4 @@
-// Words read and written at any place of a table.
+// Elements read and written at any place of a table.
 #![tactic(auto)]
 
 ghost use Rattle.std.specs.Prelude.{◌≡◌, [], ◌∷◌, ◌+◌, ◌≤◌, length, get_or, set};

@@ -46,16 +46,13 @@ pub fn axis_turn(axis: V3, s: f32, c: f32) -> Quat
     let Some(u) = normalize(axis) else {
         return identity();
     };
-    if is_finite(s) {
-        if is_finite(c) {
-            return Quat {
-                x: u.x * s,
-                y: u.y * s,
-                z: u.z * s,
-                w: c,
-            };
-        }
-        return identity();
+    if is_finite(s) && is_finite(c) {
+        return Quat {
+            x: u.x * s,
+            y: u.y * s,
+            z: u.z * s,
+            w: c,
+        };
     }
     identity()
 }

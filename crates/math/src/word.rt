@@ -32,7 +32,7 @@ pub fn whole_float(n: usize) -> f32
     n as u16 as f32
 }
 
-// f32::is_finite
+// f32::is_finite. A name of its own: the contract says it by `finite`, by which the definitions go, where the library has `float_is_finite`.
 pub fn is_finite(x: f32) -> bool
     ensures { result ≡ finite x }
 {

@@ -14,9 +14,7 @@ pub fn width_of(g: Topology) -> usize
     ensures { result ≡ width_of g }
 {
     match g {
-        Topology::Triangles => 3,
-        Topology::Fans => 3,
-        Topology::Strips => 3,
+        Topology::Triangles | Topology::Fans | Topology::Strips => 3,
         Topology::Quads => 4,
     }
 }
@@ -27,8 +25,7 @@ pub fn count_in(g: Topology, n: usize) -> usize
 {
     match g {
         Topology::Triangles => n / 3,
-        Topology::Fans => n.saturating_sub(2),
-        Topology::Strips => n.saturating_sub(2),
+        Topology::Fans | Topology::Strips => n.saturating_sub(2),
         Topology::Quads => n / 4,
     }
 }

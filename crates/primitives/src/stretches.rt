@@ -1,4 +1,4 @@
-// What primitives are taken from (FORMAT 6.4).
+// The stretches of an index list: of fans and strips its runs, of triangles and quads all entries as one (FORMAT 6.4).
 ghost use Rattle.std.specs.Prelude.{◌≡◌, ◌/◌, ◌-◌, length};
 ghost use Rattle.std.specs.Iterator.{at_most};
 ghost use Rattle.block.specs.declared.topology.Topology.TheVariants.{Triangles};
@@ -23,10 +23,8 @@ pub fn stretch_at(list: &[u8], g: Topology, start: usize) -> &[u8]
     ensures { StretchPart g list.now start result.now }
 {
     match g {
-        Topology::Triangles => rest_at(list, start),
-        Topology::Fans => run_at(list, start),
-        Topology::Strips => run_at(list, start),
-        Topology::Quads => rest_at(list, start),
+        Topology::Triangles | Topology::Quads => rest_at(list, start),
+        Topology::Fans | Topology::Strips => run_at(list, start),
     }
 }
 

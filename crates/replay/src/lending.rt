@@ -4,7 +4,9 @@ use block::{LIMIT, read_header};
 use geometry::Call;
 use lent::{Answer, Buffers};
 
-// Slices for as many points and corners as edition 1 allows (FORMAT 4). No struct over a const N serves `limits` and `answer` too: a type takes no 3 * N.
+// Slices for as many points and corners as edition 1 allows (FORMAT 4).
+// `limits` lends the same lengths: it is another program, and a struct for both would need a crate of its own.
+// `answer` lends for 256, and no struct over a const N serves it too: a type takes no 3 * N.
 #[derive(Drop)]
 pub(crate) struct Slices {
     pub positions: [u32; 3 * LIMIT],

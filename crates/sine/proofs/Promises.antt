@@ -6,9 +6,8 @@ use Prim.Native.Nat.{ℕ, ◌-◌, ◌*◌, ◌/◌, ◌%◌, ◌^◌, ◌≤◌
 use native.Mathlib.Omega.{arith}
 use lib.Dec.{T, leb, ltb, le→leb, lt→ltb}
 use lib.Arith.{lt→nleb, le→nltb}
-use lib.Ieee.{Float, nan, inf, fin, binary32, ne, is_nan, of_bits, to_bits, fits}
+use lib.Ieee.{Float, nan, inf, fin, binary32, is_nan, of_bits, to_bits, fits}
 use lib.Ieee.Bits.{is_true, is_false, of_bits-to_bits}
-use lib.Ieee.Compare.{differs_from_itself}
 use Rattle.series.specs.Value.{fine}
 use Rattle.lists.proofs.Numbers.{lt_or_le}
 use Rattle.sine.specs.declared.whole.SinCos.{SinCos}
@@ -87,15 +86,11 @@ in_range_lem x f h = ap in_range (sym (of_bits-to_bits binary32 x f)) ∙ near_b
 pub out_of_range : (x : Float) → T (fits binary32 x) → 1149239296 < to_bits binary32 x % 2147483648 → in_range x ≡ false
 out_of_range x f h = ap in_range (sym (of_bits-to_bits binary32 x f)) ∙ far_bits (to_bits binary32 x) h
 
-pub none_in_range : (x : Float) → ne x x ≡ true → in_range x ≡ false
-unfolding in_range
-none_in_range x e = rw (differs_from_itself x (subst T (sym e) tt)) refl
-
-pub plain : (x : Float) → ne x x ≡ false → is_nan x ≡ false
-unfolding ne is_nan
-plain nan e = e
-plain (inf s) e = refl
-plain (fin s m d) e = refl
+pub none_in_range : (x : Float) → is_nan x ≡ true → in_range x ≡ false
+unfolding in_range is_nan
+none_in_range nan e = refl
+none_in_range (inf s) e = refl
+none_in_range (fin s m d) e = absurd (subst T (sym e) tt)
 
 -- FORMAT 16.3: every f32
 pub promise : (x : Float) → T (fits binary32 x) → Promise (in_range x) x (sin_cos_of x).sin (sin_cos_of x).cos

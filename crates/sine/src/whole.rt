@@ -93,7 +93,7 @@ fn inside(b: u32) -> SinCos
 pub fn sin_cos(x: f32) -> SinCos
     ensures { result ≡ sin_cos_of x }
 {
-    if x != x {
+    if x.is_nan() {
         return SinCos { sin: 0.0, cos: 1.0 };
     }
     let b = f32::to_bits(x);

@@ -1,5 +1,6 @@
 use Rattle.math.specs.Quaternion.{axis_turn}
 use Rattle.math.proofs.quaternion.axis_turn.Goals as goal
+use Rattle.math.proofs.quaternion.axis_turn.Goals.{else-is_finite-via-then-is_finite+else-is_finite-2, else-is_finite-via-else-is_finite}
 
 pub returns-in_default : goal.returns-in_default
 unfolding axis_turn
@@ -10,11 +11,11 @@ unfolding axis_turn
 returns-then-is_finite-2 c =
     rw (← c.normalize.ensures, c.in-Some.is, ← c.is_finite.ensures, c.if-is_finite.true, ← c.is_finite-then-is_finite.ensures, c.if-is_finite-2.true)
 
-pub returns-then-is_finite : goal.returns-then-is_finite
-unfolding axis_turn
-returns-then-is_finite c =
-    rw (c.identity-then-is_finite.ensures, ← c.normalize.ensures, c.in-Some.is, ← c.is_finite.ensures, c.if-is_finite.true, ← c.is_finite-then-is_finite.ensures, c.if-is_finite-2.false)
-
 pub returns : goal.returns
 unfolding axis_turn
-returns c = rw (c.identity-2.ensures, ← c.normalize.ensures, c.in-Some.is, ← c.is_finite.ensures, c.if-is_finite.false)
+returns c =
+    elim c.else-is_finite.branch
+      [ else-is_finite-via-then-is_finite+else-is_finite-2 w ↦
+          rw (c.identity-2.ensures, ← c.normalize.ensures, c.in-Some.is, ← c.is_finite.ensures, w.if-is_finite.true, ← w.is_finite-then-is_finite.ensures, w.if-is_finite-2.false)
+      | else-is_finite-via-else-is_finite w ↦ rw (c.identity-2.ensures, ← c.normalize.ensures, c.in-Some.is, ← c.is_finite.ensures, w.if-is_finite.false)
+      ]

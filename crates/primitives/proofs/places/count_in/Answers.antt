@@ -1,3 +1,4 @@
+use mathlib.Core.Logic.{inl, inr}
 use Rattle.primitives.specs.Primitives.{primitive_count}
 use Rattle.primitives.proofs.places.count_in.Goals as goal
 
@@ -7,11 +8,7 @@ returns-in-Triangles c = rw c.in-Triangles.is
 
 pub returns-in-Fans : goal.returns-in-Fans
 unfolding primitive_count
-returns-in-Fans c = rw c.in-Fans.is c.saturating_sub.ensures
-
-pub returns-in-Strips : goal.returns-in-Strips
-unfolding primitive_count
-returns-in-Strips c = rw c.in-Strips.is c.saturating_sub-in-Strips.ensures
+returns-in-Fans c = elim c.in-Fans.is [ inl e ↦ rw e c.saturating_sub.ensures | inr e ↦ rw e c.saturating_sub.ensures ]
 
 pub returns-in-Quads : goal.returns-in-Quads
 unfolding primitive_count
