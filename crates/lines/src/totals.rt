@@ -1,5 +1,5 @@
 // FORMAT 4, 6.3: how many entries of coordIndex name a point, and how many lines there are.
-ghost use Rattle.std.specs.Prelude.{◌≡◌, false, cond, suc, ◌^◌, ◌<◌};
+ghost use Rattle.std.specs.Prelude.{◌≡◌, false};
 ghost use Rattle.bits.specs.Bits.{entries};
 ghost use Rattle.block.specs.Runs.{runs, sum_over};
 ghost use Rattle.mesh.specs.Sizes as sizes;
@@ -13,14 +13,6 @@ pub struct LineTotals {
     pub lines: usize,
 }
 
-// One more where both hold.
-fn counted(n: usize, a: bool, b: bool) -> usize
-    requires { n < 2 ^ 63 }
-    ensures { result ≡ cond a (cond b (suc n) n) n }
-{
-    n + usize::from(a && b)
-}
-
 // The entries of one run: those that name a point, and the lines between them.
 #[tactic(auto, using(bits::proofs::Entries::entries_length))]
 fn run_totals(run: &[u8], points: u32) -> LineTotals
@@ -31,8 +23,8 @@ fn run_totals(run: &[u8], points: u32) -> LineTotals
     let mut after = false;
     for e in run.chunks_exact(4) {
         let here = bits::word(e, 0) < points;
-        corners = counted(corners, true, here);
-        lines = counted(lines, after, here);
+        corners += usize::from(here);
+        lines += usize::from(after && here);
         after = here;
     }
     LineTotals { corners, lines }

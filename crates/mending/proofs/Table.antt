@@ -52,6 +52,25 @@ module _ (t : List ℕ) (v n : ℕ) (w : Option ℕ) (e : w ≡ named_by (get_or
       go None q = absurd (true≢false (sym q))
       go (Some m) q = refl
 
+-- ---- a triangle that is met, once it is known whether it has a normal
+
+module _ (F : Frame) (vs : List Key) (is t : List ℕ) (n : ℕ) (r : Option V3) (e : r ≡ triangle_normal F vs is n) where
+  pub noted_some : is_some r ≡ true → marked_all is t n ≡ noted F vs is t n
+  unfolding noted
+  noted_some h = rw (← e) (go r h)
+    where
+      go : (r : Option V3) → is_some r ≡ true → marked_all is t n ≡ noted_by r is t n
+      go (Some u) q = refl
+      go None q = absurd (true≢false (sym q))
+
+  pub noted_none : is_some r ≡ false → t ≡ noted F vs is t n
+  unfolding noted
+  noted_none h = rw (← e) (go r h)
+    where
+      go : (r : Option V3) → is_some r ≡ false → t ≡ noted_by r is t n
+      go (Some u) q = absurd (true≢false q)
+      go None q = refl
+
 -- ---- a mark, read again
 
 -- a triangle that is named, or a new one where there is none

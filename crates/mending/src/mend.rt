@@ -18,7 +18,8 @@ use mesh::{floats_of, words_of};
 
 // ---- the words of a vertex
 
-// A read past the end is 0: so no three words need be there, as a pattern or a slice would ask.
+// A read past the end is 0: so no three words need be there, as a pattern or a slice would ask. Not `polygon`'s `spot`, which is private there and gives
+// a vector: `fix_zero_normals` wants the words of a normal, as it may keep them.
 fn words_at(l: &[u32], v: VertexNumber) -> Words3
     requires { v.0 < 2 ^ 32 }
     ensures { result ≡ point_words l.now v.0 }
@@ -74,7 +75,7 @@ fn word_of(n: usize) -> u32
     (n + 1) as u32
 }
 
-// Triangle n is noted where none is.
+// Triangle n is noted where none is. Its bound stays a clause down to `word_of`: `n + 1 < 2^32` is of one number, which nothing else goes with.
 fn mark(table: &mut [u32], v: VertexNumber, n: usize)
     requires { n + 1 < 2 ^ 32 }
     ensures { table.new ≡ marked table.old v.0 n }
@@ -126,10 +127,9 @@ impl<'a> Lent<'a> {
         requires { n + 1 < 2 ^ 32 }
         ensures { table.new ≡ noted (lent_frame self.now.positions.now) (lent_keys [] self.now.count) self.now.indices.now table.old n }
     {
-        let Some(_u) = self.triangle_normal(n) else {
-            return;
-        };
-        self.mark_all(n, table);
+        if self.triangle_normal(n).is_some() {
+            self.mark_all(n, table);
+        }
     }
 
     fn first_normals(&self, table: &mut [u32])

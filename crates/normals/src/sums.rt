@@ -38,8 +38,8 @@ pub struct Near<'a> {
 }
 
 impl<'a> Near<'a> {
-    // Not one with `sum_all`: they share the walk alone, which is one line.
     // The normal of face own, and then those of the faces at p, once for each use, that are near to its unit vector u.
+    // Not one with `sum_all`: they share the walk alone, which is one line.
     pub fn sum_near(&self, p: PointNumber, own: usize, u: V3) -> V3
         requires { (p.0 < self.now.source.tables.plan.now.spots) × (own < self.now.source.tables.plan.now.faces) }
         ensures { result ≡ sum_near self.now.bound own u (normal_in self.now.source.tables.work.now self.now.source.tables.plan.now own)
@@ -111,9 +111,7 @@ impl<'a> Source<'a> {
                 return load_unit(self.tables.work, t.sums + 4 * p.0);
             }
             CreaseRule::Bound(bound) => {
-                let Some(u) = k else {
-                    return None;
-                };
+                let u = k?;
                 let near = Near {
                     source: *self,
                     floats,

@@ -78,7 +78,8 @@ fn put_fan(idx: &[u32], out: &mut [u32], t: usize, rev: bool)
     }
 }
 
-// One ear of the m corners in the order: its triangle is written, and it is taken out of the order and is no longer left.
+// One ear of the m corners in the order: its triangle is written, and it is taken out of the order and is no longer left. The order stands beside the search:
+// as one of its tables it would need m beside it, and each method of `Search` would have to say that the order stays.
 fn cut(s: &mut Search, order: &mut [u32], m: usize, i: usize, out: &mut [u32], t: usize, rev: bool)
     requires { (i < m) × (m ≤ length order.old) × (t < 2 ^ 31) }
     ensures { Gone m i order.old order.new s.old.left.now s.new.left.now × (s.new.memo.now ≡ s.old.memo.now) × (s.new.p ≡ s.old.p)

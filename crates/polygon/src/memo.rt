@@ -1,4 +1,4 @@
-// FORMAT 12.3, ear_clip: whether a corner is an ear. What an earlier search found is kept, so that a corner is looked at anew only where its neighbours changed.
+// FORMAT 12.3, ear_clip: whether a corner is an ear. What an earlier search found is kept: a corner is looked at anew only where its neighbours changed.
 ghost use Rattle.std.specs.Prelude.{◌≡◌, false, ◌&&◌, [], ◌∷◌, ℕ, ◌+◌, ◌-◌, ◌*◌, ◌%◌, ◌^◌, ◌≤◌, ◌<◌, eqb, length, get_or, set};
 ghost use Rattle.std.proofs.lemmas.List.Edits.{sets};
 ghost use Rattle.std.specs.Float.Ieee.{le};
@@ -155,15 +155,13 @@ impl<'a> Field<'a> {
         requires { (from ≤ to) × (to ≤ from + 16) × (to ≤ length self.now.left.now) }
         ensures { result ≡ found to (first (hits self.now.left.now (λ j. in_way (dot_of (xy self.now.p.now) j) self.now.t.a self.now.t.b self.now.t.c)) (to - from) from) }
     {
-        if BLOCK <= to {
-            if self.count_near(to - BLOCK, to) == 0 {
-                return None;
-            }
+        if BLOCK <= to && self.count_near(to - BLOCK, to) == 0 {
+            return None;
         }
         self.scan(from, to)
     }
 
-    // As `scan`, of all corners from `from` on, block by block.
+    // As `scan`, of all corners from `from` on, block by block. The loop carries that none lies before `k`: a `find_map` would say it of each block alone.
     fn scan_blocks(&self, from: usize) -> Option<usize>
         ensures { result ≡ found (length self.now.left.now) (first (hits self.now.left.now (λ j. in_way (dot_of (xy self.now.p.now) j) self.now.t.a self.now.t.b self.now.t.c)) (length self.now.left.now - from) from) }
     {
@@ -256,7 +254,8 @@ fn word_of(f: Finding) -> u32
 }
 
 // What ears are looked for in: the coordinates of a polygon; a word for each corner, 1 while it is left; and three words for each of what an
-// earlier search found: its two neighbours then, and the finding.
+// earlier search found: its two neighbours then, and the finding. That what is kept is so (`Sound`) stays a clause: a row is written word by word, so it holds
+// between the searches and not within one, and `store` would have to ask that what it writes is so.
 #[derive(Drop)]
 pub struct Search<'p, 'w> {
     pub p: &'p [f32],
@@ -363,7 +362,7 @@ impl<'p, 'w> Search<'p, 'w> {
         self.decide(q, f)
     }
 
-    // The place of the first ear in a working order.
+    // The place of the first ear in a working order. No `find`: a closure over `&mut self` would have to carry all that `is_ear` asks and keeps.
     pub fn first_ear(&mut self, order: &[u32]) -> Option<usize>
         requires { Tells self.old.left.now order.now × Sound (xy self.old.p.now) self.old.left.now self.old.memo.now }
         ensures { (result ≡ found (length order.now) (first_ear (xy self.old.p.now) order.now))

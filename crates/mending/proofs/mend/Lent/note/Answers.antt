@@ -1,10 +1,9 @@
-use Rattle.mending.specs.Mend.{noted}
+use mathlib.Core.Path.{sym, ◌∙◌}
+use Rattle.mending.proofs.Table.{noted_some, noted_none}
 use Rattle.mending.proofs.mend.Lent.note.Goals as goal
 
-pub returns-in_default : goal.returns-in_default
-unfolding noted
-returns-in_default c = rw (← c.triangle_normal.ensures, c.in_default.is)
+pub returns-then-is_some : goal.returns-then-is_some
+returns-then-is_some c = c.mark_all.ensures ∙ noted_some _ _ _ _ _ _ c.triangle_normal.ensures (sym c.is_some.ensures ∙ c.if-is_some.true)
 
-pub returns : goal.returns
-unfolding noted
-returns c = rw (c.mark_all.ensures, ← c.triangle_normal.ensures, c.in-Some.is)
+pub returns-else-is_some : goal.returns-else-is_some
+returns-else-is_some c = noted_none _ _ _ _ _ _ c.triangle_normal.ensures (sym c.is_some.ensures ∙ c.if-is_some.false)

@@ -1,4 +1,5 @@
-use mathlib.Core.Path.{refl}
+use mathlib.Core.Path.{refl, ap, ◌∙◌}
+use Rattle.std.specs.ControlFlow.{continue_value}
 use Rattle.normals.specs.Rows.{sum_in}
 use Rattle.normals.proofs.Arms.{unit_own, unit_every, unit_bound, unit_bound_none}
 use Rattle.normals.proofs.Summing.{sums_read, rows_read}
@@ -17,7 +18,7 @@ invariant_of-near c = record { mirrored = rows_read _ _ c.requires.0 c.in-Bound.
 
 pub returns-in-Bound : goal.returns-in-Bound
 returns-in-Bound c =
-    unit_bound _ _ _ _ _ _ c.in-Bound.is _ c.requires.3 _ _ c.in-Some.is c.sum_near.ensures c.normalize.ensures
+    unit_bound _ _ _ _ _ _ c.in-Bound.is _ c.requires.3 _ _ (c.branch-u.ensures ∙ ap continue_value c.in_ok-u-in-Bound.is) c.sum_near.ensures c.normalize.ensures
 
-pub returns-in_default : goal.returns-in_default
-returns-in_default c = unit_bound_none _ _ _ _ _ _ c.in-Bound.is _ c.requires.3 c.in_default.is refl
+pub returns-in_err-u-in-Bound : goal.returns-in_err-u-in-Bound
+returns-in_err-u-in-Bound c = c.from_residual.ensures ∙ unit_bound_none _ _ _ _ _ _ c.in-Bound.is _ c.requires.3 (c.branch-u.ensures ∙ ap continue_value c.in_err-u-in-Bound.is) refl
