@@ -8,14 +8,15 @@ use block::{CornerNumber, VertexNumber};
 use lists::{get, put_all};
 use tables::{narrow, wide};
 
-// The corner that place k names before it is renamed, counted from the face's first corner.
+// The corner that place k names before it is renamed, counted from the face's first corner. This and `vertex_of` are kept: each is used three times,
+// and its contract says which word it read.
 fn corner_at(s: &[u32], k: usize) -> CornerNumber
     ensures { result.0 ≡ get_or s.now k 0 }
 {
     CornerNumber(wide(get(s, k)))
 }
 
-// Its vertex. `named` starts at the face's first corner.
+// Its vertex, whose number fits a word, as the contract says. `named` starts at the face's first corner.
 fn vertex_of(named: &[u32], c: CornerNumber) -> VertexNumber
     ensures { (result.0 ≡ get_or named.now c.0 0) × (result.0 < 2 ^ 32) }
 {

@@ -3,10 +3,10 @@
 ghost use Rattle.std.specs.Prelude.{◌≡◌, ◌≤◌};
 ghost use Rattle.tables.specs.Layout.{most, plan_of};
 
-// What writes the tables takes their words, `&mut`, beside the plan; what reads them is a method of `Tables`. A struct for the writing would have to say in each
-// function that its words are still the same reference, and its plan the same plan.
-// `ring` is 0 for none, and no Option: 0 is the one width by which no remainder is taken, so `gathered` would need the same test for a `Some` of 0, or each
-// plan a fact that there is none.
+// What writes the tables takes their words, `&mut`, beside the plan; what reads them is a method of `Tables`. A struct for the writing would have to say in
+// each function that its words are still the same reference, and its plan the same plan.
+// `ring` is 0 for none, and no Option: 0 is the one width by which no remainder is taken, so what gathers the corners would need the same test for a `Some`
+// of 0, or each plan a fact that there is none.
 #[derive(Clone, Copy)]
 pub struct Plan {
     pub spots: usize,

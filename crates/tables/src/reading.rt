@@ -35,8 +35,8 @@ fn gathered(ring: usize, p: PointNumber) -> PointNumber
     p
 }
 
-// The words of the tables, with where each table lies in them. That they hold a soup (`Sound`) stays a clause of what reads a face: `gather_of` and `owner_of`
-// ask for less, and the type may not ask them for more.
+// The words of the tables, with where each table lies in them. That they hold a soup (`Sound`) stays a clause: `gather_of` and `owner_of` ask for less, and a
+// second type over this one would have the one method `stretch_of`; most of what asks for `Sound` writes the words too.
 #[derive(Clone, Copy)]
 pub struct Tables<'a> {
     pub work: &'a [u32],

@@ -20,8 +20,7 @@ pub fn fill(work: &mut [u32], a: usize, n: usize, v: u32)
     work[a..a + n].fill(v);
 }
 
-// Every word is 0. This and `clear_floats` differ in the type and in the value: one function of both would be the library's `fill` by another name, and
-// would no longer say which value an unused place has.
+// Every word is 0. This and `clear_floats` are two, and not one that takes the value: each says which value an unused place has.
 pub fn clear_words(work: &mut [u32])
     ensures { work.new ≡ replicate (length work.old) 0 }
 {

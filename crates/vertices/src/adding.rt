@@ -23,7 +23,7 @@ pub fn link(work: &mut [u32], t: Chains, n: VertexNumber, bucket: Bucket)
     work[head] = word_of(n);
 }
 
-// Vertex n is made: of the point and the words of a corner, in a bucket.
+// Vertex n is made: of the point and the words of a corner, in a bucket. Over slices, as `vertex` below.
 pub fn append(
     sources: &mut [u32],
     positions: &mut [u32],
@@ -54,7 +54,8 @@ pub fn append(
 }
 
 // The number of the vertex of a corner: the one made before with its point and words, or a new one, the n-th (PolyMesh::build, or_insert_with).
-// The slices one by one, as `corners::all_vertices` has them: each is read or written at every corner, and a struct of `&mut` would have to promise that each stays the caller's (`lent::Buffers` has two more).
+// The slices one by one, as `corners::all_vertices` has them: each is read or written at every corner, and a struct of `&mut` would have to promise that each
+// stays the caller's (`lent::Buffers` has two more).
 pub fn vertex(
     sources: &mut [u32],
     positions: &mut [u32],
