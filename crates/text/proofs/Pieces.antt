@@ -76,13 +76,13 @@ pub printed : {x y : Writer} {s m : List ℕ} {k : ℕ} → x.at ≡ 0 → Write
 printed {x} {y} {s} {m} {k} e v q =
     let w : Wrote x.out.now x.at s k m y.at = left_in v q in
     of (rw e at w) where
-  of : {l m : List ℕ} {k r : ℕ} → Wrote l 0 s k m r → Printed l s m r
-  of {l} w =
-    record {
-      bytes = w.bytes;
-      long = w.next ∙ zero-add (length s);
-      whole = λ h. w.bytes ∙ sets-eq s l 0 (omega arith) ∙ ap (λ (q : ℕ). s ++ drop q l) (zero-add (length s));
-    }
+      of : {l m : List ℕ} {k r : ℕ} → Wrote l 0 s k m r → Printed l s m r
+      of {l} w =
+          record {
+            bytes = w.bytes;
+            long = w.next ∙ zero-add (length s);
+            whole = λ h. w.bytes ∙ sets-eq s l 0 (omega arith) ∙ ap (λ (q : ℕ). s ++ drop q l) (zero-add (length s));
+          }
 
 -- the first k bytes of the buffer m are the whole text
 pub record Shown (s m : List ℕ) (k : ℕ) : Type 0 where
