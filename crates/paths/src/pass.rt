@@ -1,5 +1,5 @@
 // FORMAT 19.4: the triangles one by one, each for all the paths.
-ghost use Rattle.std.specs.Prelude.{◌≡◌, false, ◌||◌, ℕ, ◌/◌, ◌≤◌, ◌<◌, eqb, leb, length};
+ghost use Rattle.std.specs.Prelude.{◌≡◌, false, ◌||◌, ◌/◌, ◌≤◌, ◌<◌, eqb, leb, length};
 ghost use Rattle.lists.specs.Loops.{any, run};
 ghost use Rattle.paths.specs.Pass.{next_answer, step_at, updated, turn_of};
 ghost use Rattle.paths.specs.Pass.{hit_count, any_clear};
@@ -8,19 +8,17 @@ use crate::intersect::{Triangle, hits};
 use crate::rays::{Rays, ray_at};
 use crate::triangles::triangle_at;
 
-// The answer of a path after a triangle: the first that was hit stays.
+// The answer of a path after a triangle: the first that was hit stays. 0 is FORMAT 19's word for a clear path.
 fn answer_after(hit: bool, number: u64, answer: u64) -> u64
     ensures { result ≡ next_answer hit number answer }
 {
-    if hit {
-        if answer == 0 {
-            return number;
-        }
+    if hit && answer == 0 {
+        return number;
     }
     answer
 }
 
-// That of path j.
+// That of path j. Rays, triangle and number stay three arguments: `count_hits` takes two of them, and the definition takes them one by one.
 fn verdict(rays: &Rays, j: usize, tri: Triangle, number: u64, answer: u64) -> u64
     requires { j < 64 }
     ensures { result ≡ step_at rays.now tri number j answer }
@@ -60,7 +58,7 @@ fn any_clear(answers: &[u64]) -> bool
 }
 
 // One triangle for all the paths. Few triangles hit any, and only then are answers looked at.
-// It answers false where no path is left clear.
+// It answers false where no path is left clear. The bound is a clause as at `mark`.
 fn turn(rays: &Rays, tri: Triangle, number: u64, answers: &mut [u64]) -> bool
     requires { length answers.old ≤ 64 }
     ensures { (answers.new
@@ -75,7 +73,7 @@ fn turn(rays: &Rays, tri: Triangle, number: u64, answers: &mut [u64]) -> bool
     any_clear(answers)
 }
 
-// All triangles for the paths, which have an answer each.
+// All triangles for the paths, which have an answer each. The bound is a clause as at `mark`.
 pub fn pass(positions: &[u32], indices: &[u32], rays: &Rays, answers: &mut [u64])
     requires { (any (leb (length positions.now / 3)) indices.now ≡ false)
         × (length answers.old ≤ 64) }

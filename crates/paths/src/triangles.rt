@@ -35,7 +35,8 @@ fn position_of(positions: &[u32], v: VertexNumber) -> V3
     point_at(positions, v.0)
 }
 
-// Triangle t of a mesh whose indices all name a vertex.
+// Triangle t of a mesh whose indices all name a vertex. The slices stay two: a struct with that fact would serve here and in `pass` alone, for the call
+// takes slices, and `is_refused` decides the fact.
 pub fn triangle_at(positions: &[u32], indices: &[u32], t: usize) -> Triangle
     requires { (any (leb (length positions.now / 3)) indices.now ≡ false)
         × (t < length indices.now / 3) }

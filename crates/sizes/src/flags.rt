@@ -16,13 +16,7 @@ pub struct Flags {
 fn makes_colours(kind: Kind, colors: bool) -> bool
     ensures { result ≡ by_kind kind colors colors colors false (λ g. colors) }
 {
-    match kind {
-        Kind::FaceSet => colors,
-        Kind::LineSet => colors,
-        Kind::Grid => colors,
-        Kind::Extrusion => false,
-        Kind::Primitives(_) => colors,
-    }
+    colors && !matches!(kind, Kind::Extrusion)
 }
 
 // A line set is always solid and unlit.

@@ -10,7 +10,7 @@ use extrusion::Extruded;
 use primitives::Source;
 use tables::wide;
 
-// They are counted once a call, and handed on: what the tables of listed faces are planned by is counted with them.
+// P, C and N are counted once a call, and handed on; and with them the faces, by which the tables of listed faces are planned.
 #[derive(Clone, Copy)]
 pub struct Sizes {
     pub points: usize,

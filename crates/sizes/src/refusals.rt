@@ -29,11 +29,9 @@ pub fn is_no_shape(h: Header) -> bool
 {
     let kind = h.kind;
     match kind {
-        Kind::FaceSet => false,
-        Kind::LineSet => false,
         Kind::Grid => is_no_grid(h),
         Kind::Extrusion => is_no_extrusion(h),
-        Kind::Primitives(_) => false,
+        Kind::FaceSet | Kind::LineSet | Kind::Primitives(_) => false,
     }
 }
 
@@ -54,7 +52,8 @@ fn shape_verdict(block: &[u8], h: Header) -> Result<Sizes, Refusal>
 }
 
 // All rows up to 7. Block and header are two arguments, and no struct with the fact that the header is the block's: it would spare a clause here, at
-// `shape_verdict` and at geometry's `verdict_for`, and none in `kinds`, where nothing is asked of the two, or more than that (`Known`, `Given`).
+// `shape_verdict` and at geometry's `verdict_for` and `make`, and all but `verdict_for` would take it apart again for functions that ask nothing of the
+// two, or more than that (`Known`, `Asked`).
 pub fn verdict_to_7(block: &[u8], h: Header) -> Result<Sizes, Refusal>
     requires { h ≡ header_of block.now }
     ensures { Judged block.now h (first_of (block_rows block.now h ++ shape_rows block.now h)) result }

@@ -1,7 +1,7 @@
 // The whole text of an answer (FORMAT 14), from the start of the buffer.
 ghost use Rattle.std.specs.Prelude.{◌+◌, ◌^◌, ◌≤◌, ◌<◌, ◌≡◌};
 ghost use Rattle.text.specs.Wrote.{Writes, Printed};
-ghost use Rattle.text.specs.Answer.{one_if, counts_text, flags_text, head_line, mesh_text, refusal_text, long_text};
+ghost use Rattle.text.specs.Answer.{counts_text, flags_text, head_line, mesh_text, refusal_text, long_text};
 
 use crate::lines::{Parts, VertexSlices};
 use crate::writer::Writer;

@@ -1,5 +1,5 @@
 // The digits of a number (FORMAT 14).
-ghost use Rattle.std.specs.Prelude.{◌≡◌, ◌&&◌, ◌+◌, ◌^◌, ◌≤◌, ◌<◌, ltb};
+ghost use Rattle.std.specs.Prelude.{◌≡◌, ◌&&◌, ◌+◌, ◌^◌, ◌≤◌, ◌<◌};
 ghost use Rattle.text.specs.Wrote.{Writes};
 ghost use Rattle.text.specs.Digits.{digit_byte, digits};
 
@@ -17,7 +17,8 @@ fn digit_byte(d: usize) -> u8
 }
 
 impl Writer<'_> {
-    // The last k digits of n, or the fewest that it has where `short` is set: a flag, for the two differ in one test of each turn, and share what is proved of the rest.
+    // The last k digits of n, or the fewest that it has where `short` is set: a flag, for the two differ in one test of each turn, and share what is
+    // proved of the rest.
     pub fn put_digits(&mut self, short: bool, base: usize, k: usize, n: usize)
         requires { (self.old.at + k ≤ 2 ^ 50) × (0 < base) × (base ≤ 16) }
         ensures { Writes self.old (digits short base k n) k self.new }

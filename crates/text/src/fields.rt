@@ -7,7 +7,8 @@ use crate::writer::Writer;
 use lists::get;
 
 impl Writer<'_> {
-    // A word where `word` is set, else a number. A flag here and in `put_fields`, and no closure: that would take the writer and the number to choose between two lines.
+    // A word where `word` is set, else a number. A flag here and in `put_fields`, and no closure: that would take the writer and the number to choose
+    // between two lines.
     pub(crate) fn put_field(&mut self, word: bool, n: usize)
         requires { self.old.at + 11 ≤ 2 ^ 50 }
         ensures { Writes self.old (field_of word n) 11 self.new }
@@ -20,7 +21,7 @@ impl Writer<'_> {
         }
     }
 
-    // The m elements of a list from a on.
+    // The m elements of a list from a on. What is past the end of the list is read as 0, so no slice of it is walked.
     pub(crate) fn put_fields(&mut self, word: bool, list: &[u32], a: usize, m: usize)
         requires { (self.old.at + 11 * m ≤ 2 ^ 50) × (a + m ≤ 2 ^ 50) }
         ensures { Writes self.old (fields (field_of word) list.now a m) (11 * m) self.new }

@@ -1,4 +1,5 @@
-// The text of an answer (FORMAT 14), into a lent buffer. What the buffer has no room for is not written, and the number returned is the length of the whole text.
+// The text of an answer (FORMAT 14), into a lent buffer. What the buffer has no room for is not written, and the number returned is the length of the
+// whole text.
 #![tactic(auto)]
 
 mod answer;

@@ -4,7 +4,8 @@ ghost use Rattle.text.specs.Wrote.{Writes};
 
 use lists::put;
 
-// What the buffer has no room for is counted, and not written.
+// What the buffer has no room for is counted, and not written. The bound of `at` is a clause of each method and no fact of the type: each asks for the
+// room of its own text, so that one bound for all would not do.
 #[derive(Drop)]
 pub struct Writer<'a> {
     pub out: &'a mut [u8],

@@ -6,10 +6,6 @@ pub returns-then-answer-eq0 : goal.returns-then-answer-eq0
 unfolding next_answer
 returns-then-answer-eq0 c = search (rules, tests)
 
-pub returns-else-answer-eq0 : goal.returns-else-answer-eq0
+pub returns : goal.returns
 unfolding next_answer
-returns-else-answer-eq0 c = search (rules, tests)
-
-pub returns-else-hit : goal.returns-else-hit
-unfolding next_answer
-returns-else-hit c = search (rules, tests)
+returns c = search (rules, tests)

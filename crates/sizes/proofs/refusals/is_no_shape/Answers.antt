@@ -1,13 +1,6 @@
+use Rattle.std.proofs.Common.{rules, tests}
 use Rattle.mesh.specs.Sizes.{is_no_shape}
 use Rattle.sizes.proofs.refusals.is_no_shape.Goals as goal
-
-pub returns-in-FaceSet : goal.returns-in-FaceSet
-unfolding is_no_shape
-returns-in-FaceSet c = rw c.in-FaceSet.is
-
-pub returns-in-LineSet : goal.returns-in-LineSet
-unfolding is_no_shape
-returns-in-LineSet c = rw c.in-LineSet.is
 
 pub returns-in-Grid : goal.returns-in-Grid
 unfolding is_no_shape
@@ -17,6 +10,6 @@ pub returns-in-Extrusion : goal.returns-in-Extrusion
 unfolding is_no_shape
 returns-in-Extrusion c = rw c.in-Extrusion.is c.is_no_extrusion.ensures
 
-pub returns-in-Primitives : goal.returns-in-Primitives
+pub returns-in-FaceSet : goal.returns-in-FaceSet
 unfolding is_no_shape
-returns-in-Primitives c = rw c.in-Primitives.is
+returns-in-FaceSet c = search (rules, tests)
