@@ -14,11 +14,9 @@ fn makes_texture(h: Header) -> bool
 {
     let kind = h.kind;
     match kind {
-        Kind::FaceSet => h.need_uvs || h.texture_points,
         Kind::LineSet => false,
-        Kind::Grid => h.need_uvs || h.texture_points,
         Kind::Extrusion => h.need_uvs,
-        Kind::Primitives(_) => h.need_uvs || h.texture_points,
+        Kind::FaceSet | Kind::Grid | Kind::Primitives(_) => h.need_uvs || h.texture_points,
     }
 }
 

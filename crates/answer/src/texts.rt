@@ -4,7 +4,6 @@ ghost use Rattle.answer.specs.Text.{block_text, answer_text};
 
 use crate::lending::lend_and_convert;
 use crate::parts::parts_in;
-use lent::Answer;
 use text::{put_long, put_mesh, put_refusal};
 
 // The longest input that is looked at.
@@ -23,14 +22,16 @@ pub fn block_text(block: &[u8], out: &mut [u8]) -> usize
         Err(refusal) => put_refusal(u32::from(refusal), out),
         Ok(report) => {
             let parts = parts_in(block);
-            let positions = left.positions;
-            let normals = left.normals;
-            let colours = left.colours;
-            let textures = left.textures;
-            let sources = left.sources;
-            let indices = left.indices;
             put_mesh(
-                report, parts, &positions, &normals, &colours, &textures, &sources, &indices, out,
+                report,
+                parts,
+                &left.positions,
+                &left.normals,
+                &left.colours,
+                &left.textures,
+                &left.sources,
+                &left.indices,
+                out,
             )
         }
     }

@@ -24,7 +24,7 @@ pub const WHITE: Words4 = Words4 {
     a: 0x3f80_0000,
 };
 
-// The lengths of the eight lent slices. They are all that a refusal depends on, and it is defined by them (FORMAT 3): beside each slice more would be lent than is read.
+// The lengths of the eight lent slices: of what is lent, a refusal is defined by these alone (FORMAT 3).
 #[derive(Clone, Copy)]
 pub struct Lengths {
     pub positions: usize,

@@ -22,6 +22,7 @@ fn make(call: Call, block: &[u8], h: Header, z: Sizes, b: &mut Buffers<'_>) -> R
     let missing = call.colour;
     let n = make_kind(block, h, z, s, missing, b);
     let f = sizes::flags_of(h);
+    // FORMAT 5's result has the five side by side: two are counted of what was made, three go by the header alone.
     Report {
         vertices: n.vertices,
         indices: n.indices,

@@ -14,8 +14,8 @@ returns-then-is_finite-2 c =
 pub returns : goal.returns
 unfolding axis_turn
 returns c =
-    elim c.else-is_finite.branch
-      [ else-is_finite-via-then-is_finite+else-is_finite-2 w ↦
+    elim c.else-is_finite.branch [
+      | else-is_finite-via-then-is_finite+else-is_finite-2 w ↦
           rw (c.identity-2.ensures, ← c.normalize.ensures, c.in-Some.is, ← c.is_finite.ensures, w.if-is_finite.true, ← w.is_finite-then-is_finite.ensures, w.if-is_finite-2.false)
       | else-is_finite-via-else-is_finite w ↦ rw (c.identity-2.ensures, ← c.normalize.ensures, c.in-Some.is, ← c.is_finite.ensures, w.if-is_finite.false)
-      ]
+    ]
