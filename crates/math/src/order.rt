@@ -8,7 +8,7 @@ fn is_zero(x: f32) -> bool
     x == 0.0
 }
 
-// f32::abs. A name of its own: the contract says it by `magnitude` of specs/Order, by which the laws go.
+// f32::abs. A name of its own: the contract says it by `magnitude` of specs/Order.
 pub fn abs(x: f32) -> f32
     ensures { result ≡ magnitude x }
 {

@@ -75,7 +75,7 @@ fn word_of(n: usize) -> u32
     (n + 1) as u32
 }
 
-// Triangle n is noted where none is. Its bound stays a clause down to `word_of`: `n + 1 < 2^32` is of one number, which nothing else goes with.
+// Triangle n is noted where none is. Its bound stays a clause down to `word_of`: `n + 1 < 2^32` is of `n` alone.
 fn mark(table: &mut [u32], v: VertexNumber, n: usize)
     requires { n + 1 < 2 ^ 32 }
     ensures { table.new ≡ marked table.old v.0 n }

@@ -27,7 +27,7 @@ struct Tally {
 // Case after case, with the slices as the case before left them.
 fn run_cases<R: Read>(rt: &impl Print, from: &mut R, room: &mut Room) -> io::Result<Tally> {
     let mut tally = Tally { cases: 0, same: 0 };
-    // More cases than any stored file has. There is a bound, as the end of every loop is to be proved, and that a file ends is not known here.
+    // A bound that no stored file comes to: the end of every loop is to be proved, and nothing says of a reader that it ends.
     for _ in 0..1000000000u32 {
         match judge_next(from, room) {
             Ok(Some(true)) => tally.same = tally.same.saturating_add(1),
