@@ -19,7 +19,9 @@ for crate in lists "${tried[@]}"; do
 done
 # The code that those proofs are of, and the laws that they cite, as they were when the proofs were written.
 cp tools/cases/lists/Cuts.laws "$work/copy/crates/lists/proofs/Cuts.antt"
-cp tools/cases/math/order.code "$work/copy/crates/math/src/order.rt"
+for part in order quaternion; do
+    cp tools/cases/math/$part.code "$work/copy/crates/math/src/$part.rt"
+done
 cp tools/cases/math/Compare.laws "$work/copy/crates/math/proofs/Compare.antt"
 cp tools/cases/bits/lib.code "$work/copy/crates/bits/src/lib.rt"
 for crate in "${tried[@]}"; do
