@@ -16,11 +16,11 @@ pub struct Seen {
     pub c: u32,
 }
 
+// `replay` lends the same lengths: it is another program, and a struct for both would need a crate of its own.
+// `answer` lends for 256, and no struct over a const N serves it too: a type takes no 3 * N.
 pub fn convert_full(block: &[u8]) -> Seen
     ensures { Shows block.now result }
 {
-    // `replay` lends the same lengths: it is another program, and a struct for both would need a crate of its own.
-    // `answer` lends for 256, and no struct over a const N serves it too: a type takes no 3 * N.
     let mut positions = [0u32; 3 * LIMIT];
     let mut normals = [0u32; 3 * LIMIT];
     let mut colours = [0u32; 4 * LIMIT];
