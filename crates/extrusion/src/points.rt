@@ -9,7 +9,7 @@ use crate::axes::{PlaneAxes, axes_by, pick_z};
 use crate::frames::Spine;
 use crate::reading::{Entries, Extruded};
 use block::Pair;
-use math::{Quat, V3};
+use math::{NO_TURN, Quat, V3};
 
 fn scale_at(scales: &Entries<Pair>, i: usize) -> Pair
     ensures { result ≡ scale_at scales.now i }
@@ -20,15 +20,7 @@ fn scale_at(scales: &Entries<Pair>, i: usize) -> Pair
 fn turn_at(turns: &Entries<Quat>, i: usize) -> Quat
     ensures { result ≡ turn_at turns.now i }
 {
-    turns.at_or(
-        i,
-        Quat {
-            x: 0.0,
-            y: 0.0,
-            z: 0.0,
-            w: 1.0,
-        },
-    )
+    turns.at_or(i, NO_TURN)
 }
 
 // A cross-section point, scaled and turned.

@@ -2,14 +2,13 @@
 ghost use Rattle.std.specs.Prelude.{◌≡◌, ◌+◌, ◌*◌, ◌≤◌, ◌<◌, length};
 ghost use Rattle.bits.specs.Bits.{entries};
 ghost use Rattle.block.specs.Extents.{list_bytes};
-ghost use Rattle.mesh.specs.Words.{words3};
 ghost use Rattle.mesh.specs.Grid.{x_dimension, z_dimension, step_word, grid_point, grid_points};
 ghost use Rattle.lists.specs.Parts.{spliced};
 
 use crate::sided::GridBlock;
 use bits::Words3;
 use block::{Settings, list_part};
-use lists::put_all;
+use mesh::put_words3;
 
 // The bits of n steps of a spacing.
 fn step_word(spacing: f32, n: usize) -> u32
@@ -17,13 +16,6 @@ fn step_word(spacing: f32, n: usize) -> u32
     ensures { result ≡ step_word spacing n }
 {
     math::bits_of(spacing * math::whole_float(n))
-}
-
-fn put3(work: &mut [u32], a: usize, w: Words3)
-    requires { a + 3 ≤ length work.old }
-    ensures { work.new ≡ spliced work.old a (words3 w) }
-{
-    put_all(work, a, &[w.x, w.y, w.z]);
 }
 
 impl<'a> GridBlock<'a> {
@@ -50,7 +42,7 @@ impl<'a> GridBlock<'a> {
         let heights = list_part(self.block, self.header, 3);
         // Not parts' `put_words`, a row a point: grid does not stand on parts, which is of the solids. `put_each` would make each point three times.
         for k in 0..n {
-            put3(work, at + 3 * k, self.grid_point(heights, s, k));
+            put_words3(work, at + 3 * k, self.grid_point(heights, s, k));
         }
     }
 }

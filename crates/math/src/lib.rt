@@ -9,7 +9,7 @@ pub mod vector;
 pub mod word;
 
 pub use order::{abs, max, min};
-pub use quaternion::{Quat, axis_turn, quat_between, quat_rotate};
+pub use quaternion::{NO_TURN, Quat, axis_turn, quat_between, quat_rotate};
 pub use square_root::{Four, root};
 pub use vector::{
     V3, X_AXIS, Y_AXIS, Z_AXIS, add, cross, dot, len, normalize, normalize_four, scale, sub,

@@ -1,6 +1,6 @@
 // FORMAT 9.5: unit quaternions, and the turns made of them.
 ghost use Rattle.std.specs.Prelude.{◌≡◌};
-ghost use Rattle.math.specs.Quaternion.{rotated, identity, axis_turn, other_axis, half_turn, shortest_arc, turn_to, between};
+ghost use Rattle.math.specs.Quaternion.{rotated, axis_turn, other_axis, half_turn, shortest_arc, turn_to, between};
 
 use crate::order::abs;
 use crate::square_root::root;
@@ -15,6 +15,14 @@ pub struct Quat {
     pub w: f32,
 }
 
+// The quaternion of no turn.
+pub const NO_TURN: Quat = Quat {
+    x: 0.0,
+    y: 0.0,
+    z: 0.0,
+    w: 1.0,
+};
+
 pub fn quat_rotate(q: Quat, v: V3) -> V3
     ensures { result ≡ rotated q v }
 {
@@ -28,23 +36,13 @@ pub fn quat_rotate(q: Quat, v: V3) -> V3
     add(add(v, scale(t, w)), cross(u, t))
 }
 
-fn identity() -> Quat
-    ensures { result ≡ identity }
-{
-    Quat {
-        x: 0.0,
-        y: 0.0,
-        z: 0.0,
-        w: 1.0,
-    }
-}
-
 // axis_angle_to_quat, from the sine and the cosine of half the angle.
+#[tactic(auto, unfolding(crate::specs::Quaternion::axis_turn))]
 pub fn axis_turn(axis: V3, s: f32, c: f32) -> Quat
     ensures { result ≡ axis_turn axis s c }
 {
     let Some(u) = normalize(axis) else {
-        return identity();
+        return NO_TURN;
     };
     if is_finite(s) && is_finite(c) {
         return Quat {
@@ -54,7 +52,7 @@ pub fn axis_turn(axis: V3, s: f32, c: f32) -> Quat
             w: c,
         };
     }
-    identity()
+    NO_TURN
 }
 
 // The X axis, or the Y axis where x is not well below 1.
@@ -68,6 +66,7 @@ fn other_axis(x: f32) -> V3
 }
 
 // Half a turn about an axis across f.
+#[tactic(auto, unfolding(crate::specs::Quaternion::half_turn))]
 fn half_turn(f: V3) -> Quat
     ensures { result ≡ half_turn f }
 {
@@ -87,6 +86,7 @@ fn half_turn(f: V3) -> Quat
     }
 }
 
+#[tactic(auto, unfolding(crate::specs::Quaternion::shortest_arc))]
 fn shortest_arc(c: V3, w: f32) -> Quat
     ensures { result ≡ shortest_arc c w }
 {
@@ -99,12 +99,13 @@ fn shortest_arc(c: V3, w: f32) -> Quat
     }
 }
 
+#[tactic(auto, unfolding(crate::specs::Quaternion::turn_to))]
 fn turn_to(f: V3, t: V3) -> Quat
     ensures { result ≡ turn_to f t }
 {
     let d = dot(f, t);
     if d > 1.0 - 1e-7 {
-        return identity();
+        return NO_TURN;
     }
     if d < -1.0 + 1e-7 {
         return half_turn(f);
@@ -113,14 +114,15 @@ fn turn_to(f: V3, t: V3) -> Quat
 }
 
 // The shortest turn that takes one direction to another.
+#[tactic(auto, unfolding(crate::specs::Quaternion::between))]
 pub fn quat_between(from: V3, to: V3) -> Quat
     ensures { result ≡ between from to }
 {
     let Some(f) = normalize(from) else {
-        return identity();
+        return NO_TURN;
     };
     let Some(t) = normalize(to) else {
-        return identity();
+        return NO_TURN;
     };
     turn_to(f, t)
 }

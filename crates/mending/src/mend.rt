@@ -12,9 +12,9 @@ ghost use Rattle.mending.specs.Mend.{lent_frame, lent_keys, mended_words, triang
 
 use bits::Words3;
 use block::VertexNumber;
-use lists::{get, put, put_all};
+use lists::{get, put};
 use math::{V3, Y_AXIS};
-use mesh::{floats_of, words_of};
+use mesh::{floats_of, put_words3, words_of};
 
 // ---- the words of a vertex
 
@@ -36,7 +36,7 @@ fn put_words(out: &mut [u32], v: VertexNumber, w: Words3)
     requires { v.0 * 3 + 3 ≤ length out.old }
     ensures { out.new ≡ spliced out.old (v.0 * 3) (words3 w) }
 {
-    put_all(out, v.0 * 3, &[w.x, w.y, w.z]);
+    put_words3(out, v.0 * 3, w);
 }
 
 // ---- what is lent

@@ -5,4 +5,4 @@ pub mod texture;
 pub mod words;
 
 pub use texture::{Axis, Fit, Span};
-pub use words::{floats_of, put_vector, words_of};
+pub use words::{floats_of, put_vector, put_words3, words_of};

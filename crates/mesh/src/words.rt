@@ -28,11 +28,18 @@ pub fn words_of(v: V3) -> Words3
     }
 }
 
+// Three words, from place k on.
+pub fn put_words3(words: &mut [u32], k: usize, w: Words3)
+    requires { k + 3 ≤ length words.old }
+    ensures { words.new ≡ spliced words.old k (words3 w) }
+{
+    put_all(words, k, &[w.x, w.y, w.z]);
+}
+
 // The words of v, from place k on.
 pub fn put_vector(words: &mut [u32], k: usize, v: V3)
     requires { k + 3 ≤ length words.old }
     ensures { words.new ≡ spliced words.old k (words3 (bits v)) }
 {
-    let w = words_of(v);
-    put_all(words, k, &[w.x, w.y, w.z]);
+    put_words3(words, k, words_of(v));
 }

@@ -16,7 +16,7 @@ loop-k-preserved c =
     let I = c.loop-k.invariant in
     let v = c.grid_point.ensures ∙ ap (λ (x : List ℕ). grid_point c.args.self.now.header c.args.s (entries x) c.loop-k.k) c.list_part-heights.ensures in
     let q : c.loop-k.k < x_dimension c.args.self.now.header * z_dimension c.args.self.now.header = omega (arith, c.loop-k-test.true, I.0) in
-    (I.0, I.1, pieces_more 3 (λ t. refl) (omega (arith, c.requires.1)) I.2 q (omega arith) (ap words3 v) c.put3.ensures)
+    (I.0, I.1, pieces_more 3 (λ t. refl) (omega (arith, c.requires.1)) I.2 q (omega arith) (ap words3 v) c.put_words3.ensures)
 
 pub returns : goal.returns
 unfolding grid_points
