@@ -14,7 +14,6 @@ use Rattle.mesh.specs.Grid.{x_dimension, z_dimension}
 use Rattle.lists.proofs.Lists.{get_or_map_lt}
 use Rattle.tables.specs.declared.layout.Plan.{Plan}
 use Rattle.lists.specs.Parts.{spliced, Kept, TableOf}
-use Rattle.tables.specs.Layout.{most}
 use Rattle.tables.specs.Soups.{point_in, start_in, number_in, place_in}
 use Rattle.tables.specs.Listed.{Use, no_use, Listing, no_listing, uses_at, Beside, Listed}
 use Rattle.lists.proofs.Keep.{kept_then, table_kept}
@@ -77,24 +76,12 @@ tables_held h w t S P T =
 
 -- ---- the code that writes them
 
--- what is asked to write the corners' points from a on
-pub corners_asked : (h : Header) (len room : ℕ) (t : Plan) (xd a : ℕ) → Sides h → Planned h len t → xd ≡ x_dimension h → a + t.count ≤ room
-    → (2 ≤ xd) × (xd ≤ most) × (t.count ≤ most) × ((c : ℕ) → c < t.count → corner_point xd c ≤ most) × (a + t.count ≤ room)
-corners_asked h len room t xd a S P e l = (
-  omega (arith, S.wide),
-  omega (arith, S.width),
-  P.room.few,
-  λ c b. let p = point_below xd (z_dimension h) c (omega (arith, S.wide)) (rw e (omega (arith, P.count))) in
-      let q : xd * z_dimension h ≡ x_dimension h * z_dimension h = ap (λ (x : ℕ). x * z_dimension h) e in omega (arith, S.few),
-  l,
-)
-
 -- one table after another
-pub tables_written : (h : Header) (t : Plan) (xd : ℕ) (w₀ w₁ w₂ w₃ w₄ : List ℕ) → Sides h → Planned h (length w₀) t → xd ≡ x_dimension h
-    → w₁ ≡ spliced w₀ t.corners (tab (corner_point xd) t.count 0) → w₂ ≡ spliced w₁ t.starts (tab (λ (j : ℕ). 4 * j) (t.faces + 1) 0)
-    → w₃ ≡ spliced w₂ t.places (tab (corner_point xd) t.count 0) → w₄ ≡ spliced w₃ t.numbers (tab (λ (j : ℕ). 1 * j) t.faces 0)
+pub tables_written : (h : Header) (t : Plan) (w₀ w₁ w₂ w₃ w₄ : List ℕ) → Sides h → Planned h (length w₀) t
+    → w₁ ≡ spliced w₀ t.corners (tab (corner_point (x_dimension h)) t.count 0) → w₂ ≡ spliced w₁ t.starts (tab (λ (j : ℕ). 4 * j) (t.faces + 1) 0)
+    → w₃ ≡ spliced w₂ t.places (tab (corner_point (x_dimension h)) t.count 0) → w₄ ≡ spliced w₃ t.numbers (tab (λ (j : ℕ). 1 * j) t.faces 0)
     → Beside t w₀ w₄ × Listed w₄ t (grid_listings (x_dimension h) (z_dimension h))
-tables_written h t xd w₀ w₁ w₂ w₃ w₄ S P e A B C D =
+tables_written h t w₀ w₁ w₂ w₃ w₄ S P A B C D =
     let R = P.room in
     let ra : t.corners + t.count ≤ length w₀ = omega arith in
     let K = put_kept w₀ t.corners _ A (length_tab _ _ 0) ra in
@@ -109,7 +96,7 @@ tables_written h t xd w₀ w₁ w₂ w₃ w₄ S P e A B C D =
     let N = put_kept w₃ t.numbers _ D (length_tab _ _ 0) rd in
     let p : Kept t.places w₂ w₄ = kept_then M N (omega arith) in
     let s : Kept t.starts w₁ w₄ = kept_then L p (omega arith) in
-    let T : Tabled xd w₄ t = record {
+    let T : Tabled (x_dimension h) w₄ t = record {
       corners = table_kept t.corners t.count s (omega arith) (put_table w₀ _ ra A);
       starts = table_kept t.starts (t.faces + 1) p (omega arith) (put_table w₁ _ rb B);
       places = table_kept t.places t.count N (omega arith) (put_table w₂ _ rc C);
@@ -120,4 +107,4 @@ tables_written h t xd w₀ w₁ w₂ w₃ w₄ S P e A B C D =
     (beside_then (beside_places w₂ t.places _ C (length_tab _ _ 0) rc (omega arith) (omega arith))
     (beside_numbers w₃ t.numbers _ D (length_tab _ _ 0) rd (omega arith) (omega arith)))) in
     let n : Planned h (length w₄) t = rw b.len P in
-    (b, tables_held h w₄ t S n (rw e at T))
+    (b, tables_held h w₄ t S n T)

@@ -5,7 +5,12 @@ use native.Mathlib.Nat.{mod-lt, div-lt_iff_lt-mul}
 use native.Mathlib.Omega.{arith}
 use lib.ListN.{get_or}
 use Rattle.lists.proofs.Numbers.{cell_turned}
+use Rattle.block.specs.declared.header.Header.{Header}
 use Rattle.mesh.specs.Quads.{quad}
+use Rattle.mesh.specs.Grid.{x_dimension, z_dimension}
+use Rattle.mesh.specs.Sizes.{quad_count}
+use Rattle.tables.specs.Layout.{most}
+use Rattle.grid.specs.Sides.{Sides}
 use Rattle.grid.specs.Listings.{quad_of, corner_point}
 
 -- a quad lies within the grid
@@ -31,6 +36,8 @@ unfolding corner_point
 point_below xd zd c h l = quad_below xd zd (c / 4) h (omega arith) (c % 4)
 
 -- the point of a corner, by its number in the quad
-pub corner_is : (xd c k r : ℕ) → c % 4 ≡ k → r ≡ get_or (quad_of (λ p. p) xd (c / 4)) k 0 → r ≡ corner_point xd c
-unfolding corner_point
-corner_is xd c k r e q = rw e q
+pub corner_put : {h : Header} {xd c k r : ℕ} → Sides h → c < 4 * quad_count h → xd ≡ x_dimension h → c % 4 ≡ k → r ≡ get_or (quad_of (λ p. p) xd (c / 4)) k 0
+    → (r ≡ corner_point (x_dimension h) c) × (r ≤ most)
+corner_put {h} {xd} {c} {k} {r} S l e m q =
+    let p : r ≡ corner_point (x_dimension h) c = unfold corner_point in rw (m, ← e) q in
+    (p, omega (arith, p, point_below (x_dimension h) (z_dimension h) c S.wide l, S.few))

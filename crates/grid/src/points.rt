@@ -7,7 +7,7 @@ ghost use Rattle.lists.specs.Parts.{spliced};
 
 use crate::sided::GridBlock;
 use bits::Words3;
-use block::{Settings, list_part};
+use block::list_part;
 use mesh::put_words3;
 
 // The bits of n steps of a spacing.
@@ -20,11 +20,12 @@ fn step_word(spacing: f32, n: usize) -> u32
 
 impl<'a> GridBlock<'a> {
     // Point k, with its height copied.
-    fn grid_point(&self, heights: &[u8], s: Settings, k: usize) -> Words3
+    fn grid_point(&self, heights: &[u8], k: usize) -> Words3
         requires { (k < x_dimension self.now.header * z_dimension self.now.header) × (k < length (entries heights.now)) }
-        ensures { result ≡ grid_point self.now.header s (entries heights.now) k }
+        ensures { result ≡ grid_point self.now.header self.now.settings (entries heights.now) k }
     {
         let xd = self.x_dimension();
+        let s = self.settings;
         Words3 {
             x: step_word(s.x_spacing, k % xd),
             y: bits::entry(heights, k),
@@ -33,16 +34,16 @@ impl<'a> GridBlock<'a> {
     }
 
     // The points' words from place `at` on, row by row. That the heights are there is asked here alone: neither the faces nor the textures read them.
-    pub fn put_points(&self, s: Settings, work: &mut [u32], at: usize)
+    pub fn put_points(&self, work: &mut [u32], at: usize)
         requires { (x_dimension self.now.header * z_dimension self.now.header ≤ length (entries (list_bytes self.now.block.now self.now.header 3)))
             × (at + 3 * (x_dimension self.now.header * z_dimension self.now.header) ≤ length work.old) }
-        ensures { work.new ≡ spliced work.old at (grid_points self.now.header s (entries (list_bytes self.now.block.now self.now.header 3))) }
+        ensures { work.new ≡ spliced work.old at (grid_points self.now.header self.now.settings (entries (list_bytes self.now.block.now self.now.header 3))) }
     {
         let n = self.x_dimension() * self.z_dimension();
         let heights = list_part(self.block, self.header, 3);
         // Not parts' `put_words`, a row a point: grid does not stand on parts, which is of the solids. `put_each` would make each point three times.
         for k in 0..n {
-            put_words3(work, at + 3 * k, self.grid_point(heights, s, k));
+            put_words3(work, at + 3 * k, self.grid_point(heights, k));
         }
     }
 }

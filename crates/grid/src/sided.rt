@@ -3,14 +3,15 @@ ghost use Rattle.std.specs.Prelude.{◌≡◌};
 ghost use Rattle.mesh.specs.Grid.{x_dimension, z_dimension};
 ghost use Rattle.grid.specs.Sides.{Sides};
 
-use block::Header;
+use block::{Header, Settings};
 use tables::wide;
 
-// The block and its header: each side is 2 or more, and there are no more points than the tables hold.
+// The block, its header and its settings: each side is 2 or more, and there are no more points than the tables hold.
 #[derive(Clone, Copy)]
 pub struct GridBlock<'a> {
     pub block: &'a [u8],
     pub header: Header,
+    pub settings: Settings,
     ghost sides: { Sides header },
 }
 

@@ -8,7 +8,7 @@ ghost use Rattle.grid.specs.Textures.{grid_texture, Placed};
 
 use crate::sided::GridBlock;
 use bits::Words2;
-use block::{PointNumber, Settings};
+use block::PointNumber;
 use tables::{Plan, wide};
 use texture::{Source, put2};
 
@@ -35,28 +35,28 @@ impl<'a> GridBlock<'a> {
     }
 
     // A point's number serves as its place, and there is no coordIndex.
-    fn texture_of(&self, s: Settings, p: PointNumber) -> Words2
+    fn texture_of(&self, p: PointNumber) -> Words2
         requires { p.0 < x_dimension self.now.header * z_dimension self.now.header }
-        ensures { result ≡ grid_texture self.now.block.now self.now.header s p.0 }
+        ensures { result ≡ grid_texture self.now.block.now self.now.header self.now.settings p.0 }
     {
         let source = Source {
             block: self.block,
             coord: &self.block[0..0],
             header: self.header,
-            settings: s,
+            settings: self.settings,
         };
         source.corner_texture(p.0, self.default_of(p))
     }
 
     // The textures of all corners, from place `textures` on: the plan says where their points stand.
-    pub fn put_textures(&self, s: Settings, work: &mut [u32], t: Plan, textures: usize)
+    pub fn put_textures(&self, work: &mut [u32], t: Plan, textures: usize)
         requires { Placed self.now.header work.old t textures }
-        ensures { work.new ≡ spliced work.old textures (texture_words (λ (c : ℕ). grid_texture self.now.block.now self.now.header s (point_in work.old t c)) t.count) }
+        ensures { work.new ≡ spliced work.old textures (texture_words (λ (c : ℕ). grid_texture self.now.block.now self.now.header self.now.settings (point_in work.old t c)) t.count) }
     {
         // A loop of its own, as in texture and extrusion: each reads other tables of `work`, and a shared one would take this body back as a closure.
         for c in 0..t.count {
             let p = PointNumber(wide(work[t.corners + c]));
-            put2(work, textures + 2 * c, self.texture_of(s, p));
+            put2(work, textures + 2 * c, self.texture_of(p));
         }
     }
 }

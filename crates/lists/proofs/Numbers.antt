@@ -1,8 +1,8 @@
 -- Plain numbers: rows and pieces of one width, either this or that, products, widths, places around.
 use mathlib.Core.Path.{◌≡◌, refl, ap, ◌∙◌, sym, subst}
 use mathlib.Core.Bool.{Bool, true, false, cond, not}
-use Prim.Native.Nat.{ℕ, suc, ◌+◌, ◌*◌, ◌/◌, ◌%◌, ◌≤◌, ◌<◌, ◌^◌, ◌-◌, zero}
-use native.Mathlib.Nat.{suc-mul, mul-le-mul_right, add-mul-div_right, add-mul-mod_self_right, div-eq_of_lt, mod-eq_of_lt, eq-or-lt_of_le, le_of_suc-le-suc, lt_of_le_of_lt, mul-le-mul_left, le_of_lt, mul-lt-mul_of_pos_right, mul_left_comm, mul_comm, mul-suc, mod-lt, add_comm, div-add-mod', mul_assoc, pow-suc, div-lt_iff_lt-mul}
+use Prim.Native.Nat.{ℕ, suc, ◌+◌, ◌*◌, ◌/◌, ◌%◌, ◌≤◌, ◌<◌, ◌^◌, ◌-◌}
+use native.Mathlib.Nat.{suc-mul, mul-le-mul_right, add-mul-div_right, add-mul-mod_self_right, div-eq_of_lt, mod-eq_of_lt, eq-or-lt_of_le, le_of_suc-le-suc, lt_of_le_of_lt, mul-le-mul_left, le_of_lt, mul-lt-mul_of_pos_right, mul_left_comm, mul_comm, mul-suc, add_comm, div-add-mod', mul_assoc, pow-suc, div-lt_iff_lt-mul}
 use native.Mathlib.Numerals.{add-one}
 use native.Mathlib.Omega.{arith}
 use mathlib.Core.Logic.{◌⊎◌, inl, inr, ⊎_elim}
@@ -104,17 +104,6 @@ sum_product n m hn hm =
 
 pub multiple_below : (by j n b : ℕ) → j < n → by * n ≤ b + by → by * j ≤ b
 multiple_below by j n b h l = let a : by * suc j ≤ by * n = mul-le-mul_left by h in omega (arith, mul-suc by j)
-
--- a remainder of four is one of four
-pub four_left : (c : ℕ) → (c % 4 ≡ 0 → ⊥) → (c % 4 ≡ 1 → ⊥) → (c % 4 ≡ 2 → ⊥) → c % 4 ≡ 3
-four_left c a b d = go (c % 4) (mod-lt c (omega arith)) a b d
-  where
-    go : (k : ℕ) → k < 4 → (k ≡ 0 → ⊥) → (k ≡ 1 → ⊥) → (k ≡ 2 → ⊥) → k ≡ 3
-    go zero l a b d = absurd (a refl)
-    go (suc zero) l a b d = absurd (b refl)
-    go (suc (suc zero)) l a b d = absurd (d refl)
-    go (suc (suc (suc zero))) l a b d = refl
-    go (suc (suc (suc (suc k)))) l a b d = omega arith
 
 -- column q % w of row q / w
 pub div_mod : (q w : ℕ) → q % w + q / w * w ≡ q

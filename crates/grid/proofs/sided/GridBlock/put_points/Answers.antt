@@ -14,7 +14,7 @@ loop-k-init c = (λ i. c.x_dimension.ensures i * c.z_dimension.ensures i, c.list
 pub loop-k-preserved : goal.loop-k-preserved
 loop-k-preserved c =
     let I = c.loop-k.invariant in
-    let v = c.grid_point.ensures ∙ ap (λ (x : List ℕ). grid_point c.args.self.now.header c.args.s (entries x) c.loop-k.k) c.list_part-heights.ensures in
+    let v = c.grid_point.ensures ∙ ap (λ (x : List ℕ). grid_point c.args.self.now.header c.args.self.now.settings (entries x) c.loop-k.k) c.list_part-heights.ensures in
     let q : c.loop-k.k < x_dimension c.args.self.now.header * z_dimension c.args.self.now.header = omega (arith, c.loop-k-test.true, I.0) in
     (I.0, I.1, pieces_more 3 (λ t. refl) (omega (arith, c.requires.1)) I.2 q (omega arith) (ap words3 v) c.put_words3.ensures)
 

@@ -21,5 +21,5 @@ unfolding point_in
 loop-c-preserved c =
     let T = c.loop-c.invariant in
     let q = c.wide.ensures ∙ kept_at (pieces_kept T (omega (arith, c.requires.room))) (c.args.t.corners + c.loop-c.c) (omega (arith, c.requires.below, c.loop-c-test.true)) in
-    let v = c.texture_of.ensures ∙ ap (grid_texture c.args.self.now.block.now c.args.self.now.header c.args.s) q in
+    let v = c.texture_of.ensures ∙ ap (grid_texture c.args.self.now.block.now c.args.self.now.header c.args.self.now.settings) q in
     pieces_more 2 (λ t. refl) (omega (arith, c.requires.room)) T c.loop-c-test.true (omega arith) (ap words2 v) c.put2.ensures
