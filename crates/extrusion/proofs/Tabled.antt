@@ -16,7 +16,6 @@ use Rattle.lists.specs.Parts.{seg, spliced, Kept, TableOf}
 use Rattle.tables.specs.Soups.{point_in, place_in, start_in, number_in}
 use Rattle.tables.specs.Listed.{Use, Listing, no_use, no_listing, uses_at, Beside, Listed}
 use Rattle.lists.proofs.Keep.{kept_then, kept_seg, seg_at, table_kept}
-use Rattle.lists.proofs.Numbers.{rows_least}
 use Rattle.extrusion.specs.Listings.{face_points, use_of, extrusion_listings, start_at, Planned}
 use Rattle.lists.proofs.Splices.{put_kept, put_seg, put_table}
 use Rattle.lists.specs.Loops.{tab}
@@ -169,13 +168,13 @@ module _ {h : Header} {cap len : ℕ} {t : Plan} (P : Planned h cap len t) (n m 
   spots_planned : t.spots ≡ n * m
   spots_planned = rw (en, em) P.spots
 
-  section_planned : 2 ≤ m
+  pub section_planned : 2 ≤ m
   section_planned = rw em P.section
 
-  spine_planned : 2 ≤ n
+  pub spine_planned : 2 ≤ n
   spine_planned = rw en P.spine
 
-  cap_planned : cap ≤ m
+  pub cap_planned : cap ≤ m
   cap_planned = rw em P.fewer
 
   start_planned : start_at ((n - 1) * (m - 1)) cap t.faces ≡ t.count
@@ -183,19 +182,15 @@ module _ {h : Header} {cap len : ℕ} {t : Plan} (P : Planned h cap len t) (n m 
       ap (start_at ((n - 1) * (m - 1)) cap) faces_planned ∙ starts_last n m cap h.begin_cap h.end_cap section_planned
       ∙ sym (flat_count n m cap h.begin_cap h.end_cap) ∙ sym count_planned
 
-  -- room for the points at a, where a table of corners stands
-  pub uses_room : (a l : ℕ) → a + t.count ≤ l
-      → (2 ≤ n) × (2 ≤ m) × (cap ≤ m) × (n * m ≤ most) × (a + length (flat (face_points n m cap h.begin_cap h.end_cap)) ≤ l)
-  uses_room a l r = (spine_planned, section_planned, cap_planned, omega (arith, spots_planned, P.room.some), omega (arith, count_planned))
+  pub rows_planned : n * m ≤ most
+  rows_planned = omega (arith, spots_planned, P.room.some)
 
-  pub starts_room : (l : ℕ) → t.starts + (t.faces + 1) ≤ l
-      → (t.faces ≤ most) × (start_at ((n - 1) * (m - 1)) cap t.faces ≤ most) × (cap ≤ most) × (t.starts + (t.faces + 1) ≤ l)
-  starts_room l r = (
-    P.room.many,
-    omega (arith, start_planned, P.room.few),
-    omega (arith, spots_planned, P.room.some, cap_planned, rows_least n m spine_planned),
-    r,
-  )
+  -- room for the points at a, where a table of corners stands
+  pub uses_room : (a l : ℕ) → a + t.count ≤ l → a + length (flat (face_points n m cap h.begin_cap h.end_cap)) ≤ l
+  uses_room a l r = omega (arith, count_planned)
+
+  pub starts_room : (l : ℕ) → t.starts + (t.faces + 1) ≤ l → (t.faces ≤ most) × (start_at ((n - 1) * (m - 1)) cap t.faces ≤ most) × (t.starts + (t.faces + 1) ≤ l)
+  starts_room l r = (P.room.many, omega (arith, start_planned, P.room.few), r)
 
   -- the product of the sides fits
   pub sides_most : (n - 1) * (m - 1) ≤ most

@@ -1,5 +1,5 @@
 // FORMAT 8.4: the tables of the faces: points, first corners, places and numbers.
-ghost use Rattle.std.specs.Prelude.{◌≡◌, ◌+◌, ◌≤◌, length};
+ghost use Rattle.std.specs.Prelude.{◌≡◌, ◌+◌, ◌-◌, ◌*◌, ◌≤◌, length};
 ghost use Rattle.mesh.specs.Extrusion.{spine_count, section_count};
 ghost use Rattle.tables.specs.Layout.{most};
 ghost use Rattle.lists.specs.Loops.{tab};
@@ -7,7 +7,7 @@ ghost use Rattle.lists.specs.Parts.{spliced};
 ghost use Rattle.tables.specs.Listed.{Beside, Listed};
 ghost use Rattle.extrusion.specs.Listings.{extrusion_listings, size_at, start_at, Planned};
 
-use crate::faces::put_uses;
+use crate::faces::Faces;
 use crate::reading::{section_count, spine_count};
 use block::Header;
 use tables::{Plan, narrow, put_each};
@@ -21,15 +21,18 @@ fn size_at(sides: usize, cap: usize, j: usize) -> usize
     cap
 }
 
-// How many corners stand before each face, and before the end.
-fn put_starts(work: &mut [u32], k: usize, sides: usize, faces: usize, cap: usize)
-    requires { (faces ≤ most) × (start_at sides cap faces ≤ most) × (cap ≤ most) × (k + (faces + 1) ≤ length work.old) }
-    ensures { work.new ≡ spliced work.old k (tab (start_at sides cap) (faces + 1) 0) }
-{
-    let mut c = 0;
-    for j in 0..faces + 1 {
-        work[k + j] = narrow(c);
-        c += size_at(sides, cap, j);
+impl Faces {
+    // How many corners stand before each of `faces` faces, and before the end.
+    fn put_starts(&self, work: &mut [u32], k: usize, faces: usize)
+        requires { (faces ≤ most) × (start_at ((self.now.n - 1) * (self.now.m - 1)) self.now.cap faces ≤ most) × (k + (faces + 1) ≤ length work.old) }
+        ensures { work.new ≡ spliced work.old k (tab (start_at ((self.now.n - 1) * (self.now.m - 1)) self.now.cap) (faces + 1) 0) }
+    {
+        let sides = (self.n - 1) * (self.m - 1);
+        let mut c = 0;
+        for j in 0..faces + 1 {
+            work[k + j] = narrow(c);
+            c += size_at(sides, self.cap, j);
+        }
     }
 }
 
@@ -39,10 +42,15 @@ pub fn list_faces(h: Header, cap: usize, work: &mut [u32], t: Plan)
     ensures { Beside t work.old work.new
         × Listed work.new t (extrusion_listings (spine_count h) (section_count h) cap h.begin_cap h.end_cap) }
 {
-    let n = spine_count(h);
-    let m = section_count(h);
-    put_uses(work, t.corners, n, m, cap, h.begin_cap, h.end_cap);
-    put_starts(work, t.starts, (n - 1) * (m - 1), t.faces, cap);
-    put_uses(work, t.places, n, m, cap, h.begin_cap, h.end_cap);
+    let f = Faces {
+        n: spine_count(h),
+        m: section_count(h),
+        cap,
+        begin: h.begin_cap,
+        end: h.end_cap,
+    };
+    f.put_uses(work, t.corners);
+    f.put_starts(work, t.starts, t.faces);
+    f.put_uses(work, t.places);
     put_each(work, t.numbers, t.faces, |j| narrow(j));
 }

@@ -37,13 +37,16 @@ fn cap_texture(fit: Fit, p: Pair) -> Words2
     }
 }
 
-// An extrusion, what `put_arcs` left in floats from place `at` on, and how its cross-section fits the texture of a cap.
+// An extrusion, its settings, what `put_arcs` left in floats from place `at` on, and how its cross-section fits the texture of a cap.
+// The settings stand here and not in `Extruded`: sizes counts the corners of a cap without them, and would read them for nothing.
 #[derive(Clone, Copy)]
 pub struct Textured<'a> {
     pub source: Extruded<'a>,
+    pub settings: Settings,
     pub floats: &'a [f32],
     pub at: usize,
     pub fit: Fit,
+    ghost read: { settings ≡ settings_of source.block.now },
     ghost measured: { Measured source.block.now source.header floats.now at fit },
 }
 
@@ -64,29 +67,29 @@ impl<'a> Textured<'a> {
     }
 
     // The texture words of a corner, by its face's number and its point.
-    pub fn corner_texture(&self, s: Settings, number: usize, point: PointNumber) -> Words2
-        requires { (s ≡ settings_of self.now.source.block.now) × (point.0 < spine_count self.now.source.header * section_count self.now.source.header) }
+    pub fn corner_texture(&self, number: usize, point: PointNumber) -> Words2
+        requires { point.0 < spine_count self.now.source.header * section_count self.now.source.header }
         ensures { result ≡ (extrusion_corner (extrusion_of self.now.source.block.now) number (use_of point.0)).texture }
     {
         let h = self.source.header;
         if h.need_uvs {
             let w = self.plain_texture(number, point);
             // As in texture: the flag is the header's and the transform the settings', so that a function of both would be no shorter to call.
-            return block::uv(h.transformed.then_some(s.transform), w);
+            return block::uv(h.transformed.then_some(self.settings.transform), w);
         }
         Words2 { s: 0, t: 0 }
     }
 
     // The texture words of each corner, two words a corner from place `textures` on: the plan says where their points and the numbers of their faces stand.
-    pub fn put_textures(&self, s: Settings, work: &mut [u32], t: Plan, textures: usize)
-        requires { (s ≡ settings_of self.now.source.block.now) × Cornered self.now.source.header t textures work.old }
+    pub fn put_textures(&self, work: &mut [u32], t: Plan, textures: usize)
+        requires { Cornered self.now.source.header t textures work.old }
         ensures { work.new ≡ spliced work.old textures (texture_words (extrusion_texture (extrusion_of self.now.source.block.now) work.old t) t.count) }
     {
         // A loop of its own, as in texture and grid: each reads other tables of `work`, and a shared one would take this body back as a closure.
         for c in 0..t.count {
             let p = PointNumber(wide(work[t.corners + c]));
             let f = wide(work[t.owners + c]);
-            let w = self.corner_texture(s, f, p);
+            let w = self.corner_texture(f, p);
             put2(work, textures + 2 * c, w);
         }
     }

@@ -1,7 +1,7 @@
 use Rattle.lists.proofs.Pieces.{pieces_more, pieces_none}
 use Rattle.extrusion.proofs.Sides.{quad_length}
 use mathlib.Core.Path.{refl}
-use Rattle.extrusion.proofs.faces.put_quad_row.Goals as goal
+use Rattle.extrusion.proofs.faces.Faces.put_quad_row.Goals as goal
 
 pub loop-j-init : goal.loop-j-init
 loop-j-init c = pieces_none

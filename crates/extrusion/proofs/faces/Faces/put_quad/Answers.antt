@@ -1,5 +1,5 @@
 use Rattle.extrusion.proofs.Sides.{quad_put}
-use Rattle.extrusion.proofs.faces.put_quad.Goals as goal
+use Rattle.extrusion.proofs.faces.Faces.put_quad.Goals as goal
 
 pub returns : goal.returns
 returns c =

@@ -1,6 +1,6 @@
 use Rattle.tables.proofs.Putting.{put_are}
 use Rattle.lists.proofs.Splices.{splice_start}
-use Rattle.extrusion.proofs.faces.put_cap.Goals as goal
+use Rattle.extrusion.proofs.faces.Faces.put_cap.Goals as goal
 
 pub returns-clause-put : goal.returns-clause-put
 returns-clause-put g c = λ value p. rw (← c.has_cap.ensures, c.if-has_cap.false) (splice_start _ _)

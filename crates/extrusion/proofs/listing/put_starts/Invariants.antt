@@ -1,8 +1,0 @@
-use Prim.Native.Nat.{◌+◌}
-use Rattle.extrusion.specs.Listings.{start_at}
-use Rattle.lists.proofs.Pieces.{Singles}
-use mathlib.Core.Path.{◌≡◌}
-use Rattle.extrusion.proofs.listing.put_starts.Given as goal
-
-abbrev pub invariant-loop-j : goal.invariant-loop-j
-invariant-loop-j l = (l.c ≡ start_at l.sides l.cap l.j) × Singles (start_at l.sides l.cap) (l.faces + 1) l.initial.work l.k l.j l.work
