@@ -11,7 +11,6 @@ ghost use Rattle.grid.specs.Listings.{grid_listings};
 ghost use Rattle.shaping.specs.Tabled.{Tabled, TexturesAt};
 ghost use Rattle.gridshape.specs.Shape.{grid_plan, texture_of};
 
-use block::Settings;
 use build::Shared;
 use grid::GridBlock;
 use soups::prepare;
@@ -31,33 +30,27 @@ pub fn plan_grid(g: &GridBlock<'_>) -> Plan
 // All tables but that of texture.
 // Not one with the other shapes: what puts the points and the faces is this kind's own, and the contract needs what each of these calls asks and gives.
 // The room in the floats stays a clause, as in soups: they are lent to be written.
-pub fn put_tables(
-    g: &GridBlock<'_>,
-    s: Settings,
-    shared: Shared,
-    t: Plan,
-    work: &mut [u32],
-    floats: &mut [f32],
-)
+pub fn put_tables(g: &GridBlock<'_>, shared: Shared, t: Plan, work: &mut [u32], floats: &mut [f32])
     requires { Planned g.now.header (length work.old) t × (x_dimension g.now.header * z_dimension g.now.header ≤ length (entries (list_bytes g.now.block.now g.now.header 3)))
         × (3 * t.count + 6 * t.faces ≤ length floats.old) }
-    ensures { Tabled (grid_points g.now.header s (entries (list_bytes g.now.block.now g.now.header 3))) (grid_listings (x_dimension g.now.header) (z_dimension g.now.header)) shared s.crease t
+    ensures { Tabled (grid_points g.now.header g.now.settings (entries (list_bytes g.now.block.now g.now.header 3))) (grid_listings (x_dimension g.now.header) (z_dimension g.now.header)) shared g.now.settings.crease t
         work.old work.new floats.old floats.new }
 {
-    g.put_points(s, work, t.points);
+    g.put_points(work, t.points);
     g.list_faces(work, t);
     let supplied = shared.attributes.normals.is_some();
+    let s = g.settings;
     prepare(work, t, supplied, shared.ccw, s.crease, floats);
 }
 
 // The table of texture, where texture is made.
-pub fn texture_where(g: &GridBlock<'_>, s: Settings, shared: Shared, t: Plan, work: &mut [u32])
+pub fn texture_where(g: &GridBlock<'_>, shared: Shared, t: Plan, work: &mut [u32])
     requires { Placed g.now.header work.old t (t.owners + t.count) }
-    ensures { TexturesAt shared (texture_of g.now.block.now g.now.header s) t work.old work.new }
+    ensures { TexturesAt shared (texture_of g.now.block.now g.now.header g.now.settings) t work.old work.new }
 {
     let widths = shared.widths;
     if widths.texture == 0 {
         return;
     }
-    g.put_textures(s, work, t, t.owners + t.count);
+    g.put_textures(work, t, t.owners + t.count);
 }

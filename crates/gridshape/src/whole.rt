@@ -27,11 +27,15 @@ pub fn make_grid(
     ensures made { Shaped h (grid_mesh missing block.now) (slices_in b.old) (slices_in b.new) result
         × Cleared b.old.words.now b.new.words.now b.old.floats.now b.new.floats.now }
 {
-    let g = GridBlock { block, header: h };
+    let g = GridBlock {
+        block,
+        header: h,
+        settings: s,
+    };
     let t = plan_grid(&g);
     let shared = listed_shared(h, missing, true);
     let coord = &block[0..0];
-    put_tables(&g, s, shared, t, b.words, b.floats);
-    texture_where(&g, s, shared, t, b.words);
+    put_tables(&g, shared, t, b.words, b.floats);
+    texture_where(&g, shared, t, b.words);
     build(block, coord, shared, t, b)
 }
