@@ -49,7 +49,7 @@ pub fn put_tables(
     arcs_where(x, t, floats);
 }
 
-// The table of texture, where texture is wanted.
+// The table of texture, where texture is wanted. The settings stand beside x, as sizes makes an `Extruded` without them.
 pub fn texture_where(
     x: &Extruded<'_>,
     s: Settings,
@@ -65,10 +65,11 @@ pub fn texture_where(
     if x.header.need_uvs {
         let source = Textured {
             source: *x,
+            settings: s,
             floats,
             at: 3 * t.count,
             fit: x.cap_fit(),
         };
-        source.put_textures(s, work, t, t.owners + t.count);
+        source.put_textures(work, t, t.owners + t.count);
     }
 }
