@@ -121,6 +121,7 @@ impl<'a> Lent<'a> {
         ensures { Firsts (lent_frame self.now.positions.now) (lent_keys [] self.now.count) self.now.indices.now table.new }
     {
         table.fill(0);
+        // By number, not by chunks of three: `found_at` reads a triangle by the number that a word holds, and of that nothing says that it is there.
         for n in 0..self.indices.len() / 3 {
             self.note(n, table);
         }
@@ -130,6 +131,7 @@ impl<'a> Lent<'a> {
     fn found_at(&self, word: u32) -> V3
         ensures { result ≡ found (lent_frame self.now.positions.now) (lent_keys [] self.now.count) self.now.indices.now (named_by word) y_axis }
     {
+        // No `and_then`: its closure has to say by a clause what `triangle_normal` asks of n (tried without), which is longer than this.
         let Some(n) = named_by(word) else {
             return Y_AXIS;
         };
