@@ -22,7 +22,7 @@ use Rattle.tables.specs.declared.layout.Plan.{Plan}
 use Rattle.tables.specs.Layout.{plan_of}
 use Rattle.lists.specs.Parts.{seg, Kept, spliced}
 use Rattle.tables.specs.Soups.{start_in, points_in, Sound}
-use Rattle.lists.proofs.Keep.{kept_all, kept_seg, length_seg, part_seg}
+use Rattle.lists.proofs.Keep.{kept_all, kept_seg, length_seg}
 use Rattle.tables.proofs.Stays.{start_le, start_kept, points_kept}
 use Rattle.lists.proofs.Lists.{no_elements}
 use Rattle.lists.proofs.Splices.{sets_spliced, splice_start}
@@ -33,14 +33,11 @@ use Rattle.polygon.proofs.Whole.{length_flat}
 
 module _ (w : List ℕ) (t : Plan) (ccw : Bool) (a n : ℕ) where
   -- what `put_plane` leaves
-  pub plane_made : (lo hi from to : ℕ) → lo ≡ t.points → hi ≡ lo + 3 * t.spots → from ≡ t.corners + a → to ≡ from + n
-      → (P N : List ℕ) → P ≡ take (hi - lo) (drop lo w) → N ≡ take (to - from) (drop from w) → (s v : V3) → s ≡ newell (spots P N) → v ≡ handed ccw s
+  pub plane_made : (P N : List ℕ) → P ≡ points_in w t → N ≡ seg w (t.corners + a) n → (s v : V3) → s ≡ newell (spots P N) → v ≡ handed ccw s
       → (fs fs' : List Float) → fs' ≡ sets fs 0 (flat2 (projection ccw v (spots P N)))
       → fs' ≡ sets fs 0 (plane_in w t ccw a n)
-  unfolding plane_in facing_in outline_in points_in
-  plane_made lo hi from to l h f o P N p q s v es ev fs fs' e =
-      let x : P ≡ points_in w t = p ∙ part_seg w lo hi (3 * t.spots) h ∙ ap (λ (k : ℕ). seg w k (3 * t.spots)) l in
-      let y : N ≡ seg w (t.corners + a) n = q ∙ part_seg w from to n o ∙ ap (λ (k : ℕ). seg w k n) f in
+  unfolding plane_in facing_in outline_in
+  plane_made P N x y s v es ev fs fs' e =
       let z : spots P N ≡ outline_in w t a n = ap₂ spots x y in
       let u : v ≡ facing_in w t ccw a n = ev ∙ ap (handed ccw) (es ∙ ap newell z) in
       e ∙ ap₂ (λ (m : V3) (ps : List V3). sets fs 0 (flat2 (projection ccw m ps))) u z

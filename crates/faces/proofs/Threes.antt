@@ -4,11 +4,12 @@ use mathlib.Core.Bool.{Bool}
 use mathlib.Core.List.{List, [], ◌∷◌, ◌++◌}
 use Prim.Native.Nat.{ℕ, suc, ◌+◌, ◌-◌, ◌*◌, ◌≤◌, ◌<◌, zero}
 use native.Mathlib.Omega.{arith}
-use lib.ListN.{length, get_or, take, drop, take-append-drop}
-use lib.Seq.{sets, length-sets}
+use borrow.Rule.Slice.PartMut.{put_mid}
+use lib.ListN.{length, get_or, set, take, drop, take-append-drop}
+use lib.Seq.{sets, length-sets, get_or-take, get_or-drop}
 use Rattle.lists.proofs.Lists.{drop_three}
 use Rattle.lists.proofs.Stores.{drop_sets}
-use Rattle.lists.proofs.Splices.{sets_spliced, put_part, splice_over}
+use Rattle.lists.proofs.Splices.{sets_spliced, put_part, splice_over, mid_spliced}
 use Rattle.lists.specs.Parts.{spliced}
 use Rattle.polygon.specs.Ears.{Tri, triple, flat}
 use Rattle.polygon.proofs.Whole.{length_flat}
@@ -28,9 +29,29 @@ length_threes (suc n) (a ∷ []) = omega arith
 length_threes (suc n) (a ∷ b ∷ []) = omega arith
 length_threes (suc n) (a ∷ b ∷ c ∷ l) = omega (arith, length_threes n l)
 
+-- three words written, and no others
+pub three_set : (l : List ℕ) (a b c : ℕ) → length l ≡ 3 → set (set (set l 0 a) 1 b) 2 c ≡ a ∷ b ∷ c ∷ []
+three_set [] a b c h = cc
+three_set (x ∷ []) a b c h = cc
+three_set (x ∷ y ∷ []) a b c h = cc
+three_set (x ∷ y ∷ z ∷ []) a b c h = refl
+three_set (x ∷ y ∷ z ∷ u ∷ l) a b c h = let e : ⊥ = omega arith in absurd e
+
 -- ---- the loop that renames
 
 module _ (ccw : Bool) (named : List ℕ) where
+  -- one triangle, which is renamed as a part of the words
+  pub tri_put : (o r : List ℕ) (k m : ℕ) → m ≡ k + 3 → r ≡ numbered ccw named (triple (get_or (take (m - k) (drop k o)) 0 0) (get_or (take (m - k) (drop k o)) 1 0) (get_or (take (m - k) (drop k o)) 2 0) ∷ [])
+      → put_mid k (m - k) o r ≡ spliced o k (numbered ccw named (triple (get_or o k 0) (get_or o (k + 1) 0) (get_or o (k + 2) 0) ∷ []))
+  tri_put o r k m h e =
+      let word : (i j : ℕ) → i < m - k → k + i ≡ j → get_or (take (m - k) (drop k o)) i 0 ≡ get_or o j 0
+      = λ i j b q. get_or-take (m - k) (drop k o) i 0 b ∙ get_or-drop k o i 0 ∙ ap (λ (x : ℕ). get_or o x 0) q in
+      let a : get_or (take (m - k) (drop k o)) 0 0 ≡ get_or o k 0 = word 0 k (omega arith) (omega arith) in
+      let b : get_or (take (m - k) (drop k o)) 1 0 ≡ get_or o (k + 1) 0 = word 1 (k + 1) (omega arith) refl in
+      let c : get_or (take (m - k) (drop k o)) 2 0 ≡ get_or o (k + 2) 0 = word 2 (k + 2) (omega arith) refl in
+      mid_spliced k (m - k) o (e ∙ (λ i. numbered ccw named (triple (a i) (b i) (c i) ∷ [])))
+      (omega (arith, length_numbered ccw named (triple (get_or o k 0) (get_or o (k + 1) 0) (get_or o (k + 2) 0) ∷ [])))
+
   -- i of n triangles are renamed
   pub record Renaming (o₀ o : List ℕ) (at n i : ℕ) : Type 0 where
     pub within : i ≤ n

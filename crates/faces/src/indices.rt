@@ -13,45 +13,62 @@ use tables::{Plan, Tables};
 
 // A face: its n corners from a on, whether they are counterclockwise, and whether it is known to be convex.
 #[derive(Clone, Copy)]
-struct Outline {
+struct Face {
     a: CornerNumber,
     n: usize,
     ccw: bool,
     convex: bool,
 }
 
-// Its points in the plane, to the front of `floats`.
-fn put_plane(x: &Tables<'_>, f: Outline, floats: &mut [f32])
-    requires { Sound x.now.work.now x.now.plan.now × (f.a.0 + f.n ≤ x.now.plan.now.count) }
-    ensures { floats.new ≡ sets floats.old 0 (plane_in x.now.work.now x.now.plan.now f.ccw f.a.0 f.n) }
-{
-    let t = x.plan;
-    let lo = t.points;
-    let hi = lo + 3 * t.spots;
-    let from = t.corners + f.a.0;
-    let to = from + f.n;
-    let sum = polygon::newell(&x.work[lo..hi], &x.work[from..to]);
-    let normal = polygon::handed_of(f.ccw, sum);
-    polygon::project(&x.work[lo..hi], &x.work[from..to], normal, f.ccw, floats);
+// A face in the tables that hold it. `put_corners` and `one_face` have the two apart, as they write the words.
+#[derive(Clone, Copy)]
+struct Outline<'a> {
+    tables: Tables<'a>,
+    face: Face,
+    ghost within: { face.a.0 + face.n ≤ tables.plan.now.count },
 }
 
-// The same where ears are clipped; of a fan there is no plane.
-#[tactic(auto, unfolding(crate::specs::Indices::corners_floats))]
-fn put_plane_where(x: &Tables<'_>, f: Outline, floats: &mut [f32])
-    requires { Sound x.now.work.now x.now.plan.now × (f.a.0 + f.n ≤ x.now.plan.now.count) }
-    ensures { floats.new ≡ corners_floats x.now.work.now x.now.plan.now f.ccw f.convex f.a.0 f.n floats.old }
-{
-    if polygon::is_fan(f.n, f.convex) {
-        return;
+impl<'a> Outline<'a> {
+    // Its points in the plane, to the front of `floats`.
+    fn put_plane(&self, floats: &mut [f32])
+        ensures { floats.new ≡ sets floats.old 0 (plane_in self.now.tables.work.now self.now.tables.plan.now self.now.face.ccw self.now.face.a.0 self.now.face.n) }
+    {
+        let f = self.face;
+        let points = self.tables.points();
+        let names = self.tables.corners_of(f.a, f.n);
+        let sum = polygon::newell(points, names);
+        let normal = polygon::handed_of(f.ccw, sum);
+        polygon::project(points, names, normal, f.ccw, floats);
     }
-    put_plane(x, f, floats);
+
+    // The same where ears are clipped; of a fan there is no plane.
+    #[tactic(auto, unfolding(crate::specs::Indices::corners_floats))]
+    fn put_plane_where(&self, floats: &mut [f32])
+        ensures { floats.new ≡ corners_floats self.now.tables.work.now self.now.tables.plan.now self.now.face.ccw self.now.face.convex self.now.face.a.0 self.now.face.n floats.old }
+    {
+        if polygon::is_fan(self.face.n, self.face.convex) {
+            return;
+        }
+        self.put_plane(floats);
+    }
+
+    // Its triangles become triangles of vertices.
+    fn name_corners(&self, indices: &mut [u32], at: usize)
+        requires { (2 ≤ self.now.face.n) × (at + (self.now.face.n - 2) * 3 ≤ length indices.old) }
+        ensures { indices.new ≡ spliced indices.old at (numbered self.now.face.ccw (seg self.now.tables.work.now (self.now.tables.plan.now.named + self.now.face.a.0) self.now.face.n)
+            (threes (self.now.face.n - 2) (drop at indices.old))) }
+    {
+        let f = self.face;
+        let named = self.tables.names_of(f.a, f.n);
+        rename(indices, at, f.n - 2, named, f.ccw);
+    }
 }
 
 // Its triangles by its own corners, from place `at` of `indices` on. The tables from the places on are read no more: room to work in.
 fn put_corners(
     work: &mut [u32],
     t: Plan,
-    f: Outline,
+    f: Face,
     floats: &mut [f32],
     indices: &mut [u32],
     at: usize,
@@ -61,20 +78,14 @@ fn put_corners(
         × (indices.new ≡ spliced indices.old at (flat (triangles_in work.old t f.ccw f.convex f.a.0 f.n)))
         × (floats.new ≡ corners_floats work.old t f.ccw f.convex f.a.0 f.n floats.old) }
 {
-    put_plane_where(&Tables { work, plan: &t }, f, floats);
+    let outline = Outline {
+        tables: Tables { work, plan: &t },
+        face: f,
+    };
+    outline.put_plane_where(floats);
     let lo = t.places;
     let hi = lo + f.n * 5;
     polygon::triangulate(floats, f.n, f.convex, &mut work[lo..hi], indices, at);
-}
-
-// They become triangles of vertices.
-fn name_corners(x: &Tables<'_>, f: Outline, indices: &mut [u32], at: usize)
-    requires { (2 ≤ f.n) × (f.a.0 + f.n ≤ x.now.plan.now.count) × (at + (f.n - 2) * 3 ≤ length indices.old) }
-    ensures { indices.new ≡ spliced indices.old at (numbered f.ccw (seg x.now.work.now (x.now.plan.now.named + f.a.0) f.n) (threes (f.n - 2) (drop at indices.old))) }
-{
-    let lo = x.plan.named + f.a.0;
-    let hi = lo + f.n;
-    rename(indices, at, f.n - 2, &x.work[lo..hi], f.ccw);
 }
 
 // The indices of one kept face, from place `at` on; the next place.
@@ -100,10 +111,13 @@ fn one_face(
         return at;
     }
     let next = at + (n - 2) * 3;
-    let f = Outline { a, n, ccw, convex };
+    let f = Face { a, n, ccw, convex };
     put_corners(work, t, f, floats, indices, at);
-    let y = Tables { work, plan: &t };
-    name_corners(&y, f, indices, at);
+    let outline = Outline {
+        tables: Tables { work, plan: &t },
+        face: f,
+    };
+    outline.name_corners(indices, at);
     next
 }
 

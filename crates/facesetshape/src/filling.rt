@@ -15,7 +15,7 @@ use build::Shared;
 use faceset::{list_faces, put_points};
 use mesh::Fit;
 use soups::prepare;
-use tables::Plan;
+use tables::{Plan, points_of};
 use texture::fit_of;
 
 // All tables but that of texture. Not one with primitiveshape's, for the reason that stands there.
@@ -41,9 +41,7 @@ fn fit_in(work: &[u32], t: Plan) -> Fit
     requires { t.points + 3 * t.spots ≤ length work.now }
     ensures { result ≡ fit_of (points_in work.now t) t.spots }
 {
-    let from = t.points;
-    let to = from + 3 * t.spots;
-    fit_of(&work[from..to])
+    fit_of(points_of(work, &t))
 }
 
 // The table of texture, where texture is made.

@@ -1,8 +1,9 @@
-// Elements read and written at any place of a table.
+// Elements read and written at any place of a table, and what a word of a table names.
 #![tactic(auto)]
 
-ghost use Rattle.std.specs.Prelude.{◌≡◌, [], ◌∷◌, ◌+◌, ◌≤◌, length, get_or, set};
+ghost use Rattle.std.specs.Prelude.{◌≡◌, [], ◌∷◌, ◌+◌, ◌^◌, ◌≤◌, ◌<◌, length, get_or, set};
 ghost use Rattle.lists.specs.Parts.{spliced};
+ghost use Rattle.lists.specs.Named.{named_by};
 
 // Element k, or `other` past the end.
 #[inline(always)]
@@ -38,4 +39,22 @@ pub fn put_all<T: Copy>(table: &mut [T], a: usize, all: &[T])
     for (i, x) in all.iter().enumerate() {
         table[a + i] = *x;
     }
+}
+
+// The number that a word of a table names: the word is one more than the number, 0 for none.
+#[inline(always)]
+#[tactic(auto, using(crate::proofs::Named::named_sub))]
+pub fn named_by(word: u32) -> Option<usize>
+    ensures { result ≡ named_by word }
+{
+    (word as usize).checked_sub(1)
+}
+
+// The word that names number n.
+#[inline(always)]
+pub fn word_of(n: usize) -> u32
+    requires { n + 1 < 2 ^ 32 }
+    ensures { result ≡ n + 1 }
+{
+    (n + 1) as u32
 }

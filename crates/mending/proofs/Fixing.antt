@@ -21,9 +21,10 @@ use Rattle.lists.specs.Lists.{map_n, flat}
 use Rattle.mesh.specs.Words.{words3, floats, bits, point_words}
 use Rattle.mesh.specs.Mend.{visible, or_words, renorm, vertex_spot, first_normal, mend_by, mended}
 use Rattle.mesh.specs.Mesh.{mesh_of}
+use Rattle.lists.specs.Named.{named_by}
 use Rattle.lists.proofs.Lists.{All_of, length_words, length_map_n}
 use Rattle.lists.proofs.Totals.{map_n_tab}
-use Rattle.mending.specs.Mend.{lent_frame, lent_key, lent_keys, mended_words, named_by, found, Firsts, Served}
+use Rattle.mending.specs.Mend.{lent_frame, lent_key, lent_keys, mended_words, found, Firsts, Served}
 use Rattle.mending.proofs.Threes.{Threes, threes_start, threes_go, threes_end}
 use Rattle.mending.proofs.Lent.{first_same, spot_in, spot_out}
 

@@ -2,15 +2,14 @@
 use mathlib.Core.Path.{◌≡◌, refl, sym, ap, ◌∙◌, subst}
 use mathlib.Core.Bool.{Bool, true, false, ◌||◌, cond, true≢false}
 use mathlib.Core.List.{List, [], ◌∷◌}
-use Prim.Native.Nat.{ℕ, zero, suc, ◌+◌, ◌-◌, ◌*◌, ◌/◌, ◌≤◌, ◌<◌}
-use native.Mathlib.Numerals.{add-one}
+use Prim.Native.Nat.{ℕ, suc, ◌+◌, ◌*◌, ◌/◌, ◌≤◌, ◌<◌}
 use native.Mathlib.Omega.{arith}
 use lib.Dec.{eqb}
 use borrow.Author.Tests.{eqb-true, eqb-false}
 use lib.ListN.{length, get_or, drop, set, replicate, length-set, length-drop, length-replicate, get_or-replicate}
 use lib.Seq.{drop-cons, get_or-set_same, get_or-set_other}
 use Rattle.math.specs.declared.vector.V3.{V3}
-use Rattle.std.specs.Prelude.{Option, is_some, SomeIff}
+use Rattle.std.specs.Prelude.{Option, is_some}
 use Rattle.std.specs.Prelude.{Some, None}
 use Rattle.math.specs.Vector.{y_axis}
 use Rattle.mesh.specs.Soup.{Frame}
@@ -18,21 +17,11 @@ use Rattle.mesh.specs.Normals.{or_else}
 use Rattle.mesh.specs.Vertices.{Key}
 use Rattle.mesh.specs.Mend.{first_normal}
 use Rattle.lists.proofs.Tests.{cond_same}
-use Rattle.mending.specs.Mend.{triangle_normal, named_by, found, marked_by, marked, marked_all, noted_by, noted, Firsts}
+use Rattle.lists.specs.Named.{named_by}
+use Rattle.lists.proofs.Named.{named_next}
+use Rattle.mending.specs.Mend.{triangle_normal, found, marked_by, marked, marked_all, noted_by, noted, Firsts}
 
--- ---- the words of the table
-
-named_next : (n : ℕ) → named_by (n + 1) ≡ Some n
-unfolding named_by
-named_next n = rw add-one
-
--- one less than the word, where there is one
-pub named_sub : (word : ℕ) (r : Option ℕ) → SomeIff r (1 ≤ word) (word - 1) → r ≡ named_by word
-unfolding named_by
-named_sub zero None s = refl
-named_sub zero (Some x) s = let z : ⊥ = omega (arith, s.0) in absurd z
-named_sub (suc n) None s = let h : 1 ≤ suc n = omega arith in absurd (s h)
-named_sub (suc n) (Some x) s = let e : x ≡ n = omega (arith, s.1) in ap Some e
+-- ---- one word of the table
 
 -- a word is noted, or one stands there
 module _ (t : List ℕ) (v n : ℕ) (w : Option ℕ) (e : w ≡ named_by (get_or t v 0)) where

@@ -1,5 +1,5 @@
 -- FORMAT 10.3, fix_zero_normals: what is lent to it, as a mesh; and how the first usable triangle of each vertex is held in a table.
-use Rattle.std.specs.Prelude.{◌≡◌, Bool, true, ◌&&◌, List, [], map, ℕ, zero, suc, ◌+◌, ◌*◌, ◌<◌, leb, ltb, length, get_or, set}
+use Rattle.std.specs.Prelude.{◌≡◌, Bool, true, ◌&&◌, List, [], map, ℕ, ◌+◌, ◌*◌, ◌<◌, leb, ltb, length, get_or, set}
 use Rattle.math.specs.declared.vector.V3.{V3}
 use Rattle.std.specs.Prelude.{Option}
 use Rattle.std.specs.Prelude.{Some, None}
@@ -7,6 +7,7 @@ use Rattle.math.specs.Vector.{y_axis}
 use Rattle.lists.specs.Loops.{tab}
 use Rattle.block.specs.declared.crease.CreaseRule.TheVariants.{Own}
 use Rattle.lists.specs.Lists.{flat}
+use Rattle.lists.specs.Named.{named_by}
 use Rattle.mesh.specs.Words.{words3, point_words, no2, no4}
 use Rattle.mesh.specs.Soup.{Frame}
 use Rattle.mesh.specs.Normals.{or_else}
@@ -36,11 +37,6 @@ mended_words positions indices normals count = flat (map words3 (mesh_of (lent_f
 unfoldable pub triangle_normal : Frame → List Key → List ℕ → ℕ → (Option V3)
 triangle_normal F vs is n =
     tri_normal (vertex_spot F vs (get_or is (n * 3 + 0) 0)) (vertex_spot F vs (get_or is (n * 3 + 1) 0)) (vertex_spot F vs (get_or is (n * 3 + 2) 0))
-
--- FORMAT 10.3: the triangle that a word of the table names
-unfoldable pub named_by : ℕ → Option ℕ
-named_by zero = None
-named_by (suc n) = Some n
 
 -- FORMAT 10.3: the normal of the triangle that is named; `rest` where none is yet
 abbrev pub found : Frame → List Key → List ℕ → Option ℕ → V3 → V3

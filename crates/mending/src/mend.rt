@@ -4,15 +4,16 @@ ghost use Rattle.std.specs.Prelude.{◌≡◌, true, cond, [], ◌∷◌, unwrap
 ghost use Rattle.std.specs.Float.{binary32};
 ghost use Rattle.std.specs.Float.Ieee.{sub, lt};
 ghost use Rattle.lists.specs.Parts.{spliced};
+ghost use Rattle.lists.specs.Named.{named_by};
 ghost use Rattle.math.specs.Vector.{one_f, y_axis, unit_of};
 ghost use Rattle.math.specs.Order.{magnitude};
 ghost use Rattle.mesh.specs.Words.{words3, floats, bits, point_words};
 ghost use Rattle.mesh.specs.Mend.{visible, vertex_spot, tri_normal, first_normal, mend_by};
-ghost use Rattle.mending.specs.Mend.{lent_frame, lent_keys, mended_words, triangle_normal, named_by, found, marked, marked_all, noted, Firsts, Served, near_one};
+ghost use Rattle.mending.specs.Mend.{lent_frame, lent_keys, mended_words, triangle_normal, found, marked, marked_all, noted, Firsts, Served, near_one};
 
 use bits::Words3;
 use block::VertexNumber;
-use lists::{get, put};
+use lists::{get, named_by, put, word_of};
 use math::{V3, Y_AXIS};
 use mesh::{floats_of, put_words3, words_of};
 
@@ -59,23 +60,7 @@ fn tri_normal(a: V3, b: V3, c: V3) -> Option<V3>
 
 // ---- the first usable triangle of each vertex
 
-// The triangle that a word of the table names: the word is one more than its number, 0 for none.
-#[tactic(auto, using(crate::proofs::Table::named_sub))]
-fn named_by(word: u32) -> Option<u32>
-    ensures { result ≡ named_by word }
-{
-    word.checked_sub(1)
-}
-
-// The word that names triangle n.
-fn word_of(n: usize) -> u32
-    requires { n + 1 < 2 ^ 32 }
-    ensures { result ≡ n + 1 }
-{
-    (n + 1) as u32
-}
-
-// Triangle n is noted where none is. Its bound stays a clause down to `word_of`: `n + 1 < 2^32` is of `n` alone.
+// Triangle n is noted where none is. Its bound stays a clause down to `word_of` of lists: `n + 1 < 2^32` is of `n` alone.
 fn mark(table: &mut [u32], v: VertexNumber, n: usize)
     requires { n + 1 < 2 ^ 32 }
     ensures { table.new ≡ marked table.old v.0 n }
@@ -136,6 +121,7 @@ impl<'a> Lent<'a> {
         ensures { Firsts (lent_frame self.now.positions.now) (lent_keys [] self.now.count) self.now.indices.now table.new }
     {
         table.fill(0);
+        // By number, not by chunks of three: `found_at` reads a triangle by the number that a word holds, and of that nothing says that it is there.
         for n in 0..self.indices.len() / 3 {
             self.note(n, table);
         }
@@ -145,10 +131,11 @@ impl<'a> Lent<'a> {
     fn found_at(&self, word: u32) -> V3
         ensures { result ≡ found (lent_frame self.now.positions.now) (lent_keys [] self.now.count) self.now.indices.now (named_by word) y_axis }
     {
+        // No `and_then`: its closure has to say by a clause what `triangle_normal` asks of n (tried without), which is longer than this.
         let Some(n) = named_by(word) else {
             return Y_AXIS;
         };
-        self.triangle_normal(n as usize).unwrap_or(Y_AXIS)
+        self.triangle_normal(n).unwrap_or(Y_AXIS)
     }
 
     // The table is made when the first normal that cannot be scaled is met. `made` is a flag, as in `fix_zero_normals`.
@@ -202,9 +189,7 @@ fn rescaled(w: Words3) -> Option<Words3>
         return Some(w);
     }
     let l = math::len(n);
-    let Some(u) = math::unit_by(n, l) else {
-        return None;
-    };
+    let u = math::unit_by(n, l)?;
     Some(scaled(w, u, l))
 }
 

@@ -56,17 +56,15 @@ module _ {b : ℕ} {v w : List ℕ} (K : Kept b v w) where
     unfolding facing_in
     facing_kept h S ccw g k = ap₂ facing (frame_kept K t h S ccw Own) (face_kept K t h S g k)
 
--- the facing normal, from the two parts of the words that are lent
+-- the facing normal, from the points and those of the face
 pub facing_made : {w : List ℕ} {t : Plan} → Sound w t → (ccw : Bool) (g a b : ℕ) → g < t.faces → a ≡ start_in w t g → b ≡ start_in w t (suc g)
-    → (points names : List ℕ) → points ≡ seg w t.points (t.points + 3 * t.spots - t.points) → names ≡ seg w (t.corners + a) (t.corners + b - (t.corners + a))
+    → (points names : List ℕ) → points ≡ points_in w t → names ≡ seg w (t.corners + a) (b - a)
     → (n r : V3) → n ≡ newell (spots points names) → r ≡ handed ccw n → r ≡ facing_in w t ccw g
-unfolding facing_in facing outline frame_in points_in
+unfolding facing_in facing outline frame_in
 facing_made {w} {t} S ccw g a b h ea eb points names ep en n r e er =
-    let s : t.points + 3 * t.spots - t.points ≡ 3 * t.spots = omega arith in
-    let d : t.corners + b - (t.corners + a) ≡ b - a = omega arith in
     let q : names ≡ points_of (face_in w t g)
-    = en ∙ ap (seg w (t.corners + a)) d ∙ ap₂ (λ (x y : ℕ). seg w (t.corners + x) (y - x)) ea eb ∙ sym (names_in S g h) in
-    er ∙ ap (handed ccw) (e ∙ ap₂ (λ (x y : List ℕ). newell (spots x y)) (ep ∙ ap (seg w t.points) s) q)
+    = en ∙ ap₂ (λ (x y : ℕ). seg w (t.corners + x) (y - x)) ea eb ∙ sym (names_in S g h) in
+    er ∙ ap (handed ccw) (e ∙ ap₂ (λ (x y : List ℕ). newell (spots x y)) ep q)
 
 -- ---- one step more
 

@@ -26,13 +26,9 @@ fn face_normal(x: &Tables<'_>, ccw: bool, g: usize) -> V3
     requires { Sound x.now.work.now x.now.plan.now × (g < x.now.plan.now.faces) }
     ensures { result ≡ facing_in x.now.work.now x.now.plan.now ccw g }
 {
-    let t = x.plan;
     let e = x.stretch_of(g);
-    let lo = t.points;
-    let hi = t.points + 3 * t.spots;
-    let from = t.corners + e.from.0;
-    let to = t.corners + e.to.0;
-    let n = polygon::newell(&x.work[lo..hi], &x.work[from..to]);
+    let names = x.corners_of(e.from, e.to.0 - e.from.0);
+    let n = polygon::newell(x.points(), names);
     polygon::handed_of(ccw, n)
 }
 

@@ -8,5 +8,5 @@ pub mod writing;
 
 pub use each::put_each;
 pub use layout::{Plan, plan_of};
-pub use reading::{Stretch, Tables, wide};
+pub use reading::{Stretch, Tables, points_of, wide};
 pub use writing::{clear_floats, clear_words, fill, narrow};

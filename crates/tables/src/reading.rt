@@ -1,8 +1,9 @@
 // Tables read by place.
-ghost use Rattle.std.specs.Prelude.{◌≡◌, ◌≤◌, ◌<◌, length};
+ghost use Rattle.std.specs.Prelude.{◌≡◌, ◌+◌, ◌*◌, ◌≤◌, ◌<◌, length};
+ghost use Rattle.lists.specs.Parts.{seg};
 ghost use Rattle.mesh.specs.Soup as spec;
 ghost use Rattle.tables.specs.Layout.{Room};
-ghost use Rattle.tables.specs.Soups.{gather_in, owner_in, start_in, Sound, Ends};
+ghost use Rattle.tables.specs.Soups.{gather_in, owner_in, start_in, points_in, Sound, Ends};
 
 use crate::layout::Plan;
 use block::{CornerNumber, PointNumber};
@@ -35,6 +36,26 @@ fn gathered(ring: usize, p: PointNumber) -> PointNumber
     p
 }
 
+// The n words from place a on.
+#[tactic(auto, using(lists::proofs::Keep::part_seg))]
+fn part(work: &[u32], a: usize, n: usize) -> &[u32]
+    requires { a + n ≤ length work.now }
+    ensures are { result.now ≡ seg work.now a n }
+    ensures size { length result.now ≡ n }
+{
+    &work[a..a + n]
+}
+
+// The words of the points, three a point. A function beside the method of `Tables`: what reads texture knows of no more room than this.
+#[tactic(auto, unfolding(crate::specs::Soups::points_in))]
+pub fn points_of<'a>(work: &'a [u32], t: &Plan) -> &'a [u32]
+    requires { t.now.points + 3 * t.now.spots ≤ length work.now }
+    ensures are { result.now ≡ points_in work.now t.now }
+    ensures size { length result.now ≡ 3 * t.now.spots }
+{
+    part(work, t.points, 3 * t.spots)
+}
+
 // The words of the tables, with where each table lies in them. That they hold a soup (`Sound`) stays a clause: `gather_of` and `owner_of` ask for less, and a
 // second type over this one would have the one method `stretch_of`; most of what asks for `Sound` writes the words too.
 #[derive(Clone, Copy)]
@@ -45,6 +66,31 @@ pub struct Tables<'a> {
 }
 
 impl<'a> Tables<'a> {
+    // The words of the points.
+    pub fn points(&self) -> &'a [u32]
+        ensures { result.now ≡ points_in self.now.work.now self.now.plan.now }
+    {
+        points_of(self.work, self.plan)
+    }
+
+    // The points of the n corners from a on.
+    pub fn corners_of(&self, a: CornerNumber, n: usize) -> &'a [u32]
+        requires { a.0 + n ≤ self.now.plan.now.count }
+        ensures are { result.now ≡ seg self.now.work.now (self.now.plan.now.corners + a.0) n }
+        ensures size { length result.now ≡ n }
+    {
+        part(self.work, self.plan.corners + a.0, n)
+    }
+
+    // The vertex numbers of the n corners from a on (FORMAT 11).
+    pub fn names_of(&self, a: CornerNumber, n: usize) -> &'a [u32]
+        requires { a.0 + n ≤ self.now.plan.now.count }
+        ensures are { result.now ≡ seg self.now.work.now (self.now.plan.now.named + a.0) n }
+        ensures size { length result.now ≡ n }
+    {
+        part(self.work, self.plan.named + a.0, n)
+    }
+
     // The number that a corner is gathered by for normals (FORMAT 10.2).
     #[tactic(auto, unfolding(crate::specs::Soups::gather_in, crate::specs::Soups::point_in))]
     pub fn gather_of(&self, c: CornerNumber) -> PointNumber

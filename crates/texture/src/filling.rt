@@ -13,7 +13,7 @@ use bits::Words2;
 use block::PointNumber;
 use lists::put_all;
 use mesh::Fit;
-use tables::{Plan, wide};
+use tables::{Plan, points_of, wide};
 
 pub fn put2(work: &mut [u32], a: usize, w: Words2)
     requires { a + 2 ≤ length work.old }
@@ -32,9 +32,7 @@ impl<'a> Source<'a> {
         if h.texture_points {
             return self.corner_texture(place, NO_TEXTURE);
         }
-        let from = t.points;
-        let to = from + 3 * t.spots;
-        self.corner_texture(place, default_at(&work[from..to], fit, p))
+        self.corner_texture(place, default_at(points_of(work, &t), fit, p))
     }
 
     // The textures of all corners of a face set, from place `textures` on: the plan says where their points and places, and the words of all points, stand.

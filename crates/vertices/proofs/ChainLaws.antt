@@ -3,7 +3,7 @@ use mathlib.Core.Path.{◌≡◌, refl, sym, ap, ◌∙◌, subst}
 use mathlib.Core.Logic.{⊎_elim}
 use mathlib.Core.Bool.{true, false}
 use mathlib.Core.List.{List}
-use Prim.Native.Nat.{ℕ, suc, ◌+◌, ◌-◌, ◌≤◌, ◌<◌}
+use Prim.Native.Nat.{ℕ, suc, ◌+◌, ◌≤◌, ◌<◌}
 use native.Mathlib.Nat.{not-suc-le-zero}
 use native.Mathlib.Numerals.{add-one}
 use native.Mathlib.Omega.{arith}
@@ -11,11 +11,14 @@ use borrow.Author.Tests.{eqb-true, eqb-false, eq-eqb, ne_eqb}
 use lib.Dec.{eqb}
 use lib.ListN.{length, get_or, set, length-set}
 use lib.Seq.{get_or-set_same, get_or-set_other}
-use Rattle.std.specs.Prelude.{Option, Some, None}
+use Rattle.std.specs.Prelude.{Option, Some, None, MatchOption, IsSomeAnd}
+use Rattle.std.specs.Option.{option_map}
 use Rattle.block.specs.declared.number.VertexNumber.{VertexNumber}
 use Rattle.mesh.specs.Vertices.{Key, same_key}
 use Rattle.lists.proofs.Tests.{cases}
 use Rattle.lists.proofs.Numbers.{lt_of_ne}
+use Rattle.lists.specs.Named.{named_by}
+use Rattle.lists.proofs.Named.{named_none, named_next}
 use Rattle.vertices.specs.declared.places.Widths.{Widths}
 use Rattle.vertices.specs.declared.places.Chains.{Chains}
 use Rattle.vertices.specs.Places.{Store, Laid}
@@ -27,16 +30,14 @@ use Rattle.vertices.proofs.Keys.{other_by}
 
 -- ---- the words of a chain
 
-pub known_none : (word : ℕ) → word ≤ 0 → None ≡ known_by word
-unfolding known_by
-known_none word h = let e : word ≡ 0 = omega arith in rw e
-
 known_next : (n : ℕ) → known_by (n + 1) ≡ Some (record { 0 = n })
-unfolding known_by
-known_next n = rw (add-one)
+known_next n = ap (option_map (λ i. record { 0 = i })) (named_next n)
 
-pub known_at : (word x : ℕ) → x ≡ word → 0 < word → Some (record { 0 = x - 1 }) ≡ known_by word
-known_at word x e h = let q : x - 1 + 1 ≡ word = omega arith in rw (← q) (sym (known_next (x - 1)))
+-- what the map of an Option gives
+pub known_map : (word : ℕ) (o : Option ℕ) (r : Option VertexNumber) → o ≡ named_by word → MatchOption o (r ≡ None) (λ x. IsSomeAnd r (λ y. y ≡ record { 0 = x })) → r ≡ known_by word
+known_map word None r e h = h ∙ ap (option_map (λ i. record { 0 = i })) e
+known_map word (Some x) None e h = absurd h
+known_map word (Some x) (Some y) e h = ap Some h ∙ ap (option_map (λ i. record { 0 = i })) e
 
 -- ---- the vertex of a key, and the last in a bucket
 
@@ -165,8 +166,8 @@ module _ (f g : ℕ → ℕ) (n b : ℕ) (old : (i : ℕ) → i < n → g i ≡ 
 
 -- the heads of no vertex are zeros
 pub chained_none : (t : Chains) (f : ℕ → ℕ) (m : List ℕ) → ((b : ℕ) → b < t.buckets → get_or m (t.heads + b) 0 ≡ 0) → Chained t f m 0
-unfolding known_by last_at seek
-chained_none t f m h = record { heads = λ b l. ap known_by (h b l); nexts = λ i e. absurd (not-suc-le-zero e) }
+unfolding last_at seek
+chained_none t f m h = record { heads = λ b l. ap known_by (h b l) ∙ ap (option_map (λ i. record { 0 = i })) named_none; nexts = λ i e. absurd (not-suc-le-zero e) }
 
 -- words below the heads may be written
 pub chained_set : (t : Chains) (f : ℕ → ℕ) (m : List ℕ) (n i a : ℕ) → Chained t f m n → i < t.heads → t.heads ≤ t.nexts → Chained t f (set m i a) n

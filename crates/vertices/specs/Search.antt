@@ -1,5 +1,6 @@
 -- FORMAT 11: the keys of vertices and of a corner as the slices hold them, the number of a key among the vertices, and the chains of the search.
 use Rattle.std.specs.Prelude.{◌≡◌, Bool, cond, List, Option, Some, None, ℕ, zero, suc, ◌+◌, ◌*◌, ◌<◌, eqb, get_or}
+use Rattle.std.specs.Option.{option_map}
 use Rattle.bits.specs.declared.Words2.{Words2}
 use Rattle.bits.specs.declared.Words3.{Words3}
 use Rattle.bits.specs.declared.Words4.{Words4}
@@ -8,6 +9,7 @@ use Rattle.mesh.specs.Vertices.{Key, same_key}
 use Rattle.vertices.specs.declared.places.Widths.{Widths}
 use Rattle.vertices.specs.declared.places.Chains.{Chains}
 use Rattle.lists.specs.Parts.{seg}
+use Rattle.lists.specs.Named.{named_by}
 use Rattle.vertices.specs.Places.{Store}
 use Rattle.vertices.specs.Hash.{bucket_of}
 
@@ -36,10 +38,9 @@ unfoldable pub corner_key : Widths → ℕ → List ℕ → Key
 corner_key w v l =
     record { point = v; normal = three (seg l 0 w.normal); colour = four (seg l 3 w.colour); texture = two (seg l 7 w.texture) }
 
--- the vertex that a word of a chain names: one more than its number, 0 for none
-unfoldable pub known_by : ℕ → Option VertexNumber
-known_by zero = None
-known_by (suc i) = Some (record { 0 = i })
+-- the vertex that a word of a chain names
+abbrev pub known_by : ℕ → Option VertexNumber
+known_by word = option_map (λ i. record { 0 = i }) (named_by word)
 
 -- the greatest number below n that passes the test
 unfoldable pub seek : (ℕ → Bool) → ℕ → Option VertexNumber

@@ -7,8 +7,9 @@ ghost use Rattle.vertices.specs.Adding.{linked, Appended, Ready, Vertexed, count
 
 use crate::parts::put_row;
 use crate::places::{Bucket, Chains, CornerKey, Widths};
-use crate::search::{Made, word_of};
+use crate::search::Made;
 use block::{PointNumber, VertexNumber};
+use lists::word_of;
 use tables::narrow;
 
 // Vertex n is the last of the chain of a bucket.
@@ -20,7 +21,7 @@ pub fn link(work: &mut [u32], t: Chains, n: VertexNumber, bucket: Bucket)
     let head = t.heads + bucket.0;
     let next = t.nexts + n.0;
     work[next] = work[head];
-    work[head] = word_of(n);
+    work[head] = word_of(n.0);
 }
 
 // Vertex n is made: of the point and the words of a corner, in a bucket. Over slices, as `vertex` below.

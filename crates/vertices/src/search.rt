@@ -9,25 +9,17 @@ ghost use Rattle.vertices.specs.Search.{known_by, key_at, corner_key, place_of, 
 use crate::parts::same_row;
 use crate::places::{Bucket, Chains, CornerKey, Widths};
 use block::VertexNumber;
+use lists::named_by;
 use std::marker::Model;
-use tables::{narrow, wide};
+use tables::wide;
 
-// The vertex that a word of a chain names: the word is one more than its number, 0 for none.
+// The vertex that a word of a chain names.
+#[inline(always)]
+#[tactic(auto, using(crate::proofs::ChainLaws::known_map))]
 fn known_by(word: u32) -> Option<VertexNumber>
     ensures { result ≡ known_by word }
 {
-    if 0 < word {
-        return Some(VertexNumber(wide(word) - 1));
-    }
-    None
-}
-
-// The word that names vertex i.
-pub fn word_of(i: VertexNumber) -> u32
-    requires { i.0 < most }
-    ensures { result ≡ i.0 + 1 }
-{
-    narrow(i.0 + 1)
+    named_by(word).map(VertexNumber)
 }
 
 // The vertices made so far, in the slices that hold them; a clause sees the four lists.

@@ -1,6 +1,6 @@
 use mathlib.Core.Path.{ap, ◌∙◌}
 use mathlib.Core.Bool.{not}
-use Rattle.mending.specs.Mend.{named_by}
+use Rattle.lists.specs.Named.{named_by}
 use Rattle.mending.proofs.Table.{mark_first, mark_again}
 use Rattle.mending.proofs.mend.mark.Goals as goal
 
