@@ -4,5 +4,5 @@
 mod listing;
 mod points;
 
-pub use listing::{Progress, list_faces, put_face, put_row};
+pub use listing::{Progress, START, list_faces, put_face, put_row};
 pub use points::put_points;

@@ -18,6 +18,12 @@ pub struct Progress {
     pub corner: CornerNumber,
 }
 
+// Before the first.
+pub const START: Progress = Progress {
+    faces: 0,
+    corner: CornerNumber(0),
+};
+
 // The number of listed face `face`, and the first corner after it.
 pub fn put_row(work: &mut [u32], t: Plan, face: usize, number: usize, next: CornerNumber)
     requires { Room (length work.old) t × (face < t.faces) × (number ≤ most) × (next.0 ≤ most) }
@@ -89,10 +95,7 @@ pub fn list_faces(coord: &[u8], points: u32, work: &mut [u32], t: Plan)
 {
     let first = t.starts;
     work[first] = 0;
-    let mut p = Progress {
-        faces: 0,
-        corner: CornerNumber(0),
-    };
+    let mut p = START;
     for (number, (start, run)) in runs_in(coord).enumerate() {
         p = pass_run(run, start, number, points, work, t, p);
     }

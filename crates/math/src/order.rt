@@ -15,7 +15,8 @@ pub fn abs(x: f32) -> f32
     x.abs()
 }
 
-// b where it is past a, or where both are zeros and b is the one that is wanted.
+// b where it is past a, or where both are zeros and b is the one that is wanted. Two bools, and no closure: each is a comparison that the one call makes, and
+// no step to run.
 #[tactic(auto, unfolding(crate::specs::Order::choice))]
 fn choose(past: bool, wanted: bool, a: f32, b: f32) -> f32
     ensures { result ≡ choice past wanted a b }

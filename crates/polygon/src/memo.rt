@@ -255,7 +255,8 @@ fn word_of(f: Finding) -> u32
 
 // What ears are looked for in: the coordinates of a polygon; a word for each corner, 1 while it is left; and three words for each of what an
 // earlier search found: its two neighbours then, and the finding. That what is kept is so (`Sound`) stays a clause: a row is written word by word, so it holds
-// between the searches and not within one, and `store` would have to ask that what it writes is so.
+// between the searches and not within one, and `store` would have to ask that what it writes is so. Each method says that `p` stays: one that takes `&mut self`
+// may put another slice there.
 #[derive(Drop)]
 pub struct Search<'p, 'w> {
     pub p: &'p [f32],

@@ -21,7 +21,7 @@ fn entry_of(v: V3, k: u32) -> f32
     v.z
 }
 
-// Turned where ccw is off; done twice it is as it was.
+// Turned where ccw is off; done twice it is as it was. A bool, as the block has it: no caller chooses by it.
 pub fn handed_of(ccw: bool, n: V3) -> V3
     ensures { result ≡ handed ccw n }
 {

@@ -9,8 +9,8 @@ ghost use Rattle.faceset.specs.Adding.{words_after, progress_after};
 ghost use Rattle.primitiveset.specs.Listings.{uses_of};
 ghost use Rattle.primitiveset.specs.Passing.{Planned, Fits, Passed, Turned, PrimitivesListed};
 
-use block::{CornerNumber, Topology, point_at};
-use faceset::{Progress, put_face};
+use block::{Topology, point_at};
+use faceset::{Progress, START, put_face};
 use primitives::{Source, count_in, place_of, stretches_in, width_of};
 use tables::{Plan, narrow};
 
@@ -80,10 +80,7 @@ pub fn list_primitives(coord: &[u8], points: u32, g: Topology, work: &mut [u32],
     };
     let first = t.starts;
     work[first] = 0;
-    let mut p = Progress {
-        faces: 0,
-        corner: CornerNumber(0),
-    };
+    let mut p = START;
     for (start, part) in stretches_in(coord, g) {
         p = pass_stretch(x, part, start, work, t, p);
     }

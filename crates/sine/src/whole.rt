@@ -47,6 +47,7 @@ fn fraction(t: u64) -> f32
     (t as f32) * 5.9604644775390625e-8
 }
 
+// A bool here and in `half`: it is the sign of the angle, a bit of its pattern.
 fn signed(x: f32, minus: bool) -> f32
     ensures { result ≡ cond minus (neg x) x }
 {
