@@ -48,9 +48,9 @@ entries_none bs h = let e : length bs / 4 ≡ 0 = omega arith in ap (λ (n : ℕ
 chunks_yield : (ws : List ℕ) (s : ChunksExact ℕ) → chunks_exact_size s ≡ 4 → entries (chunks_exact_rest s) ≡ ws → AlwaysYields chunks_exact_steps (λ (x : Bor (List ℕ)). word_at x.now 0) s ws
 chunks_yield [] s h e = λ x t p. let f = entries_first x.now (chunks_exact_rest t) p.1.0 (p.1.1 ∙ h) in cc
 chunks_yield (w ∷ ws) s h e = (
-    λ t p. let f = entries_none (chunks_exact_rest s) (omega (arith, p.1.0, h)) in cc,
-    λ x t p. let f = entries_first x.now (chunks_exact_rest t) p.1.0 (p.1.1 ∙ h) in (cc, chunks_yield ws t (p.0 ∙ h) cc),
-  )
+  λ t p. let f = entries_none (chunks_exact_rest s) (omega (arith, p.1.0, h)) in cc,
+  λ x t p. let f = entries_first x.now (chunks_exact_rest t) p.1.0 (p.1.1 ∙ h) in (cc, chunks_yield ws t (p.0 ∙ h) cc),
+)
 
 pub YieldsList-from_entries : {s : ChunksExact ℕ} (bs : List ℕ) → chunks_exact_rest s ≡ bs → chunks_exact_size s ≡ 4 → YieldsList chunks_exact_steps (λ x. word_at x.now 0) s (entries bs)
 YieldsList-from_entries {s} bs e h = record { runs = chunks_yield _ s h (ap entries e) }
