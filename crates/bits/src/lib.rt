@@ -14,14 +14,14 @@ pub struct Words2 {
     pub t: u32,
 }
 
-#[derive(Clone, Copy)]
+#[derive(Clone, Copy, Default)]
 pub struct Words3 {
     pub x: u32,
     pub y: u32,
     pub z: u32,
 }
 
-#[derive(Clone, Copy)]
+#[derive(Clone, Copy, Default)]
 pub struct Words4 {
     pub r: u32,
     pub g: u32,

@@ -11,9 +11,9 @@ use native.Mathlib.Numerals.{add-one}
 use lib.Dec.{T, leb, ltb, leb→le, ltb→lt}
 use lib.Ieee.Fits.{and_l, and_r}
 use lib.ListN.{length, get_or, take, drop, drop_of_length-le, length-append, length-take, length-drop}
-use lib.Seq.{drop-cons, drop-drop}
-use Rattle.std.specs.Prelude.{Option, None, Some, MatchOption, unwrap_or}
-use Rattle.std.specs.List.{list_any, list_all, range_with_len}
+use lib.Seq.{drop-drop}
+use Rattle.std.specs.Prelude.{Option, None, Some, unwrap_or}
+use Rattle.std.specs.List.{list_any, list_all, position_or_len, range_with_len}
 use Rattle.bits.specs.Bits.{table, entries}
 use Rattle.bits.proofs.Entries.{entries_length, entries_part}
 use Rattle.block.specs.Runs.{ends_run, Run, run_of, before, runs_from, runs, split_from, runs_left, run_length, run_at, RunPart, next_start, all_below, kept, faces, corners, triangles}
@@ -21,38 +21,19 @@ use Rattle.block.specs.Stream.{is_negative}
 
 -- ---- the length of a run
 
-module _ (ws : List ℕ) (k w : ℕ) (t : Bool) (l : k < length ws) (e : w ≡ get_or ws k 0) (q : t ≡ ends_run w) where
-  pub run_stop : t ≡ true → run_length (drop k ws) ≡ 0
-  unfolding run_length
-  run_stop p = rw (drop-cons ws k 0 l, ← e, ← q, p)
-
-  pub run_more : t ≡ false → run_length (drop k ws) ≡ suc (run_length (drop (k + 1) ws))
-  unfolding run_length
-  run_more p = rw (drop-cons ws k 0 l, ← e, ← q, p, add-one)
-
 pub run_over : (ws : List ℕ) (k : ℕ) → length ws ≤ k → run_length (drop k ws) ≡ 0
 unfolding run_length
 run_over ws k l = rw (drop_of_length-le ws l)
 
--- where none of the n entries from s on ends a run
-run_passed : (ws : List ℕ) (s n : ℕ) → s + n ≤ length ws → ((k : ℕ) → s ≤ k → k < s + n → ends_run (get_or ws k 0) ≡ false) → run_length (drop s ws) ≡ n + run_length (drop (s + n) ws)
-run_passed ws s zero l h = let e : s + 0 ≡ s = omega arith in rw e (omega arith)
-run_passed ws s (suc n) l h =
-    let e : s + suc n ≡ s + 1 + n = omega arith in
-    rw e (omega (arith, run_more ws s _ _ (omega arith) refl refl (h s (omega arith) (omega arith)), run_passed ws (s + 1) n (omega arith) (λ k a b. h k (omega arith) (omega arith))))
-
--- the first of the entries from s up to n that ends a run, or n
-pub first_end : (ws : List ℕ) (s n : ℕ) (o : Option ℕ) → s ≤ n → n ≡ length ws
-    → MatchOption o ((k : ℕ) → s ≤ k → k < n → ends_run (get_or ws k 0) ≡ false) (λ i. (s ≤ i) × (i < n) × (ends_run (get_or ws i 0) ≡ true) × ((k : ℕ) → s ≤ k → k < i → ends_run (get_or ws k 0) ≡ false))
-    → (unwrap_or o n ≡ s + run_length (drop s ws)) × (unwrap_or o n ≤ n)
-first_end ws s n None a b h =
-    let d : s + (n - s) ≡ n = omega arith in
-    (omega (arith, run_passed ws s (n - s) (omega arith) (λ k p q. h k p (omega arith)), ap (λ (m : ℕ). run_length (drop m ws)) d, run_over ws n (omega arith)), omega arith)
-first_end ws s n (Some i) a b h =
-    let p = h.0 in
-    let q = h.1 in
-    let d : s + (i - s) ≡ i = omega arith in
-    (omega (arith, run_passed ws s (i - s) (omega arith) (λ k t u. h.3 k t (omega arith)), ap (λ (m : ℕ). run_length (drop m ws)) d, run_stop ws i _ _ (omega arith) refl refl h.2), omega arith)
+-- the place of the first entry that ends a run, or the number of entries
+end_place : (ws : List ℕ) → position_or_len ends_run ws ≡ run_length ws
+unfolding run_length
+end_place [] = refl
+end_place (w ∷ ws) = go (ends_run w) (end_place ws)
+  where
+    go : (b : Bool) → position_or_len ends_run ws ≡ run_length ws → cond (not b) (1 + position_or_len ends_run ws) 0 ≡ cond b 0 (suc (run_length ws))
+    go true h = refl
+    go false h = omega (arith, h)
 
 pub run_le : (ws : List ℕ) → run_length ws ≤ length ws
 unfolding run_length
@@ -62,6 +43,14 @@ run_le (w ∷ ws) = go (ends_run w) (run_le ws)
     go : (b : Bool) → run_length ws ≤ length ws → cond b 0 (suc (run_length ws)) ≤ suc (length ws)
     go true h = omega arith
     go false h = omega arith
+
+-- as a search for it finds it
+pub first_end : (ws : List ℕ) (o : Option ℕ) → o ≡ cond (ltb (position_or_len ends_run ws) (length ws)) (Some (position_or_len ends_run ws)) None → unwrap_or o (length ws) ≡ run_length ws
+first_end ws o e = rw (e, end_place) (go (ltb (run_length ws) (length ws)) refl)
+  where
+    go : (b : Bool) → ltb (run_length ws) (length ws) ≡ b → unwrap_or (cond b (Some (run_length ws)) None) (length ws) ≡ run_length ws
+    go true h = refl
+    go false h = omega (arith, run_le ws, ltb-false _ _ h)
 
 -- ---- the part of a list that holds a run: from entry s up to entry e, and none beyond the list
 
@@ -182,7 +171,7 @@ runs_over bs s h = rw (drop_of_length-le (entries bs) {i = s} (omega (arith, ent
 
 -- ---- kept faces
 
--- as its entries are read one by one
+-- as its entries are read by their numbers
 pub below_from : (p : ℕ) (ws : List ℕ) (test : ℕ → Bool) (s : ℕ) → ((k : ℕ) → k < length ws → test (s + k) ≡ ltb (get_or ws k 0) p) → list_all test (range_with_len s (length ws)) ≡ all_below p ws
 unfolding all_below
 below_from p [] test s h = refl
@@ -192,8 +181,11 @@ below_from p (w ∷ ws) test s h =
     let b = below_from p ws test (s + 1) (λ k l. let e : s + 1 + k ≡ s + suc k = omega arith in ap test e ∙ h (suc k) (omega arith)) in
     λ i. a i && b i
 
-pub below_each : (p : ℕ) (ws : List ℕ) → list_all (λ k. ltb (get_or ws k 0) p) (range_with_len 0 (length ws)) ≡ all_below p ws
-below_each p ws = below_from p ws (λ k. ltb (get_or ws k 0) p) 0 (λ k l. let e : 0 + k ≡ k = omega arith in ap (λ (m : ℕ). ltb (get_or ws m 0) p) e)
+-- and one after another
+pub below_each : (p : ℕ) (ws : List ℕ) → list_all (λ w. ltb w p) ws ≡ all_below p ws
+unfolding all_below
+below_each p [] = refl
+below_each p (w ∷ ws) = ap (λ b. ltb w p && b) (below_each p ws)
 
 -- whether some entry is above a limit
 pub any_above : (n : ℕ) (ws : List ℕ) → list_any (ltb n) ws ≡ not (all_below (suc n) ws)

@@ -21,6 +21,10 @@ applied x p =
 abbrev pub flipped : Float → ℕ
 flipped t = to_bits binary32 (sub binary32 one_f t)
 
+-- the words of two floats
+abbrev pub words_of : Pair → Words2
+words_of p = record { s = to_bits binary32 p.s; t = to_bits binary32 p.t }
+
 -- FORMAT 7.3: the words of a pair that is written
 abbrev pub written : Pair → Words2
 written q = record { s = to_bits binary32 q.s; t = flipped q.t }

@@ -41,44 +41,57 @@ fn flag(block: &[u8], at: u32) -> bool
 // Edition, kind and thirteen single bits stand before the counts.
 pub const COUNTS_AT: u32 = 4 + 3 + 13;
 
-// Count `k`, of `width` bits each.
-fn count_at(block: &[u8], width: u32, k: u32) -> u32
-    requires { (width ≤ 32) × (k < 8) }
-    ensures { result ≡ count_at block.now width k }
-{
-    bits::field_at(block, COUNTS_AT + k * width, width)
+// The bits of a block from the counts on, as an edition has them.
+#[derive(Clone, Copy)]
+struct Counts<'a> {
+    block: &'a [u8],
+    edition: Edition,
+    ghost narrow: { Narrow edition },
 }
 
-// The zero bits after the counts.
-fn zeros_in(block: &[u8], e: Edition) -> u32
-    requires { Narrow e }
-    ensures { result ≡ field block.now (zeros_at e) e.zero_bits }
-{
-    bits::field_at(block, COUNTS_AT + e.counts * e.count_bits, e.zero_bits)
-}
+impl<'a> Counts<'a> {
+    // Count `k`.
+    fn count_at(&self, k: u32) -> u32
+        requires { k < 8 }
+        ensures { result ≡ count_at self.now.block.now self.now.edition.count_bits k }
+    {
+        let width = self.edition.count_bits;
+        bits::field_at(self.block, COUNTS_AT + k * width, width)
+    }
 
-// Eight calls, and no `from_fn`: its closure is given a usize, which it would cast, and has to show of it that `count_at` may be asked.
-fn read_counts(block: &[u8], width: u32) -> [u32; 8]
-    requires { width ≤ 32 }
-    ensures { result ≡ counts_of block.now width }
-{
-    [
-        count_at(block, width, 0),
-        count_at(block, width, 1),
-        count_at(block, width, 2),
-        count_at(block, width, 3),
-        count_at(block, width, 4),
-        count_at(block, width, 5),
-        count_at(block, width, 6),
-        count_at(block, width, 7),
-    ]
+    // Eight calls, and no `from_fn`: its closure is given a usize, which it would cast, and has to show of it that `count_at` may be asked.
+    fn counts(&self) -> [u32; 8]
+        ensures { result ≡ counts_of self.now.block.now self.now.edition.count_bits }
+    {
+        [
+            self.count_at(0),
+            self.count_at(1),
+            self.count_at(2),
+            self.count_at(3),
+            self.count_at(4),
+            self.count_at(5),
+            self.count_at(6),
+            self.count_at(7),
+        ]
+    }
+
+    // The zero bits after the counts.
+    fn zeros(&self) -> u32
+        ensures { result ≡ field self.now.block.now (zeros_at self.now.edition) self.now.edition.zero_bits }
+    {
+        let e = self.edition;
+        bits::field_at(self.block, COUNTS_AT + e.counts * e.count_bits, e.zero_bits)
+    }
 }
 
 pub fn read_header(block: &[u8]) -> Header
     ensures { result ≡ header_of block.now }
 {
     let edition = bits::field_at(block, 0, 4);
-    let e = edition_of(edition);
+    let counts = Counts {
+        block,
+        edition: edition_of(edition),
+    };
     Header {
         edition,
         kind: kind_of(bits::field_at(block, 4, 3)),
@@ -95,7 +108,7 @@ pub fn read_header(block: &[u8]) -> Header
         texture_points: flag(block, 17),
         begin_cap: flag(block, 18),
         end_cap: flag(block, 19),
-        counts: read_counts(block, e.count_bits),
-        zeros: zeros_in(block, e),
+        counts: counts.counts(),
+        zeros: counts.zeros(),
     }
 }

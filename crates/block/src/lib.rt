@@ -31,4 +31,4 @@ pub use stream::{
 };
 pub use texture::{Pair, TexTransform, uv};
 pub use topology::Topology;
-pub use value::{Rgb, Rgba, Value, value_or, value4};
+pub use value::{ONE, Rgb, Rgba, Value, value_or, value4};

@@ -19,10 +19,12 @@ fn run_end(list: &[u8], start: usize) -> usize
     requires { start ≤ length list.now / 4 }
     ensures { (result ≡ start + run_length (drop start (entries list.now))) × (result ≤ length list.now / 4) }
 {
-    let n = list.len() / 4;
-    (start..n)
-        .find(|&k| ends_run(bits::entry(list, k)))
-        .unwrap_or(n)
+    let rest = &list[4 * start..];
+    start
+        + rest
+            .chunks_exact(4)
+            .position(|e| ends_run(bits::word(e, 0)))
+            .unwrap_or(rest.len() / 4)
 }
 
 // The part of the list that holds the run that starts at entry `start`.
@@ -79,8 +81,7 @@ impl<'a> Iterator for Runs<'a> {
 pub fn is_kept(run: &[u8], points: u32) -> bool
     ensures { result ≡ kept points (entries run.now) }
 {
-    let n = run.len() / 4;
-    n >= 3 && (0..n).all(|k| bits::entry(run, k) < points)
+    run.len() / 4 >= 3 && run.chunks_exact(4).all(|e| bits::word(e, 0) < points)
 }
 
 // What the kept faces of an index list have together.

@@ -44,7 +44,7 @@ fn pair_or(p: Pair, other: Pair) -> Pair
 pub fn finite_transform(x: TexTransform) -> TexTransform
     ensures { result ≡ finite_transform x }
 {
-    let zero = Pair { s: 0.0, t: 0.0 };
+    let zero = Pair::default();
     let one = Pair { s: 1.0, t: 1.0 };
     let rotation = pair_or(
         Pair {

@@ -1,13 +1,35 @@
 // The texture transform, and what is written of a texture point (FORMAT 7.3, TexTransform and GeomCtx::uv).
 ghost use Rattle.std.specs.Prelude.{◌≡◌};
-ghost use Rattle.block.specs.Texture.{applied, uv_by};
+ghost use Rattle.block.specs.Texture.{pair_of, words_of, applied, uv_by};
 
 use bits::Words2;
 
-#[derive(Clone, Copy, PartialEq)]
+#[derive(Clone, Copy, Default, PartialEq)]
 pub struct Pair {
     pub s: f32,
     pub t: f32,
+}
+
+impl From<Words2> for Pair {
+    ghost from_gives = { λ w p. p ≡ pair_of w };
+
+    fn from(w: Words2) -> Pair {
+        Pair {
+            s: math::of_bits(w.s),
+            t: math::of_bits(w.t),
+        }
+    }
+}
+
+impl From<Pair> for Words2 {
+    ghost from_gives = { λ p w. w ≡ words_of p };
+
+    fn from(p: Pair) -> Words2 {
+        Words2 {
+            s: math::bits_of(p.s),
+            t: math::bits_of(p.t),
+        }
+    }
 }
 
 // The rotation is given by its sine and cosine.
@@ -40,14 +62,11 @@ pub fn uv(transform: Option<TexTransform>, w: Words2) -> Words2
     ensures { result ≡ uv_by transform w }
 {
     if let Some(x) = transform {
-        let q = x.apply(Pair {
-            s: math::of_bits(w.s),
-            t: math::of_bits(w.t),
+        let q = x.apply(Pair::from(w));
+        return Words2::from(Pair {
+            s: q.s,
+            t: 1.0 - q.t,
         });
-        return Words2 {
-            s: math::bits_of(q.s),
-            t: math::bits_of(1.0 - q.t),
-        };
     }
     Words2 {
         s: w.s,

@@ -4,7 +4,8 @@ ghost use Rattle.block.specs.Value.{words2, words3, rgba, rgb, value_at, value4_
 
 use bits::{Words2, Words3, Words4};
 
-const ONE: u32 = 0x3f80_0000;
+// The bits of 1.0.
+pub const ONE: u32 = 0x3f80_0000;
 
 // What a list holds at each number: how many words it has, and how they are read.
 pub trait Value: Copy {

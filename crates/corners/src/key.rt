@@ -64,7 +64,7 @@ impl<'a> Corner<'a> {
         let Some(s) = a.normals else {
             return generated_of(floats, self.c);
         };
-        let none = Words3 { x: 0, y: 0, z: 0 };
+        let none = Words3::default();
         block::get(block, coord, s, self.place(), self.number(), none)
     }
 

@@ -14,7 +14,8 @@ ghost use Rattle.mesh.specs.Extrusion.{spine_count, section_count, turn_in, entr
 ghost use Rattle.extrusion.specs.Given.{Given};
 
 use crate::frames::Spine;
-use block::{Header, Pair};
+use bits::Words2;
+use block::{Header, Pair, Value};
 use math::{Quat, V3};
 use std::marker::{Model, PhantomData};
 use tables::wide;
@@ -48,10 +49,7 @@ impl Entry for Pair {
     ghost made = { λ b k. pair_of (words2 b k) };
 
     fn read(bytes: &[u8], k: usize) -> Pair {
-        Pair {
-            s: float_in(bytes, 8 * k),
-            t: float_in(bytes, 8 * k + 4),
-        }
+        Pair::from(Words2::read(bytes, k))
     }
 }
 

@@ -15,17 +15,17 @@ use bits::Words2;
 use block::{Pair, PointNumber, Settings};
 use mesh::Fit;
 use tables::{Plan, wide};
-use texture::put2;
+use texture::{NO_TEXTURE, put2};
 
 // How far along the cross-section, and how far along the spine: floats j and i.
 fn side_texture(floats: &[f32], j: usize, i: usize) -> Words2
     requires { (j < length floats.now) × (i < length floats.now) }
     ensures { (result.s ≡ to_bits binary32 (get_or floats.now j nan)) × (result.t ≡ to_bits binary32 (get_or floats.now i nan)) }
 {
-    Words2 {
-        s: math::bits_of(floats[j]),
-        t: math::bits_of(floats[i]),
-    }
+    Words2::from(Pair {
+        s: floats[j],
+        t: floats[i],
+    })
 }
 
 fn cap_texture(fit: Fit, p: Pair) -> Words2
@@ -77,7 +77,7 @@ impl<'a> Textured<'a> {
             // As in texture: the flag is the header's and the transform the settings', so that a function of both would be no shorter to call.
             return block::uv(h.transformed.then_some(self.settings.transform), w);
         }
-        Words2 { s: 0, t: 0 }
+        NO_TEXTURE
     }
 
     // The texture words of each corner, two words a corner from place `textures` on: the plan says where their points and the numbers of their faces stand.

@@ -1,5 +1,4 @@
 -- The laws and proofs of the crate.
-mod Chunks
 mod Counting
 pub mod Usage
 mod Entries

@@ -5,7 +5,7 @@ ghost use Rattle.math.specs.Vector.{vadd, vsub, vscale, vdot, vcross, vlen, unit
 use crate::square_root::{Four, root, roots};
 use crate::word::is_finite;
 
-#[derive(Clone, Copy, PartialEq)]
+#[derive(Clone, Copy, Default, PartialEq)]
 pub struct V3 {
     pub x: f32,
     pub y: f32,

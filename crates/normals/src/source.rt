@@ -70,11 +70,7 @@ impl<'a> Source<'a> {
         ensures { result ≡ sum_all (v3 zero_f zero_f zero_f) (hits_at self.now.tables.work.now self.now.tables.plan.now p.0) }
     {
         let faces = self.faces_at(p);
-        let mut s = V3 {
-            x: 0.0,
-            y: 0.0,
-            z: 0.0,
-        };
+        let mut s = V3::default();
         for g in faces {
             s = math::add(s, self.normal_of(wide(*g)));
         }

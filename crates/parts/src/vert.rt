@@ -36,10 +36,5 @@ pub fn finite_ctx(c: GeomCtx) -> GeomCtx
 pub fn uv_of(c: GeomCtx, v: Vert) -> Words2
     ensures { result ≡ uv_of c v }
 {
-    let st = v.st;
-    let w = Words2 {
-        s: math::bits_of(st.s),
-        t: math::bits_of(st.t),
-    };
-    block::uv(c.transform, w)
+    block::uv(c.transform, v.st.into())
 }

@@ -7,10 +7,9 @@ ghost use Rattle.block.specs.Value.{opaque_of};
 ghost use Rattle.mesh.specs.Words.{words4, point_words};
 ghost use Rattle.pointset.specs.PointSet.{colours_in, colour_at};
 
+use block::ONE;
 use parts::put_words;
 use tables::{narrow, put_each};
-
-const ONE: u32 = 0x3f80_0000;
 
 // The first n words. Kept beside the library's `copy_from_slice`, as its contract says once what that leaves of the other words.
 pub fn copy_words(from: &[u32], to: &mut [u32], n: usize)

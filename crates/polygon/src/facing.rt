@@ -21,11 +21,7 @@ fn add_edge(n: V3, a: V3, b: V3) -> V3
 pub fn newell(points: &[u32], names: &[u32]) -> V3
     ensures { result ≡ newell (spots points.now names.now) }
 {
-    let mut n = V3 {
-        x: 0.0,
-        y: 0.0,
-        z: 0.0,
-    };
+    let mut n = V3::default();
     let [start, rest @ ..] = names else {
         return n;
     };

@@ -12,13 +12,11 @@ use math::V3;
 fn entry_of(v: V3, k: u32) -> f32
     ensures { result ≡ entry v k }
 {
-    if k == 0 {
-        return v.x;
+    match k {
+        0 => v.x,
+        1 => v.y,
+        _ => v.z,
     }
-    if k == 1 {
-        return v.y;
-    }
-    v.z
 }
 
 // Turned where ccw is off; done twice it is as it was. A bool, as the block has it: no caller chooses by it.

@@ -30,6 +30,8 @@ pub fn count_in(g: Topology, n: usize) -> usize
     }
 }
 
+// `k < 2 ^ 61` is asked here one by one, and is no ghost field of a primitive: `kept_here` and primitiveset would build a primitive for each k of a range,
+// and the closure of `kept_here`, which has no clause now, would need the bound as one.
 // Every triangle of a fan has its first entry.
 fn fan_place(k: usize, i: usize) -> usize
     requires { (i < 3) × (k < 2 ^ 61) }

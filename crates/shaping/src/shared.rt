@@ -28,17 +28,11 @@ fn plain_attributes(h: Header) -> Attributes
     ensures { result ≡ plain_attributes h }
 {
     let colours = color_stream(h);
-    let missing = Words4 {
-        r: 0,
-        g: 0,
-        b: 0,
-        a: 0,
-    };
     Attributes {
         normals: None,
         colours,
         alpha: h.alpha,
-        missing,
+        missing: Words4::default(),
     }
 }
 

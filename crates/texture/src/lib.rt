@@ -5,6 +5,6 @@ mod corner;
 mod extents;
 mod filling;
 
-pub use corner::Source;
+pub use corner::{NO_TEXTURE, Source};
 pub use extents::{default_at, divisor_of, fit_of, widen};
 pub use filling::put2;

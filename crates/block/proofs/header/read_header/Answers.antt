@@ -7,14 +7,11 @@ use Rattle.block.specs.Header.{counts_of, header_of}
 use Rattle.block.proofs.EditionLaws.{narrow}
 use Rattle.block.proofs.header.read_header.Goals as goal
 
-edition_is : (c : goal.After-zeros_in) → c.edition_of-e.result ≡ edition_in c.args.block.now
-edition_is c = c.edition_of-e.ensures ∙ ap edition_of c.field_at-edition.ensures
+edition_is : (c : goal.After-zeros) → c.edition_of.result ≡ edition_in c.args.block.now
+edition_is c = c.edition_of.ensures ∙ ap edition_of c.field_at-edition.ensures
 
-pub read_counts-requires : goal.read_counts-requires
-read_counts-requires c = rw c.edition_of-e.ensures (narrow _).width
-
-pub zeros_in-requires : goal.zeros_in-requires
-zeros_in-requires c = rw c.edition_of-e.ensures (narrow _)
+pub invariant_of-counts : goal.invariant_of-counts
+invariant_of-counts c = record { narrow = rw c.edition_of.ensures (narrow _) }
 
 pub returns : goal.returns
 unfolding header_of
@@ -36,6 +33,6 @@ returns c =
       texture_points = c.flag-11.ensures i;
       begin_cap = c.flag-12.ensures i;
       end_cap = c.flag-13.ensures i;
-      counts = (c.read_counts.ensures ∙ ap (λ (e : Edition). counts_of c.args.block.now e.count_bits) (edition_is c)) i;
-      zeros = (c.zeros_in.ensures ∙ ap (λ (e : Edition). field c.args.block.now (zeros_at e) e.zero_bits) (edition_is c)) i;
+      counts = (c.counts.ensures ∙ ap (λ (e : Edition). counts_of c.args.block.now e.count_bits) (edition_is c)) i;
+      zeros = (c.zeros.ensures ∙ ap (λ (e : Edition). field c.args.block.now (zeros_at e) e.zero_bits) (edition_is c)) i;
     }

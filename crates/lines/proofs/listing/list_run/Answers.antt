@@ -1,7 +1,7 @@
 use mathlib.Core.Path.{refl, ◌∙◌}
 use native.Mathlib.Omega.{arith}
 use Rattle.bits.proofs.Entries.{entries_length}
-use Rattle.lines.proofs.Chunks.{entries_first, entries_none}
+use Rattle.bits.proofs.Chunks.{entries_first, entries_none}
 use Rattle.lines.proofs.Entries.{run_start, entry_place, entry_here, entry_next, run_end}
 use Rattle.lines.proofs.listing.list_run.Goals as goal
 

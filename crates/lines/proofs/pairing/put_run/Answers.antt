@@ -3,7 +3,7 @@ use native.Mathlib.Omega.{arith}
 use Rattle.lists.specs.Parts.{spliced}
 use Rattle.lines.specs.Steps.{last_of}
 use Rattle.lists.proofs.Putting.{left_all}
-use Rattle.lines.proofs.Chunks.{entries_first, entries_none}
+use Rattle.bits.proofs.Chunks.{entries_first, entries_none}
 use Rattle.lines.proofs.Pairs.{pairing_here, pairing_room, pairing_next, pairing_end}
 use Rattle.lines.proofs.pairing.put_run.Goals as goal
 

@@ -2,7 +2,7 @@ use mathlib.Core.Path.{◌≡◌, ◌∙◌}
 use mathlib.Core.Bool.{◌&&◌}
 use native.Mathlib.Omega.{arith}
 use lib.Dec.{ltb}
-use Rattle.lines.proofs.Chunks.{entries_first, entries_none}
+use Rattle.bits.proofs.Chunks.{entries_first, entries_none}
 use Rattle.lines.proofs.Counting.{counted, counted_both, counting_next, counting_end}
 use Rattle.lines.proofs.totals.run_totals.Goals as goal
 use Rattle.lines.proofs.totals.run_totals.Goals.{then-after, else-after}

@@ -1,5 +1,5 @@
 use Rattle.block.specs.Header.{counts_of}
-use Rattle.block.proofs.header.read_counts.Goals as goal
+use Rattle.block.proofs.header.Counts.counts.Goals as goal
 
 pub returns : goal.returns
 unfolding counts_of
