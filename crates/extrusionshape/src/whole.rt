@@ -6,12 +6,12 @@ ghost use Rattle.lent.specs.Buffers.{slices_in, Same};
 ghost use Rattle.sizes.specs.Called.{Called};
 
 use crate::filling::{put_tables, texture_where};
-use crate::planning::plan_extrusion;
 use build::build;
-use extrusion::Extruded;
+use extrusion::{Extruded, cap_count};
 use lent::{Buffers, Counts};
 use shaping::plain_shared;
-use sizes::AcceptedBlock;
+use sizes::{AcceptedBlock, Net};
+use tables::plan_of;
 
 // The mesh of an accepted extrusion, into the six slices; the working slices are left with zeros. An extrusion has no coordIndex.
 pub fn make_extrusion(a: &AcceptedBlock<'_>, b: &mut Buffers<'_>) -> Counts
@@ -23,10 +23,14 @@ pub fn make_extrusion(a: &AcceptedBlock<'_>, b: &mut Buffers<'_>) -> Counts
     let block = a.block;
     let header = a.header;
     let s = a.settings;
+    let z = a.sizes;
     let x = Extruded { block, header };
     let cap = x.cap_length();
     let ring = x.ring_width();
-    let t = plan_extrusion(header, cap, ring);
+    let net = Net { header };
+    let sides = net.quads();
+    let caps = cap_count(header, cap);
+    let t = plan_of(z.points, z.corners, sides + caps, ring);
     let shared = plain_shared(header, header.convex);
     let coord = &block[0..0];
     put_tables(&x, s, cap, shared, t, b.words, b.floats);

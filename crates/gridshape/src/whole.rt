@@ -5,12 +5,13 @@ ghost use Rattle.lent.specs.Lent.{Shaped, Cleared};
 ghost use Rattle.lent.specs.Buffers.{slices_in, Same};
 ghost use Rattle.sizes.specs.Called.{Called};
 
-use crate::filling::{plan_grid, put_tables, texture_where};
+use crate::filling::{put_tables, texture_where};
 use build::build;
 use grid::GridBlock;
 use lent::{Buffers, Counts};
 use shaping::listed_shared;
-use sizes::AcceptedBlock;
+use sizes::{AcceptedBlock, Net};
+use tables::plan_of;
 
 // The mesh of an accepted grid, into the six slices; the working slices are left with zeros. A grid is always convex, and has no coordIndex.
 pub fn make_grid(a: &AcceptedBlock<'_>, b: &mut Buffers<'_>) -> Counts
@@ -22,8 +23,11 @@ pub fn make_grid(a: &AcceptedBlock<'_>, b: &mut Buffers<'_>) -> Counts
     let block = a.block;
     let header = a.header;
     let s = a.settings;
+    let z = a.sizes;
     let g = GridBlock { block, header };
-    let t = plan_grid(&g);
+    let net = Net { header };
+    let quads = net.quads();
+    let t = plan_of(z.points, z.corners, quads, 0);
     let shared = listed_shared(header, a.missing, true);
     let coord = &block[0..0];
     put_tables(&g, s, shared, t, b.words, b.floats);

@@ -4,9 +4,11 @@
 mod accepted;
 mod flags;
 mod kinds;
+mod net;
 mod refusals;
 
 pub use accepted::AcceptedBlock;
 pub use flags::{Flags, flags_of};
 pub use kinds::{Sizes, sizes_of};
+pub use net::Net;
 pub use refusals::{is_no_shape, verdict_to_7};
