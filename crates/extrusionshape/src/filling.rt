@@ -49,7 +49,7 @@ pub fn put_tables(
     arcs_where(x, t, floats);
 }
 
-// The table of texture, where texture is wanted.
+// The table of texture, where texture is wanted. It stands behind the owners, as in facesetshape.
 pub fn texture_where(
     x: &Extruded<'_>,
     s: Settings,

@@ -37,7 +37,7 @@ pub fn put_tables(
     prepare(work, t, supplied, shared.ccw, s.crease, floats);
 }
 
-// The table of texture, where texture is made.
+// The table of texture, where texture is made. It stands behind the owners, as in facesetshape.
 pub fn texture_where(g: &GridBlock<'_>, s: Settings, shared: Shared, t: Plan, work: &mut [u32])
     requires { Placed g.now.header work.old t (t.owners + t.count) }
     ensures { TexturesAt shared (texture_of g.now.block.now g.now.header s) t work.old work.new }
