@@ -35,18 +35,14 @@ store_of o = record { sources = o.sources; normals = o.normals; colours = o.colo
 wide_le : (n v : ℕ) → Wide n v → v ≤ n
 wide_le n v = ⊎_elim (λ e. omega arith) (λ e. omega arith)
 
--- the tables as `corner_tables` gives them
-module _ (t : Plan) {T : CornerTables} (e : T ≡ tables_at t.count t.points t.spots t.corners t.named t.places t.owners) where
-  tables_are : T ≡ tables_of t
-  unfolding tables_of
-  tables_are = e
-
+-- the tables as the code has them
+module _ (t : Plan) {T : CornerTables} (e : T ≡ tables_of t) where
   pub ready_at : {L : Lent} {v : Widths} {w : List ℕ} {z : Store} {x : List ℕ} → cornered.Ready L v w (tables_of t) z x → cornered.Ready L v w T z x
-  ready_at {L} {v} {w} {z} {x} = subst (λ (u : CornerTables). cornered.Ready L v w u z x) (sym tables_are)
+  ready_at {L} {v} {w} {z} {x} = subst (λ (u : CornerTables). cornered.Ready L v w u z x) (sym e)
 
   pub cornered_at : {L : Lent} {a : Attributes} {v : Widths} {z : Store} {x₀ w : List ℕ} {st : Store} {x w₁ : List ℕ} {n : ℕ}
       → Cornered L a v T z x₀ w st x w₁ n → Cornered L a v (tables_of t) z x₀ w st x w₁ n
-  cornered_at {L} {a} {v} {z} {x₀} {w} {st} {x} {w₁} {n} = subst (λ (u : CornerTables). Cornered L a v u z x₀ w st x w₁ n) tables_are
+  cornered_at {L} {a} {v} {z} {x₀} {w} {st} {x} {w₁} {n} = subst (λ (u : CornerTables). Cornered L a v u z x₀ w st x w₁ n) e
 
 module _ {L : Lent} {s : Shared} {t : Plan} {w : List ℕ} {o : Slices} (R : Ready L s t w o) where
   sound : Sound w t

@@ -3,13 +3,14 @@ ghost use Rattle.lent.specs.Buffers.{slices_in, Same};
 ghost use Rattle.build.specs.Built.{Ready, Built};
 
 use crate::shared::Shared;
-use corners::{all_vertices, corner_tables};
+use corners::{CornerTables, Given, all_vertices};
 use faces::all_faces;
 use lent::{Buffers, Counts};
 use mending::fix_zero_normals;
 use tables::{Plan, clear_floats, clear_words};
 
-// The mesh of the soup that the tables hold, into the six slices; the working slices are left with zeros.
+// The mesh of the soup that the tables hold, into the six slices; the working slices are left with zeros. Block and coordIndex come by themselves, and not in a
+// `Given`, whose floats are only read: those of b are written once the vertices are made.
 pub fn build<'a>(
     block: &'a [u8],
     coord: &'a [u8],
@@ -23,19 +24,21 @@ pub fn build<'a>(
         (slices_in b.old) (slices_in b.new) b.new.words.now b.new.floats.now result }
 {
     let w = s.widths;
-    let a = s.attributes;
-    let tables = corner_tables(
-        t.count, t.points, t.spots, t.corners, t.named, t.places, t.owners,
-    );
+    let tables = CornerTables::of_plan(t);
     // Fields that one call writes and another reads have names of their own: the check of borrows does not take two fields of `b` in one call, one to be
     // written and one to be read.
     let words = &mut *b.words;
     let floats = &mut *b.floats;
     let positions = &mut *b.positions;
     let indices = &mut *b.indices;
+    let given = Given {
+        block,
+        coord,
+        attributes: s.attributes,
+        floats: &*floats,
+    };
     let n = all_vertices(
-        block, coord, a, floats, b.sources, positions, b.normals, b.colours, b.textures, words, w,
-        tables,
+        &given, b.sources, positions, b.normals, b.colours, b.textures, words, w, tables,
     );
     let vertices = n.0;
     let k = all_faces(words, t, s.ccw, s.convex, floats, indices);

@@ -10,3 +10,12 @@ pub struct Attributes {
     pub alpha: bool,
     pub missing: Words4,
 }
+
+// What the keys of the corners are made of, beside the tables: a block, its coordIndex, and the generated normals, three floats a corner. All are only read.
+#[derive(Clone, Copy)]
+pub struct Given<'a> {
+    pub block: &'a [u8],
+    pub coord: &'a [u8],
+    pub attributes: Attributes,
+    pub floats: &'a [f32],
+}

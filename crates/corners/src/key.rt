@@ -1,33 +1,33 @@
 // The point of a corner and the nine words of its key (FORMAT 7, 11): three of the normal, four of the colour, two of the texture.
-ghost use Rattle.std.specs.Prelude.{◌≡◌, [], ◌+◌, ◌*◌, ◌≤◌, ◌<◌, length};
+ghost use Rattle.std.specs.Prelude.{◌≡◌, ◌+◌, ◌*◌, ◌≤◌, ◌<◌, length};
 ghost use Rattle.corners.specs.Laid.{Laid};
 ghost use Rattle.corners.specs.Corner.{point_at, place_at, number_at, texture_at, generated_at, normal_at, colour_at, words_at};
+ghost use Rattle.corners.specs.Given.{lent_in};
 
-use crate::attributes::Attributes;
+use crate::attributes::Given;
 use crate::laid::CornerTables;
 use bits::{Words2, Words3, Words4};
 use block::{CornerNumber, PointNumber, get4};
 use tables::wide;
 
-#[tactic(auto, unfolding(crate::specs::Corner::point_at))]
-pub fn point_of(work: &[u32], t: CornerTables, c: CornerNumber) -> PointNumber
-    requires { Laid t (length work.now) × (c.0 < t.count) }
-    ensures { result.0 ≡ point_at work.now t c.0 }
-{
-    PointNumber(wide(work[t.corners + c.0]))
-}
-
 // A corner, with the tables that say what it is.
 #[derive(Clone, Copy)]
-struct Corner<'a> {
-    work: &'a [u32],
-    tables: &'a CornerTables,
-    c: CornerNumber,
+pub struct Corner<'a> {
+    pub work: &'a [u32],
+    pub tables: &'a CornerTables,
+    pub c: CornerNumber,
     ghost laid: { Laid tables.now (length work.now) },
     ghost there: { c.0 < tables.now.count },
 }
 
 impl<'a> Corner<'a> {
+    #[tactic(auto, unfolding(crate::specs::Corner::point_at))]
+    pub fn point(&self) -> PointNumber
+        ensures { result.0 ≡ point_at self.now.work.now self.now.tables.now self.now.c.0 }
+    {
+        PointNumber(wide(self.work[self.tables.corners + self.c.0]))
+    }
+
     // Its place in coordIndex. Not one with `number`: each says in its contract what its table holds.
     #[tactic(auto, unfolding(crate::specs::Corner::place_at))]
     fn place(&self) -> usize
@@ -57,30 +57,42 @@ impl<'a> Corner<'a> {
 
     // Its normal as it goes into the key: supplied, or generated.
     #[tactic(auto, unfolding(crate::specs::Corner::normal_at))]
-    fn normal(&self, block: &'a [u8], coord: &'a [u8], a: Attributes, floats: &[f32]) -> Words3
-        requires { 3 * self.now.tables.now.count ≤ length floats.now }
-        ensures { result ≡ normal_at (record { block = block.now; coord = coord.now; floats = floats.now }) a self.now.work.now self.now.tables.now self.now.c.0 }
+    fn normal(&self, g: &Given<'_>) -> Words3
+        requires { 3 * self.now.tables.now.count ≤ length g.now.floats.now }
+        ensures { result ≡ normal_at (lent_in g.now) g.now.attributes self.now.work.now self.now.tables.now self.now.c.0 }
     {
+        let a = g.attributes;
         let Some(s) = a.normals else {
-            return generated_of(floats, self.c);
+            return generated_of(g.floats, self.c);
         };
         let none = Words3::default();
-        block::get(block, coord, s, self.place(), self.number(), none)
+        block::get(g.block, g.coord, s, self.place(), self.number(), none)
     }
 
     #[tactic(auto, unfolding(crate::specs::Corner::colour_at))]
-    fn colour(&self, block: &'a [u8], coord: &'a [u8], a: Attributes) -> Words4
-        ensures { result ≡ colour_at (record { block = block.now; coord = coord.now; floats = [] }) a self.now.work.now self.now.tables.now self.now.c.0 }
+    fn colour(&self, g: &Given<'_>) -> Words4
+        ensures { result ≡ colour_at (lent_in g.now) g.now.attributes self.now.work.now self.now.tables.now self.now.c.0 }
     {
+        let a = g.attributes;
         get4(
-            block,
-            coord,
+            g.block,
+            g.coord,
             a.colours,
             a.alpha,
             self.place(),
             self.number(),
             a.missing,
         )
+    }
+
+    pub fn key(&self, g: &Given<'_>) -> [u32; 9]
+        requires { 3 * self.now.tables.now.count ≤ length g.now.floats.now }
+        ensures { result ≡ words_at (lent_in g.now) g.now.attributes self.now.work.now self.now.tables.now self.now.c.0 }
+    {
+        let n = self.normal(g);
+        let k = self.colour(g);
+        let x = self.texture();
+        [n.x, n.y, n.z, k.r, k.g, k.b, k.a, x.s, x.t]
     }
 }
 
@@ -94,27 +106,4 @@ fn generated_of(floats: &[f32], c: CornerNumber) -> Words3
         y: math::bits_of(floats[at + 1]),
         z: math::bits_of(floats[at + 2]),
     }
-}
-
-pub fn key_of<'a>(
-    block: &'a [u8],
-    coord: &'a [u8],
-    a: Attributes,
-    floats: &[f32],
-    work: &[u32],
-    t: CornerTables,
-    c: CornerNumber,
-) -> [u32; 9]
-    requires { Laid t (length work.now) × (c.0 < t.count) × (3 * t.count ≤ length floats.now) }
-    ensures { result ≡ words_at (record { block = block.now; coord = coord.now; floats = floats.now }) a work.now t c.0 }
-{
-    let corner = Corner {
-        work,
-        tables: &t,
-        c,
-    };
-    let n = corner.normal(block, coord, a, floats);
-    let k = corner.colour(block, coord, a);
-    let x = corner.texture();
-    [n.x, n.y, n.z, k.r, k.g, k.b, k.a, x.s, x.t]
 }

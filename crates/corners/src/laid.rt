@@ -1,7 +1,9 @@
 // Where the tables of the corners stand in the working slice while vertices are made (FORMAT 4).
 ghost use Rattle.std.specs.Prelude.{◌≡◌, ◌≤◌, ◌^◌};
 ghost use Rattle.tables.specs.Layout.{most};
-ghost use Rattle.corners.specs.Laid.{tables_at};
+ghost use Rattle.corners.specs.Laid.{tables_at, tables_of};
+
+use tables::Plan;
 
 // Of each of `count` corners: its point, its vertex number, its place, its face's number, and its two words of texture. Then the chains of vertices by bucket.
 // All lie in the words that the caller lends, as there is no heap. What writes them takes them, `&mut`, beside these tables, for the reason at `tables::Plan`.
@@ -51,5 +53,18 @@ pub fn corner_tables(
         buckets,
         heads,
         nexts: heads + buckets,
+    }
+}
+
+impl CornerTables {
+    // Where a plan has them; the face numbers stand where the owners stood.
+    #[tactic(auto, unfolding(crate::specs::Laid::tables_of))]
+    pub fn of_plan(t: Plan) -> CornerTables
+        requires { (t.count ≤ most) × (t.spots ≤ most) × (t.owners ≤ 2 ^ 32) }
+        ensures { result ≡ tables_of t }
+    {
+        corner_tables(
+            t.count, t.points, t.spots, t.corners, t.named, t.places, t.owners,
+        )
     }
 }

@@ -6,6 +6,6 @@ mod key;
 mod laid;
 mod whole;
 
-pub use attributes::Attributes;
+pub use attributes::{Attributes, Given};
 pub use laid::{CornerTables, corner_tables};
 pub use whole::all_vertices;

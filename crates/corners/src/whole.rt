@@ -3,11 +3,12 @@ ghost use Rattle.std.specs.Prelude.{◌<◌, length};
 ghost use Rattle.vertices.specs.Adding as adding;
 ghost use Rattle.corners.specs.Laid.{Laid, chains_of};
 ghost use Rattle.corners.specs.Corner.{point_at};
+ghost use Rattle.corners.specs.Given.{lent_in};
 ghost use Rattle.corners.specs.Numbered.{Numbered};
 ghost use Rattle.corners.specs.Cornered.{Ready, Cornered};
 
-use crate::attributes::Attributes;
-use crate::key::{key_of, point_of};
+use crate::attributes::Given;
+use crate::key::Corner;
 use crate::laid::CornerTables;
 use block::{CornerNumber, VertexNumber};
 use tables::{fill, narrow};
@@ -41,7 +42,12 @@ fn number_corner(
         heads: t.heads,
         nexts: t.nexts,
     };
-    let point = point_of(work, t, c);
+    let corner = Corner {
+        work: &*work,
+        tables: &t,
+        c,
+    };
+    let point = corner.point();
     let r = vertex(
         sources, positions, normals, colours, textures, work, w, chains, n, point, key,
     );
@@ -52,11 +58,8 @@ fn number_corner(
 
 // All corners in order. How many vertices there are.
 // Not over `lent::Buffers`: this takes seven of its eight slices one by one at each corner, and would have to promise that floats and indices stay.
-pub fn all_vertices<'a>(
-    block: &'a [u8],
-    coord: &'a [u8],
-    a: Attributes,
-    floats: &[f32],
+pub fn all_vertices(
+    g: &Given<'_>,
     sources: &mut [u32],
     positions: &mut [u32],
     normals: &mut [u32],
@@ -66,9 +69,9 @@ pub fn all_vertices<'a>(
     w: Widths,
     t: CornerTables,
 ) -> VertexNumber
-    requires { Ready (record { block = block.now; coord = coord.now; floats = floats.now }) w work.old t
+    requires { Ready (lent_in g.now) w work.old t
         (record { sources = sources.old; normals = normals.old; colours = colours.old; textures = textures.old }) positions.old }
-    ensures { Cornered (record { block = block.now; coord = coord.now; floats = floats.now }) a w t
+    ensures { Cornered (lent_in g.now) g.now.attributes w t
         (record { sources = sources.old; normals = normals.old; colours = colours.old; textures = textures.old }) positions.old work.old
         (record { sources = sources.new; normals = normals.new; colours = colours.new; textures = textures.new }) positions.new work.new result.0 }
 {
@@ -76,7 +79,12 @@ pub fn all_vertices<'a>(
     let mut n = VertexNumber(0);
     for i in 0..t.count {
         let c = CornerNumber(i);
-        let key = key_of(block, coord, a, floats, work, t, c);
+        let corner = Corner {
+            work: &*work,
+            tables: &t,
+            c,
+        };
+        let key = corner.key(g);
         n = number_corner(
             sources, positions, normals, colours, textures, work, w, t, n, c, &key,
         );

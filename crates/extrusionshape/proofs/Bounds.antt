@@ -1,5 +1,5 @@
 -- FORMAT 3, 4: the counts and the sizes of an accepted extrusion, and its plan.
-use mathlib.Core.Path.{◌≡◌, refl, sym, ap₂, ◌∙◌, subst}
+use mathlib.Core.Path.{◌≡◌, refl, sym, ap, ◌∙◌, subst}
 use mathlib.Core.Bool.{Bool, true, false}
 use mathlib.Core.List.{List}
 use Prim.Native.Nat.{ℕ, ◌+◌, ◌-◌, ◌*◌, ◌≤◌}
@@ -7,9 +7,10 @@ use native.Mathlib.Omega.{arith}
 use Rattle.block.specs.declared.kind.Kind.TheVariants.{Extrusion}
 use Rattle.block.specs.declared.header.Header.{Header}
 use Rattle.block.specs.declared.settings.Settings.{Settings}
+use Rattle.block.proofs.Table.{count_low}
 use Rattle.mesh.specs.Mesh.{Slices}
 use Rattle.mesh.specs.Extrusion.{spine_count, section_count, section_of, ring_of, cap_length, has_cap}
-use Rattle.mesh.specs.Sizes.{one, side_count, cap_count, extrusion_sizes, sizes_of}
+use Rattle.mesh.specs.Sizes.{Sizes as Defined, one, side_count, cap_count, extrusion_sizes, sizes_of}
 use Rattle.tables.specs.declared.layout.Plan.{Plan}
 use Rattle.tables.specs.Layout.{most, plan_of}
 use Rattle.lent.specs.Lent.{Asked}
@@ -22,19 +23,8 @@ use Rattle.extrusion.proofs.Blocks.{given_of}
 use Rattle.extrusion.proofs.Joined.{planned}
 use Rattle.extrusion.proofs.Counted.{faces_third}
 use Rattle.lists.proofs.Numbers.{sum_product}
-use Rattle.extrusionshape.specs.Shape.{Sized, extrusion_plan}
-
--- ---- the code's numbers
-
--- the plan, by the counts as they are read
-module _ (h : Header) (cap : ℕ) {n m c : ℕ} (en : n ≡ spine_count h) (em : m ≡ section_count h) (ec : c ≡ cap_count h cap) where
-  pub counts_low : Sized h cap
-      → (2 ≤ n) × (2 ≤ m) × (n * m ≤ most) × (4 * ((n - 1) * (m - 1)) + c * cap ≤ most) × (((n - 1) * (m - 1) + c) * 3 ≤ 4 * ((n - 1) * (m - 1)) + c * cap)
-  counts_low S = rw (en, em, ec) (S.spine, S.section, S.points, S.corners, faces_third h cap)
-
-  pub plan_by : (ring : ℕ) → plan_of (n * m) (4 * ((n - 1) * (m - 1)) + c * cap) ((n - 1) * (m - 1) + c) ring ≡ extrusion_plan h cap ring
-  unfolding extrusion_plan
-  plan_by ring = λ i. plan_of (en i * em i) (4 * ((en i - 1) * (em i - 1)) + ec i * cap) ((en i - 1) * (em i - 1) + ec i) ring
+use Rattle.sizes.specs.declared.kinds.Sizes.{Sizes}
+use Rattle.sizes.specs.Known.{Sides, Counted as Known}
 
 -- each face of n corners makes 3 (n - 2) indices
 indices_fit : (h : Header) (cap : ℕ) → 3 * (4 * side_count h + cap_count h cap * cap - 2 * (side_count h + cap_count h cap)) ≤ 6 * side_count h + cap_count h cap * (3 * (cap - 2))
@@ -54,21 +44,44 @@ module _ {bs : List ℕ} {h : Header} {s : Settings} {o : Slices} {w f : ℕ} (A
   pub given : Given bs h
   given = given_of A.accepted.taken A.accepted.header A.kind A.accepted.shape
 
+  pub net_sides : Sides h
+  net_sides =
+      record {
+        long = given.spine;
+        wide = given.section;
+        length_few = omega (arith, count_low A.accepted.taken 0);
+        width_few = omega (arith, count_low A.accepted.taken 1);
+      }
+
+  abbrev faces_in : ℕ
+  faces_in = side_count h + cap_count h (cap_length (section_of bs h))
+
   -- with the corners of a cap as the code has them
   module _ {cap : ℕ} (e : cap ≡ cap_length (section_of bs h)) where
-    pub sized : Sized h cap
-    unfolding extrusion_sizes
-    sized = let l = low_by A sizes_are in subst (Sized h) (sym e) (record { spine = given.spine; section = given.section; points = l.0; corners = l.1 })
+    -- and the sizes z as they were counted, q sides and n caps
+    module _ {z : Sizes} (C : Known bs h z) {q n : ℕ} (eq : q ≡ side_count h) (en : n ≡ cap_count h cap) where
+      faces_are : q + n ≡ faces_in
+      faces_are = let d : n ≡ cap_count h (cap_length (section_of bs h)) = en ∙ ap (cap_count h) e in λ i. eq i + d i
 
-    module _ {ring : ℕ} {t : Plan} (er : ring ≡ ring_of (section_of bs h)) (p : t ≡ extrusion_plan h cap ring) where
-      pub counted : Counted (extrusion_sizes bs h) (side_count h + cap_count h (cap_length (section_of bs h))) (ring_of (section_of bs h)) t
-      unfolding extrusion_plan extrusion_sizes
-      counted =
+      -- what `plan_of` asks, and what it gives
+      pub plan_asked : (z.points ≤ most) × (z.corners ≤ most) × (q + n ≤ most)
+      unfolding extrusion_sizes
+      plan_asked =
+          let l = low_by A refl in
+          (omega (arith, C.points, l.0), omega (arith, C.corners, l.1), omega (arith, faces_are, faces_third h (cap_length (section_of bs h)), (low_by A sizes_are).1))
+
+      pub counted : {ring : ℕ} {t : Plan} → ring ≡ ring_of (section_of bs h) → t ≡ plan_of z.points z.corners (q + n) ring
+          → Counted (extrusion_sizes bs h) faces_in (ring_of (section_of bs h)) t
+      unfolding extrusion_sizes
+      counted er p =
           let k : ℕ = cap_length (section_of bs h) in
-          record { plan = p ∙ ap₂ (extrusion_plan h) e er; third = faces_third h k; indices = indices_fit h k }
+          let a = C.points ∙ ap (λ (z : Defined). z.points) sizes_are in
+          let b = C.corners ∙ ap (λ (z : Defined). z.corners) sizes_are in
+          record { plan = p ∙ λ i. plan_of (a i) (b i) (faces_are i) (er i); third = faces_third h k; indices = indices_fit h k }
 
-      pub roomy : Ample (extrusion_sizes bs h) (side_count h + cap_count h (cap_length (section_of bs h))) (ring_of (section_of bs h)) t w f
-      roomy = ample A sizes_are counted
+    module _ {t : Plan} (P : Counted (extrusion_sizes bs h) faces_in (ring_of (section_of bs h)) t) where
+      pub roomy : Ample (extrusion_sizes bs h) faces_in (ring_of (section_of bs h)) t w f
+      roomy = ample A sizes_are P
 
       pub planned_at : Planned h cap w t
       planned_at = let G = roomy in subst (λ (c : ℕ). Planned h c w t) (sym e) (planned given G.room G.spots G.count G.faces)

@@ -1,2 +1,2 @@
--- The plan of an extrusion, what is listed of it, and its texture.
+-- What is listed of an extrusion, and its texture.
 pub mod Shape

@@ -1,26 +1,12 @@
--- FORMAT 4, 7, 8.4: the plan of an extrusion, its faces as they are listed, and its texture.
-use Rattle.std.specs.Prelude.{◌≡◌, true, List, ◌++◌, ℕ, ◌+◌, ◌*◌, ◌≤◌, take, drop, Float}
+-- FORMAT 7, 8.4: the faces of an extrusion as they are listed, and its texture.
+use Rattle.std.specs.Prelude.{◌≡◌, true, List, ◌++◌, ℕ, ◌+◌, take, drop, Float}
 use Rattle.bits.specs.declared.Words2.{Words2}
 use Rattle.block.specs.declared.header.Header.{Header}
 use Rattle.mesh.specs.Arcs.{arcs2, arcs3}
 use Rattle.mesh.specs.Extrusion.{spine_count, section_count, extrusion_of}
-use Rattle.mesh.specs.Sizes.{side_count, cap_count}
-use Rattle.tables.specs.declared.layout.Plan.{Plan}
-use Rattle.tables.specs.Layout.{most, plan_of}
 use Rattle.tables.specs.Listed.{Use, Listing}
 use Rattle.extrusion.specs.Listings.{use_of, extrusion_listings}
 use Rattle.extrusion.specs.Corners.{extrusion_corner}
-
--- FORMAT 4, 8.4: the sides, P and C, where a cap has `cap` corners
-pub record Sized (h : Header) (cap : ℕ) : Type 0 where
-  pub spine : 2 ≤ spine_count h
-  pub section : 2 ≤ section_count h
-  pub points : spine_count h * section_count h ≤ most
-  pub corners : 4 * side_count h + cap_count h cap * cap ≤ most
-
--- FORMAT 4, 8.4: P points, in rings of `ring`, C corners, and a face for each side and each cap
-unfoldable pub extrusion_plan : Header → ℕ → ℕ → Plan
-extrusion_plan h cap ring = plan_of (spine_count h * section_count h) (4 * side_count h + cap_count h cap * cap) (side_count h + cap_count h cap) ring
 
 -- FORMAT 8.4: the sides and the caps
 abbrev pub listings_for : Header → ℕ → List Listing

@@ -49,7 +49,8 @@ pub fn put_tables(
     arcs_where(x, t, floats);
 }
 
-// The table of texture, where texture is wanted. The settings stand beside x, as sizes makes an `Extruded` without them.
+// The table of texture, where texture is wanted. It stands behind the owners, as in facesetshape. The settings stand beside x, as sizes makes an `Extruded`
+// without them.
 pub fn texture_where(
     x: &Extruded<'_>,
     s: Settings,

@@ -2,7 +2,6 @@
 #![tactic(auto)]
 
 mod filling;
-mod planning;
 mod whole;
 
 pub use whole::make_extrusion;

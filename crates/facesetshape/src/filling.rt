@@ -45,6 +45,8 @@ fn fit_in(work: &[u32], t: Plan) -> Fit
 }
 
 // The table of texture, where texture is made.
+// The textures stand behind the owners: a method of Plan for that place would ask that the sum fits, which each of its three callers would have to show, and
+// no clause would be shorter.
 pub fn texture_where(b: &SetBlock<'_>, shared: Shared, t: Plan, work: &mut [u32])
     requires { Placed b.now.source.block.now b.now.source.header t work.old }
     ensures { TexturesAt shared (face_set_texture b.now.source.block.now b.now.source.header b.now.source.settings) t work.old work.new }

@@ -1,4 +1,4 @@
--- FORMAT 8: what a shape asks of an accepted block of its kind, and that its mesh is the block's.
+-- FORMAT 8: the mesh that a shape makes of an accepted block of its kind is the block's.
 use mathlib.Core.Path.{◌≡◌, sym, ap, subst, ◌∙◌}
 use mathlib.Core.List.{List}
 use Prim.Native.Nat.{ℕ}
@@ -7,9 +7,7 @@ use Rattle.bits.specs.declared.Words4.{Words4}
 use Rattle.block.specs.declared.header.Header.{Header}
 use Rattle.block.specs.declared.settings.Settings.{Settings}
 use Rattle.block.specs.declared.kind.Kind.{Kind}
-use Rattle.block.specs.declared.kind.Kind.TheVariants.{LineSet}
 use Rattle.block.specs.Kind.{by_kind}
-use Rattle.block.specs.Settings.{settings_of}
 use Rattle.mesh.specs.Mesh.{Slices}
 use Rattle.mesh.specs.FaceSet.{face_set_mesh}
 use Rattle.mesh.specs.Lines.{line_set_mesh}
@@ -21,14 +19,6 @@ use Rattle.lent.specs.declared.Counts.{Counts}
 use Rattle.lent.specs.Lent.{Asked, Shaped, Cleared}
 
 module _ {bs : List ℕ} {h : Header} {s : Settings} {o : Slices} {w f : ℕ} (A : Asked h.kind bs h s o w f) where
-  -- the kind is k
-  pub asked_at : {k : Kind} → h.kind ≡ k → Asked k bs h s o w f
-  asked_at e = record { accepted = A.accepted; kind = e; enough = A.enough }
-
-  -- a line set takes no settings
-  pub asked_lines : h.kind ≡ LineSet → Asked LineSet bs h (settings_of bs) o w f
-  asked_lines e = rw A.accepted.settings at (asked_at e)
-
   pub shaped_at : (missing : Words4) {k : Kind} → h.kind ≡ k → (m : Slices) (r : Counts) (v v' : List ℕ) (g g' : List Float)
       → Shaped h (by_kind k (face_set_mesh missing bs) (line_set_mesh missing bs) (grid_mesh missing bs) (extrusion_mesh bs) (λ g. primitive_mesh missing g bs)) o m r × Cleared v v' g g'
       → Shaped h (block_mesh missing bs) o m r × Cleared v v' g g'

@@ -1,41 +1,32 @@
 // The mesh of an accepted block, by its kind (FORMAT 8).
-ghost use Rattle.std.specs.Prelude.{length};
 ghost use Rattle.mesh.specs.Result.{block_mesh};
-ghost use Rattle.lent.specs.Lent.{Asked, Shaped, Cleared};
+ghost use Rattle.lent.specs.Lent.{Shaped, Cleared};
 ghost use Rattle.lent.specs.Buffers.{slices_in, Same};
-ghost use Rattle.sizes.specs.Known.{Counted};
+ghost use Rattle.sizes.specs.Called.{Called};
 
-use bits::Words4;
-use block::{Header, Kind, Settings};
+use block::Kind;
 use extrusionshape::make_extrusion;
 use facesetshape::make_face_set;
 use gridshape::make_grid;
 use lent::{Buffers, Counts};
 use lineshape::make_line_set;
 use primitiveshape::make_primitives;
-use sizes::Sizes;
+use sizes::AcceptedBlock;
 
 // FORMAT 2.2: by kind.
-pub fn make_kind(
-    block: &[u8],
-    h: Header,
-    z: Sizes,
-    s: Settings,
-    missing: Words4,
-    b: &mut Buffers<'_>,
-) -> Counts
-    requires { Asked h.kind block.now h s
-        (slices_in b.old) (length b.old.words.now) (length b.old.floats.now) × Counted block.now h z }
+pub fn make_kind(a: &AcceptedBlock<'_>, b: &mut Buffers<'_>) -> Counts
+    requires { Called a.now.header.kind a.now b.old }
     ensures same { Same b.old b.new }
-    ensures made { Shaped h (block_mesh missing block.now) (slices_in b.old) (slices_in b.new) result
+    ensures made { Shaped a.now.header (block_mesh a.now.missing a.now.block.now) (slices_in b.old) (slices_in b.new) result
         × Cleared b.old.words.now b.new.words.now b.old.floats.now b.new.floats.now }
 {
+    let h = a.header;
     let kind = h.kind;
     match kind {
-        Kind::FaceSet => make_face_set(block, h, z, s, missing, b),
-        Kind::LineSet => make_line_set(block, h, z.corners, missing, b),
-        Kind::Grid => make_grid(block, h, s, missing, b),
-        Kind::Extrusion => make_extrusion(block, h, s, b),
-        Kind::Primitives(g) => make_primitives(block, h, g, z, s, missing, b),
+        Kind::FaceSet => make_face_set(a, b),
+        Kind::LineSet => make_line_set(a, b),
+        Kind::Grid => make_grid(a, b),
+        Kind::Extrusion => make_extrusion(a, b),
+        Kind::Primitives(g) => make_primitives(a, g, b),
     }
 }

@@ -10,7 +10,7 @@ use crate::kinds::make_kind;
 use crate::refusals::verdict_for;
 use block::Header;
 use lent::{Answer, Buffers, Report};
-use sizes::Sizes;
+use sizes::{AcceptedBlock, Sizes};
 
 // A call that nothing refuses, by the block's header and sizes.
 fn make(call: Call, block: &[u8], h: Header, z: Sizes, b: &mut Buffers<'_>) -> Report
@@ -18,9 +18,15 @@ fn make(call: Call, block: &[u8], h: Header, z: Sizes, b: &mut Buffers<'_>) -> R
     ensures same { Same b.old b.new }
     ensures converted { Converted call block.now (held b.old) (held b.new) (Ok result) }
 {
-    let s = block::read_settings(block);
-    let missing = call.colour;
-    let n = make_kind(block, h, z, s, missing, b);
+    let settings = block::read_settings(block);
+    let a = AcceptedBlock {
+        block,
+        header: h,
+        settings,
+        sizes: z,
+        missing: call.colour,
+    };
+    let n = make_kind(&a, b);
     let f = sizes::flags_of(h);
     // FORMAT 5's result has the five side by side: two are counted of what was made, three go by the header alone.
     Report {

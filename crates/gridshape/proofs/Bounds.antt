@@ -1,8 +1,9 @@
 -- FORMAT 3, 4: the sides and the sizes of an accepted grid, and its plan.
-use mathlib.Core.Path.{◌≡◌, refl, sym, ap, ap₂, ◌∙◌}
+use mathlib.Core.Path.{◌≡◌, refl, sym, ap, ◌∙◌}
 use mathlib.Core.Bool.{false}
 use mathlib.Core.List.{List}
 use Prim.Native.Nat.{ℕ, ◌-◌, ◌*◌, ◌≤◌}
+use native.Mathlib.Nat.{mul_comm}
 use native.Mathlib.Omega.{arith}
 use lib.ListN.{length, get_or}
 use Rattle.bits.specs.Bits.{entries}
@@ -15,7 +16,7 @@ use Rattle.block.specs.Extents.{list_bytes}
 use Rattle.lists.specs.Parts.{spliced}
 use Rattle.mesh.specs.Mesh.{Slices}
 use Rattle.mesh.specs.Grid.{x_dimension, z_dimension, grid_points}
-use Rattle.mesh.specs.Sizes.{quad_count, grid_sizes, sizes_of, is_no_grid, is_no_extrusion, is_no_shape}
+use Rattle.mesh.specs.Sizes.{Sizes as Defined, quad_count, side_count, grid_sizes, sizes_of, is_no_grid, is_no_extrusion, is_no_shape}
 use Rattle.mesh.proofs.Sizes.{grid_words}
 use Rattle.tables.specs.declared.layout.Plan.{Plan}
 use Rattle.tables.specs.Layout.{most, plan_of}
@@ -27,16 +28,8 @@ use Rattle.shaping.proofs.Room.{ample}
 use Rattle.shaping.proofs.Tabling.{points_put}
 use Rattle.grid.specs.Sides.{Sides, Planned}
 use Rattle.grid.proofs.Sized.{sides_of, heights_in, shape_of}
-use Rattle.gridshape.specs.Shape.{grid_plan}
-
--- the plan, by the sides as the code reads them
-module _ (h : Header) {x z : ℕ} (ex : x ≡ x_dimension h) (ez : z ≡ z_dimension h) where
-  pub plan_low_by : Sides h → 4 * quad_count h ≤ most → (x * z ≤ most) × (4 * ((z - 1) * (x - 1)) ≤ most)
-  plan_low_by S c = (rw (ex, ez) S.few, rw (ex, ez) c)
-
-  pub plan_by : plan_of (x * z) (4 * ((z - 1) * (x - 1))) ((z - 1) * (x - 1)) 0 ≡ grid_plan h
-  unfolding grid_plan
-  plan_by = ap₂ (λ (x z : ℕ). plan_of (x * z) (4 * ((z - 1) * (x - 1))) ((z - 1) * (x - 1)) 0) ex ez
+use Rattle.sizes.specs.declared.kinds.Sizes.{Sizes}
+use Rattle.sizes.specs.Known.{Sides as NetSides, Counted as Known}
 
 -- the points as they are put
 pub points_there : (bs : List ℕ) (h : Header) (s : Settings) {t : Plan} (w : List ℕ) {w₁ : List ℕ} → Planned h (length w) t → w₁ ≡ spliced w t.points (grid_points h s (entries (list_bytes bs h 3)))
@@ -56,20 +49,34 @@ module _ {bs : List ℕ} {h : Header} {s : Settings} {o : Slices} {w f : ℕ} (A
   unfolding grid_sizes
   sides = sides_of bs h A.accepted.header shape.0 shape.1 (low_by A sizes_are).0
 
-  pub corners_low : 4 * quad_count h ≤ most
-  unfolding grid_sizes
-  corners_low = (low_by A sizes_are).1
+  pub net_sides : NetSides h
+  net_sides = let S = sides in record { long = S.wide; wide = S.deep; length_few = omega (arith, S.width); width_few = omega (arith, S.depth) }
 
   pub heights : x_dimension h * z_dimension h ≤ length (entries (list_bytes bs h 3))
   heights = heights_in bs h A.kind A.accepted.taken.length_is (x_dimension h * z_dimension h) shape.2
 
-  module _ {t : Plan} (e : t ≡ grid_plan h) where
-    pub counted : Counted (grid_sizes h) (quad_count h) 0 t
-    unfolding grid_plan grid_sizes
-    counted = record { plan = e; third = omega arith; indices = omega arith }
+  -- the sizes z as they were counted, and q quads
+  module _ {z : Sizes} (C : Known bs h z) {q : ℕ} (e : q ≡ side_count h) where
+    quads_are : q ≡ quad_count h
+    quads_are = e ∙ mul_comm (x_dimension h - 1) (z_dimension h - 1)
 
+    -- what `plan_of` asks, and what it gives
+    pub plan_asked : (z.points ≤ most) × (z.corners ≤ most) × (q ≤ most)
+    unfolding grid_sizes
+    plan_asked =
+        let l = low_by A refl in
+        (omega (arith, C.points, l.0), omega (arith, C.corners, l.1), omega (arith, quads_are, (low_by A sizes_are).1))
+
+    pub counted : {t : Plan} → t ≡ plan_of z.points z.corners q 0 → Counted (grid_sizes h) (quad_count h) 0 t
+    unfolding grid_sizes
+    counted p =
+        let n = C.points ∙ ap (λ (z : Defined). z.points) sizes_are in
+        let c = C.corners ∙ ap (λ (z : Defined). z.corners) sizes_are in
+        record { plan = p ∙ λ i. plan_of (n i) (c i) (quads_are i) 0; third = omega arith; indices = omega arith }
+
+  module _ {t : Plan} (P : Counted (grid_sizes h) (quad_count h) 0 t) where
     pub roomy : Ample (grid_sizes h) (quad_count h) 0 t w f
-    roomy = ample A sizes_are counted
+    roomy = ample A sizes_are P
 
     pub planned : Planned h w t
     unfolding grid_sizes

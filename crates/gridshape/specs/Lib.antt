@@ -1,2 +1,2 @@
--- The plan of a grid, and its texture.
+-- The texture of a grid.
 pub mod Shape

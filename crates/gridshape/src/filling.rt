@@ -1,31 +1,18 @@
 // FORMAT 8.3: the tables of a grid, as `build` reads them.
-ghost use Rattle.std.specs.Prelude.{◌≡◌, ◌+◌, ◌*◌, ◌≤◌, length};
+ghost use Rattle.std.specs.Prelude.{◌+◌, ◌*◌, ◌≤◌, length};
 ghost use Rattle.bits.specs.Bits.{entries};
 ghost use Rattle.block.specs.Extents.{list_bytes};
 ghost use Rattle.mesh.specs.Grid.{x_dimension, z_dimension, grid_points};
-ghost use Rattle.mesh.specs.Sizes.{quad_count};
-ghost use Rattle.tables.specs.Layout.{most};
 ghost use Rattle.grid.specs.Sides.{Planned};
 ghost use Rattle.grid.specs.Textures.{Placed};
 ghost use Rattle.grid.specs.Listings.{grid_listings};
 ghost use Rattle.shaping.specs.Tabled.{Tabled, TexturesAt};
-ghost use Rattle.gridshape.specs.Shape.{grid_plan, texture_of};
+ghost use Rattle.gridshape.specs.Shape.{texture_of};
 
 use build::Shared;
 use grid::GridBlock;
 use soups::prepare;
-use tables::{Plan, plan_of};
-
-// The plan for a grid's points, corners and quads.
-pub fn plan_grid(g: &GridBlock<'_>) -> Plan
-    requires { 4 * quad_count g.now.header ≤ most }
-    ensures { result ≡ grid_plan g.now.header }
-{
-    let xd = g.x_dimension();
-    let zd = g.z_dimension();
-    let quads = (zd - 1) * (xd - 1);
-    plan_of(xd * zd, 4 * quads, quads, 0)
-}
+use tables::Plan;
 
 // All tables but that of texture.
 // Not one with the other shapes: what puts the points and the faces is this kind's own, and the contract needs what each of these calls asks and gives.
@@ -43,7 +30,7 @@ pub fn put_tables(g: &GridBlock<'_>, shared: Shared, t: Plan, work: &mut [u32], 
     prepare(work, t, supplied, shared.ccw, s.crease, floats);
 }
 
-// The table of texture, where texture is made.
+// The table of texture, where texture is made. It stands behind the owners, as in facesetshape.
 pub fn texture_where(g: &GridBlock<'_>, shared: Shared, t: Plan, work: &mut [u32])
     requires { Placed g.now.header work.old t (t.owners + t.count) }
     ensures { TexturesAt shared (texture_of g.now.block.now g.now.header g.now.settings) t work.old work.new }

@@ -1,39 +1,37 @@
 // FORMAT 8.3, elevation_grid: all of it.
 ghost use Rattle.block.specs.declared.kind.Kind.TheVariants.{Grid};
-ghost use Rattle.std.specs.Prelude.{length};
 ghost use Rattle.mesh.specs.Grid.{grid_mesh};
-ghost use Rattle.lent.specs.Lent.{Asked, Shaped, Cleared};
+ghost use Rattle.lent.specs.Lent.{Shaped, Cleared};
 ghost use Rattle.lent.specs.Buffers.{slices_in, Same};
+ghost use Rattle.sizes.specs.Called.{Called};
 
-use crate::filling::{plan_grid, put_tables, texture_where};
-use bits::Words4;
-use block::{Header, Settings};
+use crate::filling::{put_tables, texture_where};
 use build::build;
 use grid::GridBlock;
 use lent::{Buffers, Counts};
 use shaping::listed_shared;
+use sizes::{AcceptedBlock, Net};
+use tables::plan_of;
 
 // The mesh of an accepted grid, into the six slices; the working slices are left with zeros. A grid is always convex, and has no coordIndex.
-pub fn make_grid(
-    block: &[u8],
-    h: Header,
-    s: Settings,
-    missing: Words4,
-    b: &mut Buffers<'_>,
-) -> Counts
-    requires { Asked Grid block.now h s
-        (slices_in b.old) (length b.old.words.now) (length b.old.floats.now) }
+pub fn make_grid(a: &AcceptedBlock<'_>, b: &mut Buffers<'_>) -> Counts
+    requires { Called Grid a.now b.old }
     ensures same { Same b.old b.new }
-    ensures made { Shaped h (grid_mesh missing block.now) (slices_in b.old) (slices_in b.new) result
+    ensures made { Shaped a.now.header (grid_mesh a.now.missing a.now.block.now) (slices_in b.old) (slices_in b.new) result
         × Cleared b.old.words.now b.new.words.now b.old.floats.now b.new.floats.now }
 {
+    let block = a.block;
+    let header = a.header;
+    let z = a.sizes;
     let g = GridBlock {
         block,
-        header: h,
-        settings: s,
+        header,
+        settings: a.settings,
     };
-    let t = plan_grid(&g);
-    let shared = listed_shared(h, missing, true);
+    let net = Net { header };
+    let quads = net.quads();
+    let t = plan_of(z.points, z.corners, quads, 0);
+    let shared = listed_shared(header, a.missing, true);
     let coord = &block[0..0];
     put_tables(&g, shared, t, b.words, b.floats);
     texture_where(&g, shared, t, b.words);

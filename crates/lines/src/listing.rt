@@ -12,7 +12,7 @@ use block::{CornerNumber, PointNumber, runs_in};
 use corners::CornerTables;
 use tables::{narrow, wide};
 
-// Corner c: its point, its place in coordIndex, and the number of its line.
+// Corner c: its point, its place in coordIndex, and the number of its line. The words stay beside the tables here and below, for the reason at `tables::Plan`.
 #[tactic(auto, unfolding(crate::specs::Uses::listed_at))]
 fn list_corner(
     work: &mut [u32],

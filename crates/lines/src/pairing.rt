@@ -33,7 +33,8 @@ fn put_line(indices: &mut [u32], at: usize, last: Option<VertexNumber>, next: Ve
     }
 }
 
-// One entry, read as a point. `numbers` has the vertex numbers of the corners.
+// One entry, read as a point. `numbers` has the vertex numbers of the corners. It and `points` stay two arguments: a struct of them would spare this function
+// and `put_run` one each, and their clauses and bodies would name both through it.
 fn put_entry(
     e: PointNumber,
     points: usize,

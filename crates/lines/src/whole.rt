@@ -3,12 +3,13 @@ ghost use Rattle.lent.specs.Buffers.{Same};
 ghost use Rattle.lines.specs.Made.{store_in, Ready, Done};
 
 use crate::pairing::put_lines;
-use corners::{Attributes, CornerTables, all_vertices};
+use corners::{Attributes, CornerTables, Given, all_vertices};
 use lent::{Buffers, Counts};
 use tables::{clear_floats, clear_words};
 use vertices::Widths;
 
-// The vertices, then the lines. The working slices are cleared.
+// The vertices, then the lines. The working slices are cleared. Block and coordIndex come by themselves, as in `build::build`: the floats of a `Given` are only
+// read, and those of b are cleared.
 pub fn make_lines<'a>(
     block: &'a [u8],
     coord: &'a [u8],
@@ -27,11 +28,14 @@ pub fn make_lines<'a>(
 {
     let words = &mut *b.words;
     let floats = &mut *b.floats;
-    let n = all_vertices(
+    let given = Given {
         block,
         coord,
-        a,
-        floats,
+        attributes: a,
+        floats: &*floats,
+    };
+    let n = all_vertices(
+        &given,
         b.sources,
         b.positions,
         b.normals,

@@ -16,7 +16,7 @@ use Rattle.mesh.specs.Sizes.{Sizes, named, lines_after, line_set_sizes, sizes_of
 use Rattle.tables.specs.Layout.{most}
 use Rattle.corners.specs.declared.laid.CornerTables.{CornerTables}
 use Rattle.corners.specs.Laid.{Laid}
-use Rattle.block.specs.Settings.{settings_of}
+use Rattle.block.specs.declared.settings.Settings.{Settings}
 use Rattle.lent.specs.Lent.{Asked, Enough}
 use Rattle.lent.proofs.Accepts.{low_by, enough_by}
 use Rattle.lent.proofs.Points.{points_in_lem, points_all}
@@ -28,7 +28,7 @@ use Rattle.lineshape.proofs.Tabling.{tables_laid}
 abbrev pub sizes_by : ℕ → List ℕ → Sizes
 sizes_by p es = record { points = p; corners = sum_over (named p) (runs es); indices = 2 * sum_over (lines_after p false) (runs es) }
 
-module _ {bs : List ℕ} {h : Header} {o : Slices} {w f : ℕ} (A : Asked LineSet bs h (settings_of bs) o w f) where
+module _ {bs : List ℕ} {h : Header} {s : Settings} {o : Slices} {w f : ℕ} (A : Asked LineSet bs h s o w f) where
   sizes_are : sizes_of bs h ≡ line_set_sizes bs h
   unfolding sizes_of
   sizes_are = rw A.kind refl

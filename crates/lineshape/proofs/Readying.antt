@@ -12,7 +12,7 @@ use Rattle.bits.specs.declared.Words4.{Words4}
 use Rattle.block.specs.declared.kind.Kind.TheVariants.{LineSet}
 use Rattle.block.specs.declared.header.Header.{Header}
 use Rattle.block.specs.Header.{header_of}
-use Rattle.block.specs.Settings.{settings_of}
+use Rattle.block.specs.declared.settings.Settings.{Settings}
 use Rattle.block.specs.Extents.{list_bytes}
 use Rattle.mesh.specs.Mesh.{Slices, slices_of, over}
 use Rattle.mesh.specs.FaceSet.{rest_of, coord_in, point_count}
@@ -47,7 +47,7 @@ abbrev pub store_of : Slices → Store
 store_of o = record { sources = o.sources; normals = o.normals; colours = o.colours; textures = o.textures }
 
 -- the words w lent, then w₁ with the tables; the floats d; the lists, tables, attributes and widths as the code has them
-module _ (missing : Words4) (d : List Float) {bs : List ℕ} {h : Header} {o : Slices} {w w₁ : List ℕ} (A : Asked LineSet bs h (settings_of bs) o (length w) (length d))
+module _ (missing : Words4) (d : List Float) {bs : List ℕ} {h : Header} {s : Settings} {o : Slices} {w w₁ : List ℕ} (A : Asked LineSet bs h s o (length w) (length d))
     {list coord : List ℕ} (l : list ≡ list_bytes bs h 0) (c : coord ≡ list_bytes bs h 1) {t : CornerTables} (e : t ≡ line_tables (point_count h) (entries coord))
     (T : Tabled (point_count h) (entries list) (entries coord) t w w₁) {a : Attributes} (q : a ≡ attributes_of missing h) {widths : Widths} (v : widths ≡ line_widths h) where
   read : Lent

@@ -4,3 +4,4 @@ mod Within
 mod ByKind
 pub mod Decided
 mod Bits
+pub mod Calls

@@ -2,3 +2,4 @@
 pub mod Known
 pub mod Judged
 pub mod Flagged
+pub mod Called

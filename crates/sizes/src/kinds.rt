@@ -1,10 +1,11 @@
 // FORMAT 4: P, C and N of each kind.
-ghost use Rattle.std.specs.Prelude.{◌≡◌, ◌+◌, ◌-◌, ◌*◌, ◌≤◌, ◌<◌, ◌^◌, get_or};
+ghost use Rattle.std.specs.Prelude.{◌≡◌, ◌-◌, ◌*◌, ◌≤◌, ◌<◌, ◌^◌, get_or};
 ghost use Rattle.extrusion.specs.Given.{Given};
 ghost use Rattle.mesh.specs.Sizes as spec;
 ghost use Rattle.tables.specs.Layout.{most};
-ghost use Rattle.sizes.specs.Known.{Sides, Known, set_faces, primitive_faces, Are, Counted};
+ghost use Rattle.sizes.specs.Known.{Known, set_faces, primitive_faces, Are, Counted};
 
+use crate::net::Net;
 use block::{Header, Kind, Topology, Totals};
 use extrusion::Extruded;
 use primitives::Source;
@@ -17,20 +18,6 @@ pub struct Sizes {
     pub corners: usize,
     pub indices: usize,
     pub faces: usize,
-}
-
-// The points of a grid or an extrusion, and the quads between them.
-#[derive(Clone, Copy)]
-struct Net {
-    points: usize,
-    quads: usize,
-}
-
-// Factors of 32 bits, so the product fits.
-pub fn product(a: u32, b: u32) -> usize
-    ensures { result ≡ a * b }
-{
-    wide(a) * wide(b)
 }
 
 // Of listed faces, by what their runs have together.
@@ -83,26 +70,14 @@ fn line_set_sizes(block: &[u8], h: Header) -> Sizes
     }
 }
 
-fn net_of(h: Header) -> Net
-    requires { Sides h }
-    ensures { (result.points ≡ get_or h.counts 0 0 * get_or h.counts 1 0) × (result.quads ≡ spec.side_count h) × (result.quads ≤ most * most) }
+fn grid_sizes(net: &Net) -> Sizes
+    ensures { Are (spec.grid_sizes net.now.header) 0 result }
 {
-    let n = h.counts;
-    Net {
-        points: product(n[0], n[1]),
-        quads: product(n[0] - 1, n[1] - 1),
-    }
-}
-
-fn grid_sizes(h: Header) -> Sizes
-    requires { Sides h }
-    ensures { Are (spec.grid_sizes h) 0 result }
-{
-    let t = net_of(h);
+    let quads = net.quads();
     Sizes {
-        points: t.points,
-        corners: 4 * t.quads,
-        indices: 6 * t.quads,
+        points: net.points(),
+        corners: 4 * quads,
+        indices: 6 * quads,
         faces: 0,
     }
 }
@@ -115,17 +90,18 @@ fn cap_indices(k: usize) -> usize
     3 * k.saturating_sub(2)
 }
 
-fn extrusion_sizes(block: &[u8], h: Header) -> Sizes
-    requires { Given block.now h × Sides h }
-    ensures { Are (spec.extrusion_sizes block.now h) 0 result }
+fn extrusion_sizes(block: &[u8], net: &Net) -> Sizes
+    requires { Given block.now net.now.header }
+    ensures { Are (spec.extrusion_sizes block.now net.now.header) 0 result }
 {
-    let k = Extruded { block, header: h }.cap_length();
-    let n = extrusion::cap_count(h, k);
-    let t = net_of(h);
+    let header = net.header;
+    let k = Extruded { block, header }.cap_length();
+    let n = extrusion::cap_count(header, k);
+    let quads = net.quads();
     Sizes {
-        points: t.points,
-        corners: 4 * t.quads + n * k,
-        indices: 6 * t.quads + n * cap_indices(k),
+        points: net.points(),
+        corners: 4 * quads + n * k,
+        indices: 6 * quads + n * cap_indices(k),
         faces: 0,
     }
 }
@@ -139,8 +115,14 @@ pub fn sizes_of(block: &[u8], h: Header) -> Sizes
     match kind {
         Kind::FaceSet => face_set_sizes(block, h),
         Kind::LineSet => line_set_sizes(block, h),
-        Kind::Grid => grid_sizes(h),
-        Kind::Extrusion => extrusion_sizes(block, h),
+        Kind::Grid => {
+            let grid = Net { header: h };
+            grid_sizes(&grid)
+        }
+        Kind::Extrusion => {
+            let sides = Net { header: h };
+            extrusion_sizes(block, &sides)
+        }
         Kind::Primitives(g) => primitive_sizes(block, h, g),
     }
 }

@@ -5,7 +5,8 @@ ghost use Rattle.block.specs.Refusal.{Taken, block_rows, first_of};
 ghost use Rattle.mesh.specs.Sizes.{is_no_grid, is_no_extrusion, is_no_shape, shape_rows};
 ghost use Rattle.sizes.specs.Judged.{Judged};
 
-use crate::kinds::{Sizes, product, sizes_of};
+use crate::kinds::{Sizes, sizes_of};
+use crate::net::product;
 use block::{Header, Kind, Refusal, limit_of};
 use tables::wide;
 

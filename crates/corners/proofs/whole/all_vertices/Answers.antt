@@ -6,12 +6,16 @@ use Rattle.corners.proofs.whole.all_vertices.Goals as goal
 pub loop-i-init : goal.loop-i-init
 loop-i-init c = turned_start
 
+pub invariant_of-corner : goal.invariant_of-corner
+invariant_of-corner c =
+    let U = c.loop-i.invariant _ c.fill.ensures c.requires in record { laid = turned_laid U; there = c.loop-i-test.true }
+
 pub number_corner-n-requires : goal.number_corner-n-requires
 number_corner-n-requires c = let U = c.loop-i.invariant _ c.fill.ensures c.requires in (turned_ready U c.loop-i-test.true _ (search rules), turned_laid U, c.loop-i-test.true)
 
 pub loop-i-preserved : goal.loop-i-preserved
 loop-i-preserved c =
-    λ l F R. turned_next (c.loop-i.invariant l F R) c.loop-i-test.true (rw c.key_of-key.ensures at c.number_corner-n.ensures)
+    λ l F R. turned_next (c.loop-i.invariant l F R) c.loop-i-test.true (rw c.key-key.ensures at c.number_corner-n.ensures)
 
 pub returns : goal.returns
 returns c = turned_all (c.loop-i.invariant _ c.fill.ensures c.requires) (omega (arith, c.loop-i-test.false))

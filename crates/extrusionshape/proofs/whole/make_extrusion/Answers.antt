@@ -4,35 +4,47 @@ use Rattle.build.specs.declared.shared.Shared.{Shared}
 use Rattle.shaping.specs.Shared.{plain_shared}
 use Rattle.shaping.proofs.Tabling.{faces_held}
 use Rattle.shaping.proofs.Theorem.{ready, shaped}
-use Rattle.extrusionshape.proofs.Bounds.{sizes_are, given, sized, counted, roomy, planned_at, arcs_room, rows_room}
+use Rattle.sizes.proofs.Calls.{asked}
+use Rattle.extrusionshape.proofs.Bounds.{sizes_are, given, net_sides, plan_asked, counted, roomy, planned_at, arcs_room, rows_room}
 use Rattle.extrusionshape.proofs.Tabling.{textures_asked}
 use Rattle.extrusionshape.proofs.Shapes.{shape, mesh_is}
 use Rattle.extrusionshape.proofs.whole.make_extrusion.Goals as goal
 
 pub invariant_of-x : goal.invariant_of-x
-invariant_of-x c = record { given = given c.requires }
+invariant_of-x c = record { given = given (asked c.args.a.now c.requires) }
 
-pub plan_extrusion-t-requires : goal.plan_extrusion-t-requires
-plan_extrusion-t-requires c = sized c.requires c.cap_length-cap.ensures
+pub invariant_of-net : goal.invariant_of-net
+invariant_of-net c = record { sides = net_sides (asked c.args.a.now c.requires) }
+
+pub plan_of-t-requires : goal.plan_of-t-requires
+plan_of-t-requires c = plan_asked (asked c.args.a.now c.requires) c.cap_length-cap.ensures c.args.a.now.counted c.quads-sides.ensures.0 c.cap_count-caps.ensures.0
 
 pub put_tables-requires : goal.put_tables-requires
 put_tables-requires c =
-    (planned_at c.requires c.cap_length-cap.ensures c.ring_width-ring.ensures c.plan_extrusion-t.ensures, arcs_room c.requires c.cap_length-cap.ensures c.ring_width-ring.ensures c.plan_extrusion-t.ensures, rows_room c.requires c.cap_length-cap.ensures c.ring_width-ring.ensures c.plan_extrusion-t.ensures)
+    let A = asked c.args.a.now c.requires in
+    let e = c.cap_length-cap.ensures in
+    let C = counted A c.cap_length-cap.ensures c.args.a.now.counted c.quads-sides.ensures.0 c.cap_count-caps.ensures.0 c.ring_width-ring.ensures c.plan_of-t.ensures in
+    (planned_at A e C, arcs_room A e C, rows_room A e C)
 
 pub texture_where-requires : goal.texture_where-requires
 unfolding plain_shared
 texture_where-requires c =
+    let A = asked c.args.a.now c.requires in
+    let e = c.cap_length-cap.ensures in
+    let C = counted A c.cap_length-cap.ensures c.args.a.now.counted c.quads-sides.ensures.0 c.cap_count-caps.ensures.0 c.ring_width-ring.ensures c.plan_of-t.ensures in
     let T = c.put_tables.ensures in
-    let G = roomy c.requires c.cap_length-cap.ensures c.ring_width-ring.ensures c.plan_extrusion-t.ensures in
-    (c.requires.accepted.settings, ap (λ (x : Shared). x.widths) c.plain_shared-shared.ensures, T.1, omega (arith, G.floats, T.0.size), textures_asked (planned_at c.requires c.cap_length-cap.ensures c.ring_width-ring.ensures c.plan_extrusion-t.ensures) (omega (arith, G.textures, T.0.len)) (faces_held T.0))
+    let G = roomy A e C in
+    (A.accepted.settings, ap (λ (x : Shared). x.widths) c.plain_shared-shared.ensures, T.1, omega (arith, G.floats, T.0.size), textures_asked (planned_at A e C) (omega (arith, G.textures, T.0.len)) (faces_held T.0))
 
 pub build-requires : goal.build-requires
 build-requires c =
-    ready c.requires (sizes_are c.requires) (counted c.requires c.cap_length-cap.ensures c.ring_width-ring.ensures c.plan_extrusion-t.ensures) c.put_tables.ensures.0 c.texture_where.ensures
-    (shape (given c.requires) c.plain_shared-shared.ensures _ _)
+    let A = asked c.args.a.now c.requires in
+    ready A (sizes_are A) (counted A c.cap_length-cap.ensures c.args.a.now.counted c.quads-sides.ensures.0 c.cap_count-caps.ensures.0 c.ring_width-ring.ensures c.plan_of-t.ensures) c.put_tables.ensures.0 c.texture_where.ensures
+    (shape (given A) c.plain_shared-shared.ensures _ _)
 
 pub returns-clause-made : goal.returns-clause-made
 returns-clause-made c =
-    let G = given c.requires in
-    shaped c.requires (sizes_are c.requires) (counted c.requires c.cap_length-cap.ensures c.ring_width-ring.ensures c.plan_extrusion-t.ensures) c.put_tables.ensures.0 c.texture_where.ensures
-    (shape G c.plain_shared-shared.ensures _ _) (mesh_is G c.plain_shared-shared.ensures c.requires.accepted.settings c.cap_length-cap.ensures) c.build.ensures.built
+    let A = asked c.args.a.now c.requires in
+    let G = given A in
+    shaped A (sizes_are A) (counted A c.cap_length-cap.ensures c.args.a.now.counted c.quads-sides.ensures.0 c.cap_count-caps.ensures.0 c.ring_width-ring.ensures c.plan_of-t.ensures) c.put_tables.ensures.0 c.texture_where.ensures
+    (shape G c.plain_shared-shared.ensures _ _) (mesh_is G c.plain_shared-shared.ensures A.accepted.settings c.cap_length-cap.ensures) c.build.ensures.built

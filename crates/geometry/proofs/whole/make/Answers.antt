@@ -3,9 +3,19 @@ use Rattle.geometry.proofs.Refusing.{asked_by}
 use Rattle.geometry.proofs.Calls.{made_call}
 use Rattle.geometry.proofs.whole.make.Goals as goal
 
+pub invariant_of-a : goal.invariant_of-a
+invariant_of-a c =
+    record {
+      accepted = (asked_by _ _ _ _ c.requires.0 c.read_settings-settings.ensures c.requires.2).accepted;
+      counted = c.requires.1;
+    }
+
 pub make_kind-n-requires : goal.make_kind-n-requires
 make_kind-n-requires c =
-    (asked_by _ _ _ _ c.requires.0 c.read_settings-s.ensures c.requires.2, c.requires.1)
+    record {
+      kind = refl;
+      enough = (asked_by _ _ _ _ c.requires.0 c.read_settings-settings.ensures c.requires.2).enough;
+    }
 
 pub returns-clause-converted : goal.returns-clause-converted
 returns-clause-converted c =

@@ -3,34 +3,44 @@ use native.Mathlib.Omega.{arith}
 use Rattle.shaping.proofs.Tabling.{faces_held}
 use Rattle.shaping.proofs.Theorem.{ready, shaped}
 use Rattle.grid.proofs.Sized.{placed}
-use Rattle.gridshape.proofs.Bounds.{sizes_are, sides, corners_low, heights, counted, roomy, planned}
+use Rattle.sizes.proofs.Calls.{asked}
+use Rattle.gridshape.proofs.Bounds.{sizes_are, sides, net_sides, heights, plan_asked, counted, roomy, planned}
 use Rattle.gridshape.proofs.Shapes.{shape, mesh_is}
 use Rattle.gridshape.proofs.whole.make_grid.Goals as goal
 
 pub invariant_of-g : goal.invariant_of-g
-invariant_of-g c = record { sides = sides c.requires }
+invariant_of-g c = record { sides = sides (asked c.args.a.now c.requires) }
 
-pub plan_grid-t-requires : goal.plan_grid-t-requires
-plan_grid-t-requires c = corners_low c.requires
+pub invariant_of-net : goal.invariant_of-net
+invariant_of-net c = record { sides = net_sides (asked c.args.a.now c.requires) }
+
+pub plan_of-t-requires : goal.plan_of-t-requires
+plan_of-t-requires c = plan_asked (asked c.args.a.now c.requires) c.args.a.now.counted c.quads-quads.ensures.0
 
 pub put_tables-requires : goal.put_tables-requires
 put_tables-requires c =
-    (planned c.requires c.plan_grid-t.ensures, heights c.requires, omega (arith, (roomy c.requires c.plan_grid-t.ensures).floats))
+    let A = asked c.args.a.now c.requires in
+    let C = counted A c.args.a.now.counted c.quads-quads.ensures.0 c.plan_of-t.ensures in
+    (planned A C, heights A, omega (arith, (roomy A C).floats))
 
 pub texture_where-requires : goal.texture_where-requires
 texture_where-requires c =
-    let P = planned c.requires c.plan_grid-t.ensures in
+    let A = asked c.args.a.now c.requires in
+    let C = counted A c.args.a.now.counted c.quads-quads.ensures.0 c.plan_of-t.ensures in
+    let P = planned A C in
     let R = P.room in
-    placed _ _ _ _ _ (faces_held c.put_tables.ensures) P.spots (omega (arith, R)) (omega (arith, (roomy c.requires c.plan_grid-t.ensures).textures, c.put_tables.ensures.len))
+    placed _ _ _ _ _ (faces_held c.put_tables.ensures) P.spots (omega (arith, R)) (omega (arith, (roomy A C).textures, c.put_tables.ensures.len))
 
 pub build-requires : goal.build-requires
 build-requires c =
-    ready c.requires (sizes_are c.requires) (counted c.requires c.plan_grid-t.ensures) c.put_tables.ensures c.texture_where.ensures
-    (shape c.args.missing _ c.requires.accepted.header c.requires.accepted.settings c.listed_shared-shared.ensures refl c.requires.kind)
+    let A = asked c.args.a.now c.requires in
+    ready A (sizes_are A) (counted A c.args.a.now.counted c.quads-quads.ensures.0 c.plan_of-t.ensures) c.put_tables.ensures c.texture_where.ensures
+    (shape c.args.a.now.missing _ A.accepted.header A.accepted.settings c.listed_shared-shared.ensures refl A.kind)
 
 pub returns-clause-made : goal.returns-clause-made
 returns-clause-made c =
-    let h = c.requires.accepted.header in
-    let s = c.requires.accepted.settings in
-    shaped c.requires (sizes_are c.requires) (counted c.requires c.plan_grid-t.ensures) c.put_tables.ensures c.texture_where.ensures
-    (shape c.args.missing _ h s c.listed_shared-shared.ensures refl c.requires.kind) (mesh_is c.args.missing _ h s c.listed_shared-shared.ensures (sides c.requires).wide) c.build.ensures.built
+    let A = asked c.args.a.now c.requires in
+    let h = A.accepted.header in
+    let s = A.accepted.settings in
+    shaped A (sizes_are A) (counted A c.args.a.now.counted c.quads-quads.ensures.0 c.plan_of-t.ensures) c.put_tables.ensures c.texture_where.ensures
+    (shape c.args.a.now.missing _ h s c.listed_shared-shared.ensures refl A.kind) (mesh_is c.args.a.now.missing _ h s c.listed_shared-shared.ensures (sides A).wide) c.build.ensures.built

@@ -3,4 +3,4 @@ use Rattle.sizes.proofs.ByKind.{grid_are}
 use Rattle.sizes.proofs.kinds.grid_sizes.Goals as goal
 
 pub returns : goal.returns
-returns c = grid_are [] _ _ _ c.net_of-t.ensures.0 c.net_of-t.ensures.1
+returns c = grid_are [] _ _ _ c.points.ensures c.quads-quads.ensures.0
