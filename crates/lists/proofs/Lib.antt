@@ -14,3 +14,4 @@ pub mod Words
 pub mod Pieces
 pub mod Squares
 pub mod Cuts
+pub mod Threes
