@@ -36,20 +36,12 @@ pub fn face_at(k: usize) -> BoxFace
     requires { k < 6 }
     ensures { result ≡ face_at k }
 {
-    if k == 0 {
-        return face_of(Z_AXIS, X_AXIS, Y_AXIS);
+    match k {
+        0 => face_of(Z_AXIS, X_AXIS, Y_AXIS),
+        1 => face_of(MINUS_Z, MINUS_X, Y_AXIS),
+        2 => face_of(X_AXIS, MINUS_Z, Y_AXIS),
+        3 => face_of(MINUS_X, Z_AXIS, Y_AXIS),
+        4 => face_of(Y_AXIS, X_AXIS, MINUS_Z),
+        _ => face_of(MINUS_Y, X_AXIS, Z_AXIS),
     }
-    if k == 1 {
-        return face_of(MINUS_Z, MINUS_X, Y_AXIS);
-    }
-    if k == 2 {
-        return face_of(X_AXIS, MINUS_Z, Y_AXIS);
-    }
-    if k == 3 {
-        return face_of(MINUS_X, Z_AXIS, Y_AXIS);
-    }
-    if k == 4 {
-        return face_of(Y_AXIS, X_AXIS, MINUS_Z);
-    }
-    face_of(MINUS_Y, X_AXIS, Z_AXIS)
 }

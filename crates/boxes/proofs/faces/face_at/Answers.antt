@@ -4,26 +4,26 @@ use lib.Ieee.{neg, of_bits}
 use Rattle.boxes.specs.Box.{face_at}
 use Rattle.boxes.proofs.faces.face_at.Goals as goal
 
-pub returns-then-k-eq0 : goal.returns-then-k-eq0
+pub returns-in-0 : goal.returns-in-0
 unfolding face_at neg of_bits
-returns-then-k-eq0 c = rw c.if-k-eq0.true c.face_of.ensures
+returns-in-0 c = rw c.in-0.is c.face_of.ensures
 
-pub returns-then-k-eq1 : goal.returns-then-k-eq1
+pub returns-in-1 : goal.returns-in-1
 unfolding face_at neg of_bits
-returns-then-k-eq1 c = rw c.if-k-eq1.true c.face_of-then-k-eq1.ensures
+returns-in-1 c = rw c.in-1.is c.face_of-in-1.ensures
 
-pub returns-then-k-eq2 : goal.returns-then-k-eq2
+pub returns-in-2 : goal.returns-in-2
 unfolding face_at neg of_bits
-returns-then-k-eq2 c = rw c.if-k-eq2.true c.face_of-then-k-eq2.ensures
+returns-in-2 c = rw c.in-2.is c.face_of-in-2.ensures
 
-pub returns-then-k-eq3 : goal.returns-then-k-eq3
+pub returns-in-3 : goal.returns-in-3
 unfolding face_at neg of_bits
-returns-then-k-eq3 c = rw c.if-k-eq3.true c.face_of-then-k-eq3.ensures
+returns-in-3 c = rw c.in-3.is c.face_of-in-3.ensures
 
-pub returns-then-k-eq4 : goal.returns-then-k-eq4
+pub returns-in-4 : goal.returns-in-4
 unfolding face_at neg of_bits
-returns-then-k-eq4 c = rw c.if-k-eq4.true c.face_of-then-k-eq4.ensures
+returns-in-4 c = rw c.in-4.is c.face_of-in-4.ensures
 
-pub returns : goal.returns
+pub returns-in_default : goal.returns-in_default
 unfolding face_at neg of_bits
-returns c = let e : c.args.k ≡ 5 = omega arith in rw e c.face_of-2.ensures
+returns-in_default c = let e : c.args.k ≡ 5 = omega arith in rw e c.face_of-in_default.ensures
