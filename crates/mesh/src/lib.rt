@@ -4,5 +4,5 @@
 pub mod texture;
 pub mod words;
 
-pub use texture::{Axis, Fit, Span};
+pub use texture::{Axis, AxisName, Fit, NOWHERE, Span};
 pub use words::{floats_of, put_vector, words_of};
