@@ -23,7 +23,7 @@ use Rattle.parts.specs.Part.{Part}
 use Rattle.parts.specs.Cap.{cap_at, cap_part, cap_sizes, Numbered}
 use Rattle.parts.specs.Written.{Sized, Written, Roomy}
 use Rattle.parts.proofs.Capping.{cap_sized}
-use Rattle.parts.proofs.Parting.{where_sized, room_there, sum_none, where_small, cap_small, sized_followed, roomy_first, roomy_next, written_followed, marks_there, sized_as}
+use Rattle.parts.proofs.Parting.{where_sized, room_there, sum_none, where_small, sized_followed, roomy_first, roomy_next, written_followed, marks_there, sized_as}
 use Rattle.cone.specs.Cone.{cone_foot, cone_apex, cone_verts, cone_tri, cone_side, cone_side_at, cone_side_sizes, cone_part, cone_of}
 
 -- ---- the side

@@ -55,17 +55,12 @@ fn known_length(k: Lengths, w: u32) -> f32
     requires { (k.first ≤ w) × (w < k.first + 4) }
     ensures { result ≡ root_of (of_bits binary32 w) }
 {
-    let i = w - k.first;
-    if i == 0 {
-        return k.roots.a;
+    match w - k.first {
+        0 => k.roots.a,
+        1 => k.roots.b,
+        2 => k.roots.c,
+        _ => k.roots.d,
     }
-    if i == 1 {
-        return k.roots.b;
-    }
-    if i == 2 {
-        return k.roots.c;
-    }
-    k.roots.d
 }
 
 // v scaled to length 1, where w, the bits of the square of its length, is known.
