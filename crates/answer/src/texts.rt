@@ -19,7 +19,7 @@ pub fn block_text(block: &[u8], out: &mut [u8]) -> usize
     let left = lend_and_convert(block);
     let answer = left.answer;
     match answer {
-        Err(refusal) => put_refusal(u32::from(refusal), out),
+        Err(refusal) => put_refusal(refusal, out),
         Ok(report) => {
             let parts = parts_in(block);
             put_mesh(

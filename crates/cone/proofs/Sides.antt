@@ -2,7 +2,7 @@
 use mathlib.Core.Path.{◌≡◌, refl, ap, ◌∙◌}
 use mathlib.Core.Bool.{Bool, true, false}
 use mathlib.Core.List.{List, [], ◌∷◌}
-use Prim.Native.Nat.{ℕ, ◌+◌, ◌*◌, ◌≤◌, ◌<◌, ◌^◌}
+use Prim.Native.Nat.{ℕ, ◌+◌, ◌*◌, ◌≤◌}
 use native.Mathlib.Omega.{arith}
 use lib.ListN.{length}
 use lib.Ieee.{Float, binary32, neg, add, div}
@@ -23,7 +23,7 @@ use Rattle.parts.specs.Part.{Part}
 use Rattle.parts.specs.Cap.{cap_at, cap_part, cap_sizes, Numbered}
 use Rattle.parts.specs.Written.{Sized, Written, Roomy}
 use Rattle.parts.proofs.Capping.{cap_sized}
-use Rattle.parts.proofs.Parting.{where_sized, room_there, sum_none, where_small, cap_small, sized_followed, roomy_first, roomy_next, written_followed, marks_there, sized_as}
+use Rattle.parts.proofs.Parting.{where_sized, room_there, sum_none, where_small, sized_followed, roomy_first, roomy_next, written_followed, marks_there, sized_as}
 use Rattle.cone.specs.Cone.{cone_foot, cone_apex, cone_verts, cone_tri, cone_side, cone_side_at, cone_side_sizes, cone_part, cone_of}
 
 -- ---- the side
@@ -92,9 +92,6 @@ module _ (ps : List Float) (r h : Float) (n : ℕ) (side bottom : Bool) {m : Mar
   small_a : Small 8192 m.bottom
   small_a = rw bottom_is (where_small 8192 side (cone_side_sizes n) (side_small n low))
 
-  pub all_low : m.all.vertices < 2 ^ 32
-  all_low = omega (arith, ap (λ (z : PartSizes). z.vertices) all_is, rw bottom_is at small_a.vertices, (where_small 8192 bottom (cap_sizes n) (cap_small n low)).vertices)
-
   pub lower_low : Numbered (cap_of m.bottom)
   lower_low = record { few = low; first_low = omega (arith, small_a.vertices); pair_low = omega (arith, small_a.pairs) }
 
@@ -126,9 +123,6 @@ module _ (radius height : Float) (side bottom : Bool) (slices : ℕ) (ps : List 
   module _ {z : PartSizes} {o : Option PartSizes} {m : Marks} (em : m ≡ marks_of (unwrap_or o no_sizes) k.n false bottom) (eo : o ≡ then_some side z) (ez : z ≡ cone_side_sizes k.n) where
     pub call_marks : m ≡ marks_of (sizes_where side (cone_side_sizes k.n)) k.n false bottom
     call_marks = marks_there side (cone_side_sizes k.n) k.n false bottom em eo ez
-
-    pub call_low : m.all.vertices < 2 ^ 32
-    call_low = all_low ps k.r k.height k.n side bottom k.few call_marks
 
     pub call_sized : Sized (cone_of radius height side bottom slices ps) m.all
     call_sized = sized_as call_is (all_sized ps k.r k.height k.n side bottom k.few call_marks)

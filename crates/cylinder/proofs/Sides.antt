@@ -1,8 +1,8 @@
 -- The side of a cylinder, and then its caps: what is written, how large it is, and the call.
-use mathlib.Core.Path.{◌≡◌, refl, ap}
+use mathlib.Core.Path.{◌≡◌, refl}
 use mathlib.Core.Bool.{Bool, true, false}
 use mathlib.Core.List.{List}
-use Prim.Native.Nat.{ℕ, ◌+◌, ◌*◌, ◌≤◌, ◌<◌, ◌^◌}
+use Prim.Native.Nat.{ℕ, ◌+◌, ◌*◌, ◌≤◌}
 use native.Mathlib.Omega.{arith}
 use lib.ListN.{length}
 use lib.Ieee.{Float, binary32, neg, div}
@@ -102,9 +102,6 @@ module _ (ps : List Float) (r h : Float) (n : ℕ) where
     small_b : Small (8192 + 8192) m.bottom
     small_b = rw bottom_is (sum_small 8192 8192 (a side) (sizes_where top (cap_sizes n)) (small_a side top {z = a side} low refl) (where_small 8192 top (cap_sizes n) (cap_small n low)))
 
-    pub all_low : m.all.vertices < 2 ^ 32
-    all_low = omega (arith, ap (λ (z : PartSizes). z.vertices) all_is, rw bottom_is at small_b.vertices, (where_small 8192 bottom (cap_sizes n) (cap_small n low)).vertices)
-
     pub lower_low : Numbered (cap_of (neg h) false m.bottom)
     lower_low = record { few = low; first_low = omega (arith, small_b.vertices); pair_low = omega (arith, small_b.pairs) }
 
@@ -157,9 +154,6 @@ module _ (radius height : Float) (side top bottom : Bool) (slices : ℕ) (ps : L
   module _ {z : PartSizes} {o : Option PartSizes} {m : Marks} (em : m ≡ marks_of (unwrap_or o no_sizes) k.n top bottom) (eo : o ≡ then_some side z) (ez : z ≡ side_sizes k.n) where
     pub call_marks : m ≡ marks_of (sizes_where side (side_sizes k.n)) k.n top bottom
     call_marks = marks_there side (side_sizes k.n) k.n top bottom em eo ez
-
-    pub call_low : m.all.vertices < 2 ^ 32
-    call_low = all_low ps k.r (half k) k.n side top bottom k.few call_marks
 
     pub call_sized : Sized (cylinder_of radius height side top bottom slices ps) m.all
     call_sized = sized_as call_is (all_sized ps k.r (half k) k.n side top bottom k.few call_marks)

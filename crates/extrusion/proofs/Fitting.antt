@@ -10,6 +10,7 @@ use lib.Ieee.{Float, binary32, sub, eq}
 use Rattle.math.specs.Order.{max_of}
 use Rattle.block.specs.declared.texture.Pair.{Pair}
 use Rattle.mesh.specs.declared.texture.Span.{Span}
+use Rattle.mesh.specs.declared.texture.AxisName.TheVariants.{X, Y}
 use Rattle.mesh.specs.declared.texture.Fit.{Fit}
 use Rattle.mesh.specs.Texture.{widened, span_of, divisor}
 use Rattle.mesh.specs.Arcs.{at2}
@@ -39,10 +40,6 @@ module _ (l : List Pair) (m : ℕ) (t : Bool) (et : t ≡ closes l) where
   unfolding ring_of
   ring_open e = rw (← et, e) refl
 
-pub span_none : (s : Span) (f g : ℕ → Float) → s ≡ span_of f 0 → s ≡ span_of g 0
-unfolding span_of
-span_none s f g e = e
-
 pub span_more : (f : ℕ → Float) (j : ℕ) (s r : Span) (v : Float) → s ≡ span_of f j → v ≡ f j → r ≡ widened s v → r ≡ span_of f (j + 1)
 unfolding span_of
 span_more f j s r v es ev er = rw (er, es, ev, add-one) refl
@@ -56,6 +53,6 @@ t_of cs j = (at2 cs j).t
 
 pub fit_is : (cs : List Pair) (n : ℕ) (a b : Span) (m d : Float) → n ≡ length cs → a ≡ span_of (s_of cs) n → b ≡ span_of (t_of cs) n
     → m ≡ max_of (sub binary32 a.high a.low) (sub binary32 b.high b.low) → d ≡ divisor m
-    → ◌≡◌ {A = Fit} (record { s_axis = 0; t_axis = 1; s_low = a.low; t_low = b.low; by = d }) (cap_fit cs)
+    → ◌≡◌ {A = Fit} (record { s_axis = X; t_axis = Y; s_low = a.low; t_low = b.low; by = d }) (cap_fit cs)
 unfolding cap_fit
 fit_is cs n a b m d en ea eb em ed = rw (ed, em, ea, eb, en) refl

@@ -1,36 +1,24 @@
 // FORMAT 8.4, extrusion (cap_len, lo, span): the corners of a cap, and how the cross-section fits its texture.
-ghost use Rattle.std.specs.Prelude.{◌≡◌, ℕ};
-ghost use Rattle.math.specs.Vector.{zero_f};
+ghost use Rattle.std.specs.Prelude.{◌≡◌};
 ghost use Rattle.mesh.specs.Extrusion.{section_of, extrusion_of, ring_of, cap_length, cap_fit};
-ghost use Rattle.mesh.specs.Texture.{span_of};
 
 use crate::reading::{Entries, Extruded};
 use block::Pair;
-use mesh::{Fit, Span};
+use mesh::{AxisName, Fit, NOWHERE};
 use texture::{divisor_of, widen};
-
-// Before the first point.
-fn nowhere() -> Span
-    ensures { result ≡ span_of (λ (_ : ℕ). zero_f) 0 }
-{
-    Span {
-        low: f32::INFINITY,
-        high: f32::NEG_INFINITY,
-    }
-}
 
 fn section_fit(section: &Entries<Pair>) -> Fit
     ensures { result ≡ cap_fit section.now }
 {
-    let mut a = nowhere();
-    let mut b = nowhere();
+    let mut a = NOWHERE;
+    let mut b = NOWHERE;
     for p in section.iter() {
         a = widen(a, p.s);
         b = widen(b, p.t);
     }
     Fit {
-        s_axis: 0,
-        t_axis: 1,
+        s_axis: AxisName::X,
+        t_axis: AxisName::Y,
         s_low: a.low,
         t_low: b.low,
         by: divisor_of(math::max(a.high - a.low, b.high - b.low)),

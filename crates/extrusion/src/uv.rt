@@ -28,13 +28,11 @@ fn side_texture(floats: &[f32], j: usize, i: usize) -> Words2
     })
 }
 
+#[tactic(auto, unfolding(mesh::specs::Extrusion::cap_texture))]
 fn cap_texture(fit: Fit, p: Pair) -> Words2
     ensures { result ≡ spec.cap_texture fit p }
 {
-    Words2 {
-        s: math::bits_of((p.s - fit.s_low) / fit.by),
-        t: math::bits_of((p.t - fit.t_low) / fit.by),
-    }
+    fit.texture_of(p.s, p.t)
 }
 
 // An extrusion, its settings, what `put_arcs` left in floats from place `at` on, and how its cross-section fits the texture of a cap.

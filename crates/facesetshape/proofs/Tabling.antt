@@ -23,7 +23,6 @@ use Rattle.lent.specs.Lent.{Accepted}
 use Rattle.lent.proofs.Points.{points_in_lem, points_all}
 use Rattle.texture.specs.Corner.{texture_in}
 use Rattle.texture.specs.Textured.{set_texture, Fitted}
-use Rattle.texture.proofs.Axes.{axes_below}
 use Rattle.shaping.specs.Tabled.{use_in}
 use Rattle.facesetshape.specs.Shape.{Lists, face_set_texture, Placed}
 
@@ -63,8 +62,6 @@ textures_asked {bs} {h} {t} {w} {ls} s p L r =
       points = p;
       fitted = record {
         few = R.few;
-        first = (axes_below (entries (list_bytes bs h 0)) (point_count h)).0;
-        second = (axes_below (entries (list_bytes bs h 0)) (point_count h)).1;
         points_below = omega arith;
         corners_below = omega arith;
         places_below = omega arith;

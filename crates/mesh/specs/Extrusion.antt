@@ -22,8 +22,9 @@ use Rattle.mesh.specs.Words.{words3 as words_of, no2, no3, no4, floats, bits}
 use Rattle.mesh.specs.Soup.{Corner, gathered, Face, Frame}
 use Rattle.mesh.specs.Mesh.{Mesh, mesh}
 use Rattle.mesh.specs.declared.texture.Span.{Span}
+use Rattle.mesh.specs.declared.texture.AxisName.TheVariants.{X, Y}
 use Rattle.mesh.specs.declared.texture.Fit.{Fit}
-use Rattle.mesh.specs.Texture.{span_of, divisor, along}
+use Rattle.mesh.specs.Texture.{span_of, divisor, fitted_at}
 use Rattle.mesh.specs.Quads.{tabs, quad}
 use Rattle.mesh.specs.Frames.{Axes, at, axes_at}
 use Rattle.mesh.specs.Arcs.{at2, arcs2, arcs3}
@@ -125,11 +126,11 @@ unfoldable pub cap_fit : List Pair → Fit
 cap_fit cs =
     let a = span_of (λ j. (at2 cs j).s) (length cs) in
     let b = span_of (λ j. (at2 cs j).t) (length cs) in
-    record { s_axis = 0; t_axis = 1; s_low = a.low; t_low = b.low; by = divisor (max_of (extent a) (extent b)) }
+    record { s_axis = X; t_axis = Y; s_low = a.low; t_low = b.low; by = divisor (max_of (extent a) (extent b)) }
 
 -- FORMAT 8.4, extrusion (cap_st)
 unfoldable pub cap_texture : Fit → Pair → Words2
-cap_texture f p = record { s = along p.s f.s_low f.by; t = along p.t f.t_low f.by }
+cap_texture f p = fitted_at f p.s p.t
 
 -- ---- faces
 

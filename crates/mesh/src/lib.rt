@@ -6,5 +6,5 @@ pub mod texture;
 pub mod words;
 
 pub use points::point_at;
-pub use texture::{Axis, Fit, Span};
+pub use texture::{Axis, AxisName, Fit, NOWHERE, Span};
 pub use words::{floats_of, put_vector, put_words3, words_of};

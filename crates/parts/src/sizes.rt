@@ -8,7 +8,8 @@ use crate::builder::Builder;
 use block::Refusal;
 use lent::Report;
 
-// How many vertices and indices a part makes, and how many pairs it takes.
+// How many vertices and indices a part makes, and how many pairs it takes. The bounds that `sum_sizes` asks for are no facts of this type: a sum of two may
+// lie past those of each, and the definitions (`sum_of`, `cap_sizes`) make PartSizes of any numbers.
 #[derive(Clone, Copy)]
 pub struct PartSizes {
     pub vertices: usize,
@@ -49,22 +50,21 @@ pub fn held(n: u32, least: u32) -> usize
     n as usize
 }
 
+// Each length is divided, and no number of vertices multiplied: so nothing is asked of it.
 impl Builder<'_> {
     #[tactic(auto, unfolding(crate::specs::Sizes::is_short_texture))]
     fn is_short_texture(&self, z: PartSizes) -> bool
-        requires { z.vertices < 2 ^ 32 }
         ensures { result ≡ is_short_texture self.now z }
     {
-        self.ctx.need_uvs && self.textures.len() < 2 * z.vertices
+        self.ctx.need_uvs && self.textures.len() / 2 < z.vertices
     }
 
     #[tactic(auto, unfolding(crate::specs::Sizes::is_short_part))]
     fn is_short(&self, z: PartSizes) -> bool
-        requires { z.vertices < 2 ^ 32 }
         ensures { result ≡ is_short_part self.now z }
     {
-        self.positions.len() < 3 * z.vertices
-            || self.normals.len() < 3 * z.vertices
+        self.positions.len() / 3 < z.vertices
+            || self.normals.len() / 3 < z.vertices
             || self.is_short_texture(z)
             || self.indices.len() < z.indices
     }
@@ -72,7 +72,6 @@ impl Builder<'_> {
     // Of a part of these sizes, with a list of so many floats as pairs: 10, and then 8.
     #[tactic(auto, unfolding(block::specs::Refusal::first_of))]
     pub fn refusal(&self, z: PartSizes, floats: usize) -> Result<(), Refusal>
-        requires { z.vertices < 2 ^ 32 }
         ensures { refused_as result ≡ first_of (row Pairs (ltb (floats / 2) z.pairs) ∷ row Buffer (is_short_part self.now z) ∷ []) }
     {
         if floats / 2 < z.pairs {

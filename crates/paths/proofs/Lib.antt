@@ -5,6 +5,7 @@ pub mod Rows
 -- Laws behind them and behind the functions.
 mod Updates
 mod Passing
+mod Corners
 mod Hitting
 mod Loading
 mod Refusing

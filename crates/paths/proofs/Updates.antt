@@ -61,6 +61,9 @@ pub record Running (f : ℕ → List ℕ → List ℕ) (n : ℕ) (l₀ : List �
   pub rest : run f (n - t) t l ≡ run f n 0 l₀
 
 module _ {f : ℕ → List ℕ → List ℕ} {n : ℕ} {l₀ : List ℕ} where
+  pub running_none : Running f n l₀ 0 l₀
+  running_none = record { so_far = omega arith; size = refl; rest = rw sub-zero refl }
+
   pub running_more : {t : ℕ} {l r : List ℕ} → Running f n l₀ t l → t < n → r ≡ f t l → length r ≡ length l → Running f n l₀ (t + 1) r
   running_more {t} {l} {r} R b e s = record {
     so_far = omega arith;

@@ -6,7 +6,7 @@ ghost use Rattle.paths.specs.Pass.{hit_count, any_clear};
 
 use crate::intersect::{Triangle, hits};
 use crate::rays::{Rays, ray_at};
-use crate::triangles::triangle_at;
+use crate::triangles::triangle_of;
 
 // The answer of a path after a triangle: the first that was hit stays. 0 is FORMAT 19's word for a clear path.
 fn answer_after(hit: bool, number: u64, answer: u64) -> u64
@@ -81,9 +81,8 @@ pub fn pass(positions: &[u32], indices: &[u32], rays: &Rays, answers: &mut [u64]
         ≡ run (turn_of positions.now indices.now rays.now (length answers.old))
         (length indices.now / 3) 0 answers.old }
 {
-    let n = indices.len() / 3;
-    for t in 0..n {
-        let tri = triangle_at(positions, indices, t);
+    for (t, corners) in indices.chunks_exact(3).enumerate() {
+        let tri = triangle_of(positions, corners);
         if !turn(rays, tri, t as u64 + 1, answers) {
             return;
         }

@@ -1,6 +1,5 @@
 // FORMAT 19.1: the points of words, and the triangles of a mesh.
-ghost use Rattle.std.specs.Prelude.{◌≡◌, false, ◌+◌, ◌*◌, ◌/◌, ◌<◌, leb, length, get_or};
-ghost use Rattle.lists.specs.Loops.{any};
+ghost use Rattle.std.specs.Prelude.{◌≡◌, ℕ, ◌/◌, ◌<◌, length, get_or};
 ghost use Rattle.paths.specs.Paths.{point_in, triangle_in};
 
 use crate::intersect::Triangle;
@@ -19,33 +18,24 @@ pub fn point_at(words: &[u32], p: usize) -> V3
     V3 { x, y, z }
 }
 
-// The vertex that index k names.
-fn vertex_at(indices: &[u32], k: usize) -> VertexNumber
-    requires { k < length indices.now }
-    ensures { result.0 ≡ get_or indices.now k 0 }
+// Where the vertex lies that an index names. A cast: no From gives a usize of a u32, and `tables::wide` stands in a crate that paths does not stand on.
+fn position_of(positions: &[u32], index: u32) -> V3
+    requires { index < length positions.now / 3 }
+    ensures { result ≡ point_in positions.now index }
 {
-    VertexNumber(indices[k] as usize)
-}
-
-// Where a vertex lies.
-fn position_of(positions: &[u32], v: VertexNumber) -> V3
-    requires { v.0 < length positions.now / 3 }
-    ensures { result ≡ point_in positions.now v.0 }
-{
+    let v = VertexNumber(index as usize);
     point_at(positions, v.0)
 }
 
-// Triangle t of a mesh whose indices all name a vertex. The slices stay two: a struct with that fact would serve here and in `pass` alone, for the call
+// The triangle of three indices that all name a vertex. The slices stay two: a struct with that fact would serve here and in `pass` alone, for the call
 // takes slices, and `is_refused` decides the fact.
-pub fn triangle_at(positions: &[u32], indices: &[u32], t: usize) -> Triangle
-    requires { (any (leb (length positions.now / 3)) indices.now ≡ false)
-        × (t < length indices.now / 3) }
-    ensures { result ≡ triangle_in positions.now indices.now t }
+pub fn triangle_of(positions: &[u32], corners: &[u32]) -> Triangle
+    requires { (length corners.now ≡ 3) × ((k : ℕ) → k < 3 → get_or corners.now k 0 < length positions.now / 3) }
+    ensures { result ≡ triangle_in positions.now corners.now 0 }
 {
-    let k = t * 3;
-    let vert0 = position_of(positions, vertex_at(indices, k));
-    let vert1 = position_of(positions, vertex_at(indices, k + 1));
-    let vert2 = position_of(positions, vertex_at(indices, k + 2));
+    let vert0 = position_of(positions, corners[0]);
+    let vert1 = position_of(positions, corners[1]);
+    let vert2 = position_of(positions, corners[2]);
     let edge1 = sub(vert1, vert0);
     let edge2 = sub(vert2, vert0);
     Triangle {

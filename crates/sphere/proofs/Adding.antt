@@ -71,8 +71,3 @@ module _ (n k j i : ℕ) (l : List ℕ) (at : ℕ) where
       unfolding sphere_quad
       quad_added {u} {v} {l'} {l''} p q =
           added_both l first second room (subst (λ (x : List ℕ). Added spliced x at l u l') one_is p) (subst (λ (x : List ℕ). Added spliced x u l' v l'') two_is q)
-
--- ---- rows
-
-pub rows_low : (k n b : ℕ) → k ≤ 1024 → n + b ≤ 1026 → (k + 1) * (n + b) ≤ 1051650
-rows_low k n b h g = mul-le-mul {n₁ = k + 1} {m₁ = n + b} {n₂ = 1025} {m₂ = 1026} (omega arith) g

@@ -1,5 +1,5 @@
 // FORMAT 17.7, 17.10: the call of a sphere.
-ghost use Rattle.std.specs.Prelude.{◌<◌, ◌^◌, ◌≡◌, List, Float};
+ghost use Rattle.std.specs.Prelude.{◌≡◌, List, Float};
 ghost use Rattle.parts.specs.Parted.{Parted, lent_to};
 ghost use Rattle.parts.specs.Written.{Sized};
 ghost use Rattle.sphere.specs.Sphere.{sphere_part, sphere_of};
@@ -11,7 +11,7 @@ use lent::Answer;
 use parts::{Builder, GeomCtx, PartSizes, dim, finite_ctx, held, part_report};
 
 fn sphere_sizes(o: Ball) -> PartSizes
-    ensures { (result.vertices < 2 ^ 32) × ((r : Float) (ps : List Float) → Sized (sphere_part r o.n o.k ps) result) }
+    ensures { (r : Float) (ps : List Float) → Sized (sphere_part r o.n o.k ps) result }
 {
     PartSizes {
         vertices: (o.k + 1) * (o.n + 1),

@@ -1,5 +1,5 @@
 // The whole text of an answer (FORMAT 14), from the start of the buffer.
-ghost use Rattle.std.specs.Prelude.{◌+◌, ◌^◌, ◌≤◌, ◌<◌, ◌≡◌};
+ghost use Rattle.std.specs.Prelude.{ℕ, ◌+◌, ◌^◌, ◌≤◌, ◌<◌, ◌≡◌};
 ghost use Rattle.text.specs.Wrote.{Writes, Printed};
 ghost use Rattle.text.specs.Answer.{counts_text, flags_text, head_line, mesh_text, refusal_text, long_text};
 
@@ -67,10 +67,11 @@ pub fn put_mesh(
     w.at
 }
 
-// The text of a refusal.
-pub fn put_refusal(number: u32, out: &mut [u8]) -> usize
-    ensures { Printed out.old (refusal_text number) out.new result }
+// The text of a refusal: of any that has a number, or of a number itself.
+pub fn put_refusal<R: Into<u32>>(refusal: R, out: &mut [u8]) -> usize
+    ensures { (n : ℕ) × R.converts refusal n × Printed out.old (refusal_text n) out.new result }
 {
+    let number: u32 = refusal.into();
     let mut w = Writer { out, at: 0 };
     w.put_bytes(b"no");
     w.put_field(false, number as usize);

@@ -104,7 +104,7 @@ impl Writer<'_> {
         }
     }
 
-    // The lines of n indices.
+    // The lines of n indices. `lines` is a value of `Parts`, which the definition takes too; letter and width are chosen by it here alone.
     pub(crate) fn put_indices(&mut self, lines: bool, n: usize, indices: &[u32])
         requires { (self.old.at + 35 * n ≤ 2 ^ 50) × (n < 2 ^ 32) }
         ensures { Writes self.old (element_lines lines n indices.now) (35 * n) self.new }

@@ -1,5 +1,4 @@
 -- The laws that callers cite.
-pub mod Axes
 pub mod Streams
 pub mod Filled
 mod Spans

@@ -28,8 +28,6 @@ set_texture bs coord h s fit w t c = texture_in bs coord h s (place_in w t c) (d
 -- what is asked of the tables: they stand below the textures, which have room, and the corners name points
 pub record Fitted (w : List ℕ) (fit : Fit) (t : Plan) (textures : ℕ) : Type 0 where
   pub few : t.count ≤ most
-  pub first : fit.s_axis < 3
-  pub second : fit.t_axis < 3
   pub points_below : t.points + 3 * t.spots ≤ textures
   pub corners_below : t.corners + t.count ≤ textures
   pub places_below : t.places + t.count ≤ textures

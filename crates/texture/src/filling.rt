@@ -25,7 +25,7 @@ pub fn put2(work: &mut [u32], a: usize, w: Words2)
 impl<'a> Source<'a> {
     // The texture at a place, of a point whose words are in `work`. Where texture points are listed no default is made.
     fn texture_at(&self, fit: Fit, work: &[u32], t: Plan, p: PointNumber, place: usize) -> Words2
-        requires { (fit.s_axis < 3) × (fit.t_axis < 3) × (p.0 < t.spots) × (t.points + 3 * t.spots ≤ length work.now) }
+        requires { (p.0 < t.spots) × (t.points + 3 * t.spots ≤ length work.now) }
         ensures { result ≡ texture_in self.now.block.now self.now.coord.now self.now.header self.now.settings place (default_at (points_in work.now t) fit p.0) }
     {
         let h = self.header;

@@ -10,7 +10,7 @@ put_mesh-requires c =
 
 pub returns-in-Err : goal.returns-in-Err
 returns-in-Err c =
-    said_printed _ _ _ _ _ _ _ c.lend_and_convert-left.ensures c.in-Err.is refl (rw c.from.ensures at c.put_refusal.ensures)
+    said_printed _ _ _ _ _ _ _ c.lend_and_convert-left.ensures c.in-Err.is refl (rw c.put_refusal.ensures.1 at c.put_refusal.ensures.2)
 
 pub returns-in-Ok : goal.returns-in-Ok
 returns-in-Ok c =

@@ -1,14 +1,11 @@
 use Rattle.std.proofs.Common.{rules}
 use Rattle.std.proofs.lemmas.Result.{err_from_is_err_and}
 use Rattle.parts.proofs.Parting.{if_there, roomy_as, written_as, call_refused, call_roomy, call_made}
-use Rattle.cone.proofs.Sides.{side_small, call_is, call_marks, call_low, call_sized}
+use Rattle.cone.proofs.Sides.{side_small, call_is, call_marks, call_sized}
 use Rattle.cone.proofs.whole.cone.Goals as goal
 
 pub marks_of-m-requires : goal.marks_of-m-requires
 marks_of-m-requires c = (if_there _ _ c.then_some.ensures _ (λ e. rw c.side_sizes.ensures (side_small _ c.round_of-k.result.few)), c.round_of-k.result.few)
-
-pub refusal-requires : goal.refusal-requires
-refusal-requires c = call_low c.args.radius c.args.height c.args.side c.args.bottom c.args.slices c.args.pairs.now c.round_of-k.result c.round_of-k.ensures c.marks_of-m.ensures c.then_some.ensures c.side_sizes.ensures
 
 pub returns-in_err-refusal : goal.returns-in_err-refusal
 returns-in_err-refusal c =

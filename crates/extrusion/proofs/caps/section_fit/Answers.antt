@@ -1,12 +1,14 @@
 use Prim.Native.Nat.{◌+◌}
 use Rattle.block.specs.declared.texture.Pair.{Pair}
 use Rattle.extrusion.proofs.Values.{at2_is, left_all, left_next, left_here, left_over}
-use Rattle.extrusion.proofs.Fitting.{fit_is, span_more, span_none}
-use mathlib.Core.Path.{ap}
+use Rattle.extrusion.proofs.Fitting.{fit_is, span_more}
+use mathlib.Core.Path.{ap, refl}
+use Rattle.mesh.specs.Texture.{span_of}
 use Rattle.extrusion.proofs.caps.section_fit.Goals as goal
 
 pub loop-p-init : goal.loop-p-init
-loop-p-init c = rw (c.into_iter-p-iterator.ensures.into_iter_gives, c.iter-p-items.ensures) (0, left_all, span_none _ _ _ c.nowhere-a.ensures, span_none _ _ _ c.nowhere-b.ensures)
+unfolding span_of
+loop-p-init c = rw (c.into_iter-p-iterator.ensures.into_iter_gives, c.iter-p-items.ensures) (0, left_all, refl, refl)
 
 pub loop-p-preserved : goal.loop-p-preserved
 loop-p-preserved c =

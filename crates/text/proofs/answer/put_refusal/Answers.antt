@@ -6,4 +6,4 @@ use Rattle.text.proofs.answer.put_refusal.Goals as goal
 
 pub returns : goal.returns
 unfolding refusal_text
-returns c = printed refl (then c.put_bytes.ensures (then c.put_field.ensures c.put_byte.ensures)) (search rules)
+returns c c' = (_, c'.into-number.ensures, printed refl (then c'.put_bytes.ensures (then c'.put_field.ensures c'.put_byte.ensures)) (search rules))

@@ -12,7 +12,7 @@ pub texture_at-w-requires : goal.texture_at-w-requires
 texture_at-w-requires c =
     let F = c.requires in
     let T = c.loop-c.invariant in
-    (F.first, F.second, point_within F (pieces_kept T (omega (arith, F.room))) c.loop-c-test.true c.wide.ensures, omega (arith, F.points_below, F.room, T.size))
+    (point_within F (pieces_kept T (omega (arith, F.room))) c.loop-c-test.true c.wide.ensures, omega (arith, F.points_below, F.room, T.size))
 
 pub loop-c-preserved : goal.loop-c-preserved
 loop-c-preserved c =
