@@ -21,7 +21,7 @@ fn put_bit(block: &mut [u8], at: usize) {
     let i = at / 8;
     if i < block.len() {
         let s = 7 - at % 8;
-        block[i] = block[i] | (1 << s);
+        block[i] |= 1 << s;
     }
 }
 
@@ -34,7 +34,7 @@ fn put_field(block: &mut [u8], at: usize, width: u32, v: u32)
         if left % 2 == 1 {
             put_bit(block, at + (k as usize));
         }
-        left = left / 2;
+        left /= 2;
     }
 }
 
@@ -59,8 +59,8 @@ fn put_points(block: &mut [u8], from: usize, n: u16)
     requires { from ≤ 2 ^ 20 }
 {
     for i in 0..n {
-        let at = from + 12 * (i as usize);
-        let x = i as f32;
+        let at = from + 12 * usize::from(i);
+        let x = f32::from(i);
         put_word(block, at, math::bits_of(x));
         put_word(block, at + 4, math::bits_of(x * x));
     }
@@ -68,14 +68,11 @@ fn put_points(block: &mut [u8], from: usize, n: u16)
 
 // Entry i of 0 1 third fourth, again and again.
 fn entry_of(i: u32, third: u32, fourth: u32) -> u32 {
-    let k = i % 4;
-    if k < 2 {
-        return k;
+    match i % 4 {
+        2 => third,
+        3 => fourth,
+        k => k,
     }
-    if k == 2 {
-        return third;
-    }
-    fourth
 }
 
 // The n entries that a closure gives for 0, 1, .. from a byte on.
@@ -84,7 +81,7 @@ fn put_entries<F: Fn(u32) -> u32>(block: &mut [u8], at: usize, n: u16, entry: F)
     requires callable { F.IsAlwaysCallable entry }
 {
     for i in 0..n {
-        put_word(block, at + 4 * (i as usize), entry(i as u32));
+        put_word(block, at + 4 * usize::from(i), entry(u32::from(i)));
     }
 }
 
@@ -96,7 +93,7 @@ fn convert_start(block: &[u8]) -> Seen {
 // So many entries 0 1 third fourth .. over 4 points.
 fn over_four(first: u32, entries: u16, third: u32, fourth: u32) -> Seen {
     let mut block = [0u8; ROOM];
-    put_header(&mut block, first, 4, entries as u32);
+    put_header(&mut block, first, 4, u32::from(entries));
     let points = start_of(&block, 0);
     put_points(&mut block, points, 4);
     let list = start_of(&block, 1);
@@ -117,7 +114,8 @@ pub(crate) fn primitives(first: u32, entries: u16) -> Seen {
 // One face of all its points.
 pub(crate) fn face(corners: u16) -> Seen {
     let mut block = [0u8; ROOM];
-    put_header(&mut block, 0x1100_0000, corners as u32, corners as u32);
+    let n = u32::from(corners);
+    put_header(&mut block, 0x1100_0000, n, n);
     let points = start_of(&block, 0);
     put_points(&mut block, points, corners);
     let list = start_of(&block, 1);

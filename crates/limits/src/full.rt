@@ -4,6 +4,7 @@ ghost use Rattle.limits.specs.Shown.{Shows};
 use block::LIMIT;
 use geometry::Call;
 use lent::Buffers;
+use std::fmt;
 
 // The refusal's number, the number of indices, and the first triangle. The number is 0 for none, and no Option:
 // a host's call returns it so, and so it is printed.
@@ -14,6 +15,16 @@ pub struct Seen {
     pub a: u32,
     pub b: u32,
     pub c: u32,
+}
+
+impl fmt::Display for Seen {
+    fn fmt<W: fmt::Write>(&self, f: &mut fmt::Formatter<W>) -> fmt::Result {
+        write!(
+            f,
+            "{} {} {} {} {}",
+            self.number, self.indices, self.a, self.b, self.c
+        )
+    }
 }
 
 // `replay` lends the same lengths: it is another program, and a struct for both would need a crate of its own.

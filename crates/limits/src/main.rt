@@ -11,14 +11,12 @@ use std::io;
 
 // What was seen, and whether it is what the rule says.
 fn tell(rt: &impl Print, name: &str, seen: Seen, expected: Seen) -> io::Result<()> {
-    print!(rt;
-        "{name} {} {} {} {} {}",
-        seen.number, seen.indices, seen.a, seen.b, seen.c
-    )?;
-    if seen == expected {
-        return println!(rt; " agrees");
-    }
-    println!(rt; " differs")
+    let word = if seen == expected {
+        "agrees"
+    } else {
+        "differs"
+    };
+    println!(rt; "{name} {seen} {word}")
 }
 
 // The refusal's number, the number of indices, and the first triangle.

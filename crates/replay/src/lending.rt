@@ -50,7 +50,7 @@ fn convert_for(corners: u32, block: &[u8], s: &mut Slices) -> Answer {
 fn put_answer(answer: Answer, block: &[u8], s: &Slices, out: &mut [u8]) -> usize {
     let p = match answer {
         Ok(p) => p,
-        Err(no) => return text::put_refusal(u32::from(no), out),
+        Err(no) => return text::put_refusal(no, out),
     };
     if p.vertices > LIMIT || p.indices > 3 * LIMIT {
         return 0;
