@@ -6,7 +6,7 @@ use crate::vert::{GeomCtx, Vert, uv_of};
 use lists::put_all;
 
 // The slices that it is written to, of the caller. A call takes them one by one, as C hands them, and makes this of them.
-// By hand, with no constructor (tried): each of the four slices is then the caller's by one ghost name more, and no proof of the four calls found it alone.
+// By hand, with no constructor (tried): each of the four slices is then the caller's by one ghost name more, and the proof of a sphere's call did not find it.
 // The pairs of sines and cosines (FORMAT 17.3) go beside it: a box takes none, and they are read only.
 #[derive(Drop)]
 pub struct Builder<'a> {
