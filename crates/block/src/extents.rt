@@ -1,5 +1,5 @@
 // The eight lists of a block: how wide their entries are, where they lie and how long the block is (FORMAT 2.4, 2.5).
-ghost use Rattle.std.specs.Prelude.{◌≡◌, ◌*◌, ◌^◌, ◌≤◌, ◌<◌, take};
+ghost use Rattle.std.specs.Prelude.{◌≡◌, ◌*◌, ◌^◌, ◌≤◌, ◌<◌, take, drop};
 ghost use Rattle.block.specs.Extents.{color_width, widths_by, ahead, words_in, word_count, place_of, list_bytes};
 
 use crate::edition::edition_of;
@@ -11,6 +11,15 @@ use crate::kind::Kind;
 pub struct Place {
     pub at: usize,
     pub len: usize,
+}
+
+impl Place {
+    // The bytes that lie there.
+    pub(crate) fn part(self, block: &[u8]) -> &[u8]
+        ensures { result.now ≡ take self.len (drop self.at block.now) }
+    {
+        bits::part(block, self.at, self.len)
+    }
 }
 
 fn color_width(alpha: bool) -> u8
@@ -90,6 +99,5 @@ pub fn list_place(h: Header, k: usize) -> Place
 pub fn list_part(block: &[u8], h: Header, k: usize) -> &[u8]
     ensures { result.now ≡ list_bytes block.now h k }
 {
-    let p = list_place(h, k);
-    bits::part(block, p.at, p.len)
+    list_place(h, k).part(block)
 }

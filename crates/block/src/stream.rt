@@ -116,13 +116,7 @@ fn found_at<'a>(
 ) -> Option<u32>
     ensures { result ≡ found_at block.now coord.now s place face }
 {
-    number_at(
-        bits::part(block, s.index.at, s.index.len),
-        coord,
-        s.per_vertex,
-        place,
-        face,
-    )
+    number_at(s.index.part(block), coord, s.per_vertex, place, face)
 }
 
 // What an attribute has at a corner. `block` and `coord` are two slices here and above, and no struct with the fact that `coord` is the block's list 1, which
@@ -140,7 +134,7 @@ pub fn get<'a, V: Value>(
     ensures { result ≡ get_at V.made V.width block.now coord.now s place face missing }
 {
     let found = found_at(block, coord, s, place, face);
-    value_or(bits::part(block, s.values.at, s.values.len), found, missing)
+    value_or(s.values.part(block), found, missing)
 }
 
 // A colour, of 4 words or of 3.
@@ -156,10 +150,5 @@ pub fn get4<'a>(
     ensures { result ≡ get4_at block.now coord.now s alpha place face missing }
 {
     let found = found_at(block, coord, s, place, face);
-    value4(
-        bits::part(block, s.values.at, s.values.len),
-        alpha,
-        found,
-        missing,
-    )
+    value4(s.values.part(block), alpha, found, missing)
 }

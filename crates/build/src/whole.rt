@@ -25,8 +25,8 @@ pub fn build<'a>(
 {
     let w = s.widths;
     let tables = CornerTables::of_plan(t);
-    // Fields that one call writes and another reads have names of their own: the check of borrows does not take two fields of `b` in one call, one to be
-    // written and one to be read.
+    // Fields that some call reads while it writes another (floats, positions, indices) have names of their own: the check of borrows does not take two fields
+    // of `b` in one call, one to be written and one to be read.
     let words = &mut *b.words;
     let floats = &mut *b.floats;
     let positions = &mut *b.positions;

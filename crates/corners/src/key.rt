@@ -96,6 +96,7 @@ impl<'a> Corner<'a> {
     }
 }
 
+// Not `words_of` of mesh: the vector for it would take the same three lines.
 fn generated_of(floats: &[f32], c: CornerNumber) -> Words3
     requires { 3 * c.0 + 3 ≤ length floats.now }
     ensures { result ≡ generated_at floats.now c.0 }

@@ -35,6 +35,7 @@ fn number_corner(
         (record { sources = sources.old; normals = normals.old; colours = colours.old; textures = textures.old }) positions.old work.old
         (record { sources = sources.new; normals = normals.new; colours = colours.new; textures = textures.new }) positions.new work.new result.0 }
 {
+    // By hand: here alone chains are made of the tables.
     let chains = Chains {
         points: t.points,
         spots: t.spots,
@@ -57,7 +58,7 @@ fn number_corner(
 }
 
 // All corners in order. How many vertices there are.
-// Not over `lent::Buffers`: this takes seven of its eight slices one by one at each corner, and would have to promise that floats and indices stay.
+// Not over `lent::Buffers`: this writes six of its eight slices one by one at each corner, and would have to promise that floats and indices stay.
 pub fn all_vertices(
     g: &Given<'_>,
     sources: &mut [u32],

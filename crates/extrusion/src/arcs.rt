@@ -27,7 +27,7 @@ fn section_step(section: &Entries<Pair>, i: usize) -> f32
     math::root(x * x + y * y)
 }
 
-// A step that is not finite counts for nothing.
+// A step that is not finite counts for nothing. One test, as block's private `finite_or`: sharing it would be one public function more to promise.
 fn counted(d: f32) -> f32
     ensures { result ≡ spec.counted d }
 {

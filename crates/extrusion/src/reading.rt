@@ -21,7 +21,7 @@ use std::marker::{Model, PhantomData};
 use tables::wide;
 
 // What a list holds: how many bytes an entry has, and how it is read.
-// Not block's Value, which gives words: that trait and these types of floats are other crates', so each would be wrapped to have it, and unwrapped at each use.
+// Not block's Value, which gives words: block alone could give it to these types of floats, and how an extrusion is read would stand there.
 pub trait Entry: Copy {
     ghost width: { ℕ };
 
@@ -68,7 +68,8 @@ impl Entry for Quat {
     }
 }
 
-// Entries, in the bytes of their list.
+// Entries, in the bytes of their list. The count stands beside the bytes, and `Iter` goes by number: the trait gives an entry's width to the clauses alone, so
+// that nothing can be divided or cut by it.
 #[derive(Drop)]
 pub struct Entries<'a, V: Entry> {
     bytes: &'a [u8],

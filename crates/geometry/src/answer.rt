@@ -15,8 +15,7 @@ pub const GREY: Words4 = Words4 {
     a: 0x3f80_0000,
 };
 
-// The survey desk's, and the reference's: (1, 1, 1, 1). Two constants of one type, word for word: a function of a shade would read no shorter, and a
-// clause can name these.
+// The survey desk's, and the reference's: (1, 1, 1, 1). Two constants of one type, word for word: a function of a shade would read no shorter.
 pub const WHITE: Words4 = Words4 {
     r: 0x3f80_0000,
     g: 0x3f80_0000,

@@ -44,6 +44,7 @@ pub fn convert(call: Call, block: &[u8], b: &mut Buffers<'_>) -> Answer
     ensures converted { Converted call block.now (held b.old) (held b.new) result }
 {
     let h = block::read_header(block);
+    // By hand: this is the one place, and a From would be these lines and a clause.
     let l = Lengths {
         positions: b.positions.len(),
         normals: b.normals.len(),

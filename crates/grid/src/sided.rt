@@ -15,6 +15,7 @@ pub struct GridBlock<'a> {
     ghost sides: { Sides header },
 }
 
+// By two names, as the definitions have them; not by the Net of sizes, on which grid does not stand.
 impl<'a> GridBlock<'a> {
     pub fn x_dimension(&self) -> usize
         ensures { result ≡ x_dimension self.now.header }

@@ -12,7 +12,7 @@ use block::PointNumber;
 use tables::{Plan, wide};
 use texture::{Source, put2};
 
-// The bits of i of n - 1 steps.
+// The bits of i of n - 1 steps. Not the share of parts: grid does not stand on parts, and the quotient is one line.
 fn part_word(i: usize, n: usize) -> u32
     requires { (i < 65536) × (2 ≤ n) × (n ≤ 65536) }
     ensures { result ≡ part_word i n }
@@ -39,6 +39,7 @@ impl<'a> GridBlock<'a> {
         requires { p.0 < x_dimension self.now.header * z_dimension self.now.header }
         ensures { result ≡ grid_texture self.now.block.now self.now.header self.now.settings p.0 }
     {
+        // Made here, and not held by GridBlock: points and faces ask for no coordIndex, and each clause of theirs would name the block through it.
         let source = Source {
             block: self.block,
             coord: &self.block[0..0],

@@ -17,7 +17,7 @@ mod context;
 mod points;
 mod solids;
 
-// A colour as a host has it: the bits of four f32, laid out as in C.
+// A colour as a host has it: the bits of four f32, laid out as in C. Not `Words4` of bits, whose layout is not C's.
 #[repr(C)]
 #[derive(Clone, Copy)]
 pub struct Colour {

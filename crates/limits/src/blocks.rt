@@ -90,35 +90,33 @@ fn convert_start(block: &[u8]) -> Seen {
     convert_full(bits::part(block, 0, block_bytes(read_header(block))))
 }
 
-// So many entries 0 1 third fourth .. over 4 points.
-fn over_four(first: u32, entries: u16, third: u32, fourth: u32) -> Seen {
+// The first word of a face set.
+const FACES: u32 = 0x1100_0000;
+
+// So many points, and so many entries that a closure gives.
+fn convert_set<F: Fn(u32) -> u32>(first: u32, points: u16, entries: u16, entry: F) -> Seen
+    requires callable { F.IsAlwaysCallable entry }
+{
     let mut block = [0u8; ROOM];
-    put_header(&mut block, first, 4, u32::from(entries));
-    let points = start_of(&block, 0);
-    put_points(&mut block, points, 4);
+    put_header(&mut block, first, u32::from(points), u32::from(entries));
+    let from = start_of(&block, 0);
+    put_points(&mut block, from, points);
     let list = start_of(&block, 1);
-    put_entries(&mut block, list, entries, |i| entry_of(i, third, fourth));
+    put_entries(&mut block, list, entries, entry);
     convert_start(&block)
 }
 
-// A face set of triangles 0 1 third, as so many entries.
+// A face set of triangles 0 1 third, as so many entries over 4 points.
 pub(crate) fn triangles(entries: u16, third: u32) -> Seen {
-    over_four(0x1100_0000, entries, third, 0xffff_ffff)
+    convert_set(FACES, 4, entries, |i| entry_of(i, third, 0xffff_ffff))
 }
 
 // A triangle, fan, strip or quad set: so many entries 0 1 2 3 .. over 4 points.
 pub(crate) fn primitives(first: u32, entries: u16) -> Seen {
-    over_four(first, entries, 2, 3)
+    convert_set(first, 4, entries, |i| entry_of(i, 2, 3))
 }
 
 // One face of all its points.
 pub(crate) fn face(corners: u16) -> Seen {
-    let mut block = [0u8; ROOM];
-    let n = u32::from(corners);
-    put_header(&mut block, 0x1100_0000, n, n);
-    let points = start_of(&block, 0);
-    put_points(&mut block, points, corners);
-    let list = start_of(&block, 1);
-    put_entries(&mut block, list, corners, |i| i);
-    convert_start(&block)
+    convert_set(FACES, corners, corners, |i| i)
 }

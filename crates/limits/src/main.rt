@@ -30,7 +30,8 @@ fn seen(number: u32, indices: usize, a: u32, b: u32, c: u32) -> Seen {
     }
 }
 
-// Kinds 4, 6 and 7, attributes per vertex; and a strip set whose colours are not.
+// Kinds 4, 6 and 7, attributes per vertex; and a strip set whose colours are not. Words, and no Kind: the block is written bit by bit here, and no function
+// of block gives the number of a kind.
 const TRIANGLES: u32 = 0x1930_0000;
 
 const STRIPS: u32 = 0x1d30_0000;

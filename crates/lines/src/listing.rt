@@ -72,7 +72,7 @@ fn list_run(
     c
 }
 
-// The number of a line is the number of runs before it.
+// The number of a line is the number of runs before it. `points` stands beside t, whose spots it is: the clauses of the runs are by the header's number.
 pub fn list_entries(coord: &[u8], points: u32, work: &mut [u32], t: CornerTables)
     requires { Laid t (length work.old) × (t.points + 3 * t.spots ≤ t.corners) × (t.count ≡ sum_over (sizes.named points) (runs (entries coord.now)))
         × (points ≡ t.spots) × (length coord.now / 4 ≤ 2 ^ 32) }

@@ -14,7 +14,8 @@ struct Partial {
     r: u32,
 }
 
-// Whether the trial can be taken off, as a digit: a number, so that taking it off is no branch.
+// Whether the trial can be taken off, as a digit: a number, so that taking it off is no branch. A cast and no From: a root calls nothing outside of this file
+// (tests/narrow.sh).
 fn not_below(rest: u32, trial: u32) -> u32
     ensures { Bit rest trial result }
 {
@@ -161,7 +162,8 @@ fn digits_of(b: u32) -> u32
     shifted(b / 8388608 + 23, b % 8388608 + 8388608)
 }
 
-// The bits of its root, from the whole root q of those digits.
+// The bits of its root, from the whole root q of those digits. The line of `join_root`, for a root that was found with three others: a function of both would
+// be this one line, and promise it of any place and root.
 fn with_root(b: u32, q: u32) -> u32
     requires { Plain b × (q ≡ isqrt 25 (tall b)) }
     ensures { result ≡ root_bits b }
@@ -196,6 +198,7 @@ fn is_plain(x: f32) -> bool
     x > 0.0 && x < f32::INFINITY && 8388607 < f32::to_bits(x)
 }
 
+// f32::to_bits: this contract says once that the bits are plain.
 fn bits_in(x: f32) -> u32
     requires { plain x ≡ true }
     ensures { (result ≡ to_bits binary32 x) × Plain result }
@@ -203,7 +206,7 @@ fn bits_in(x: f32) -> u32
     f32::to_bits(x)
 }
 
-// The root of x, from its bits.
+// The root of x, from its bits. f32::from_bits: this contract says once that they make the root.
 fn root_of(x: f32, r: u32) -> f32
     requires { (plain x ≡ true) × (r ≡ root_bits (to_bits binary32 x)) }
     ensures { Rooted x result }
@@ -229,7 +232,8 @@ fn roots_of_plain(a: f32, b: f32, c: f32, d: f32) -> Four<f32>
     }
 }
 
-// The roots of four numbers. Where all are plain, as nearly all are, they are worked out together.
+// The roots of four numbers. Where all are plain, as nearly all are, they are worked out together. Four numbers, here and in `normalize_four`, and no Four:
+// each caller has them by names of its own, and would write them into one for the call alone.
 pub fn roots(a: f32, b: f32, c: f32, d: f32) -> Four<f32>
     ensures { Rooted a result.a × Rooted b result.b × Rooted c result.c × Rooted d result.d }
 {

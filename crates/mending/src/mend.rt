@@ -42,7 +42,7 @@ fn put_words(out: &mut [u32], v: VertexNumber, w: Words3)
 
 // ---- what is lent
 
-// Where the vertices lie, `count` of them, and the triangles in threes.
+// Where the vertices lie, `count` of them, and the triangles in threes. `count` stands beside the slices: they are lent, and may be longer than their vertices.
 #[derive(Clone, Copy)]
 struct Lent<'a> {
     positions: &'a [u32],

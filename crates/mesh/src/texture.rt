@@ -1,4 +1,4 @@
-// The default texture of a face set (FORMAT 7.4, default_ifs_st).
+// How points become texture: the default of a face set (FORMAT 7.4, default_ifs_st), and the caps of an extrusion (8.4).
 ghost use Rattle.std.specs.Prelude.{◌≡◌, ◌<◌};
 ghost use Rattle.mesh.specs.Texture.{place_of, fitted_at};
 

@@ -9,8 +9,8 @@ use crate::vectors::{store_unit, store3};
 use math::V3;
 use tables::{Plan, Tables, fill, narrow};
 
-// Each corner's face. Not one with `spread_numbers` of soups: that reads each number from the words that it fills, so a closure for what differs would take
-// them from the loop, and its clauses would say what they are at each turn.
+// Each corner's face. Not one with `spread_numbers` of soups: that reads each number from the words that it fills, so a closure would be given
+// them at each turn, and its clauses would say what they are then.
 pub fn owners(work: &mut [u32], t: Plan)
     requires { Sound work.old t }
     ensures { Kept t.owners work.old work.new × OwnedTo work.old work.new t t.faces }

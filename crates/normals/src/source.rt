@@ -13,7 +13,8 @@ use block::{CornerNumber, PointNumber};
 use math::{V3, Y_AXIS};
 use tables::{Tables, wide};
 
-// The tables of a soup, once owners, rows and faces by number are made.
+// The tables of a soup, once owners, rows and faces by number are made. That a corner, a face or a number is one of these tables stays a clause: a type for
+// it would hold the tables too, and be made anew at each turn of a loop.
 #[derive(Clone, Copy)]
 pub struct Source<'a> {
     pub tables: Tables<'a>,

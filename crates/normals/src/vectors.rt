@@ -33,7 +33,7 @@ pub fn load_unit(work: &[u32], a: usize) -> Option<V3>
     Some(load(work, a + 1))
 }
 
-// Not one with `put3`: here the bits of a float are put, and by what mesh puts them with; each is one line.
+// Not one with `put3`: this puts the bits of the floats, by `put_vector` of mesh; each is one line.
 pub fn store3(work: &mut [u32], a: usize, v: V3)
     requires { a + 3 ≤ length work.old }
     ensures { Kept a work.old work.new × (at3 work.new a ≡ v) }

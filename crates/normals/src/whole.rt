@@ -21,6 +21,7 @@ fn prepare(work: &mut [u32], t: Plan, ccw: bool)
     group(work, t);
 }
 
+// `ccw` and `rule` are two: the rows read the one, and what comes after them the other.
 // The normals of the corners of the soup that the tables hold. The tables below the owners are kept; the words above and the floats behind
 // the normals are used. The room in the floats stays a clause here and below, for the reason in outputs.
 pub fn generate(work: &mut [u32], t: Plan, ccw: bool, rule: CreaseRule, floats: &mut [f32])

@@ -14,7 +14,8 @@ pub struct Marks {
     pub all: PartSizes,
 }
 
-// Of a side of these sizes, if there is one, and caps of n slices, each if it is there.
+// Of a side of these sizes, if there is one, and caps of n slices, each if it is there: two bools, as the node has them (a cone has no top), for both caps
+// have n slices and an Option would hold nothing.
 pub fn marks_of(side: Option<PartSizes>, n: usize, top: bool, bottom: bool) -> Marks
     requires { IfSome side (Small 8192) × (n ≤ 1024) }
     ensures { result ≡ marks_of (unwrap_or side no_sizes) n top bottom }

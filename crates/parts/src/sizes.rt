@@ -17,7 +17,7 @@ pub struct PartSizes {
     pub pairs: usize,
 }
 
-// Those of no part.
+// Those of no part. A constant and no Default: the name says what three zeros would not, and the definitions have it as `no_sizes`.
 pub const NO_PART: PartSizes = PartSizes {
     vertices: 0,
     indices: 0,

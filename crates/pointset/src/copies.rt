@@ -53,7 +53,7 @@ fn put_opaques(listed: &[u32], colours: &mut [u32], n: usize)
     );
 }
 
-// Colours as they are listed: of four words where they have alpha, else of three.
+// Colours as they are listed: of four words where they have alpha, else of three. A bool, as the node has it: no caller chooses by it.
 #[derive(Clone, Copy)]
 pub struct Listed<'a> {
     pub words: &'a [u32],

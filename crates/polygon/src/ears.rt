@@ -30,8 +30,8 @@ fn take_out(idx: &mut [u32], i: usize)
     idx.copy_within(i + 1.., i);
 }
 
-// `rev` says that the corners go round clockwise; it is found once of each polygon. A flag and not a closure: it turns the order here and each triangle in
-// `put_tri`, so it would take two closures that say the same.
+// `rev` says that the corners go round clockwise; it is found once of each polygon whose ears are clipped, and false of a fan. A flag and not a closure: it
+// turns the order here and each triangle in `put_tri`, so it would take two closures that say the same.
 fn place_of(rev: bool, n: usize, i: usize) -> u32
     requires { (n ≤ 2 ^ 31) × (i < n) }
     ensures { result ≡ place rev n i }

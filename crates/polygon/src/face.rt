@@ -10,14 +10,16 @@ use crate::ears::{ear_clip, put_tri};
 
 const EAR_CLIP_MAX: usize = 4096;
 
-// Whether a face of n corners is a fan: then its points in the plane are not looked at.
+// Whether a face of n corners is a fan: then its points in the plane are not looked at. `convex` is a bool: the bit of the header, or true of a grid and of
+// primitives, and this alone reads it.
 pub fn is_fan(n: usize, convex: bool) -> bool
     ensures { result ≡ is_fan convex n }
 {
     n <= 3 || convex || EAR_CLIP_MAX < n
 }
 
-// A fan over 0, 1, .., n - 1, to the front of `out`.
+// A fan over 0, 1, .., n - 1, to the front of `out`. Not `put_fan` of ears, which reads its corners from an order: one over a closure would need its clause,
+// and be longer than this loop.
 fn put_outline_fan(n: usize, out: &mut [u32])
     requires { n ≤ 2 ^ 31 }
     ensures { out.new ≡ sets out.old 0 (flat (fan (outline n))) }

@@ -17,7 +17,8 @@ fn add_edge(n: V3, a: V3, b: V3) -> V3
     }
 }
 
-// The sum over the edges of the points that `names` names, the edge back to the first at the end.
+// The sum over the edges of the points that `names` names, the edge back to the first at the end. Two slices, here and in plane, and no struct: nothing is
+// known of both, as a name past the points reads as 0, and callers have them apart.
 pub fn newell(points: &[u32], names: &[u32]) -> V3
     ensures { result ≡ newell (spots points.now names.now) }
 {

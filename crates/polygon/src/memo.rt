@@ -72,7 +72,7 @@ fn is_in_way(k: Dot, t: Triangle) -> bool
     k.j != t.a.j && k.j != t.b.j && k.j != t.c.j && in_tri(k, t)
 }
 
-// The corner k, whose coordinates are there.
+// The corner k, whose coordinates are there. Not `dot_at`, which tests each index: a block is counted without tests.
 fn dot_in(p: &[f32], k: usize) -> Dot
     requires { (k < 2 ^ 31) × (k * 2 + 1 < length p.now) }
     ensures { result ≡ dot_of (xy p.now) k }
@@ -228,7 +228,7 @@ pub enum Finding {
     Blocked(usize),
 }
 
-// What a word that is kept says.
+// What a word that is kept says. No From, here and in `word_of`: that one asks that the word fits, which a From may not, and the two stand together.
 #[tactic(auto, using(crate::proofs::Tables::finding_far), unfolding(crate::specs::Memo::finding))]
 fn finding_of(word: u32) -> Finding
     ensures { result ≡ finding word }

@@ -68,7 +68,8 @@ fn pass_stretch<'a>(
     p
 }
 
-// The kept primitives of coordIndex, to the tables of first corners, face numbers, and the corners' points and places.
+// The kept primitives of coordIndex, to the tables of first corners, face numbers, and the corners' points and places. Three arguments, and no Source: the one
+// caller would make it for this call alone.
 pub fn list_primitives(coord: &[u8], points: u32, g: Topology, work: &mut [u32], t: Plan)
     requires { Planned points g coord.now (length work.old) t }
     ensures { PrimitivesListed points g coord.now t work.old work.new }

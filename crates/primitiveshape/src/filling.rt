@@ -16,8 +16,7 @@ use soups::prepare;
 use tables::Plan;
 
 // All tables but that of texture.
-// As in facesetshape but for one call. One function of both would take that call as a closure, and its contract what the call asks and leaves, in either
-// kind's words: longer than the lines that it saves.
+// As in facesetshape but for one call. One function over that call as a closure (tried) needs a contract longer than the lines that it saves.
 // The room in the floats stays a clause, as in soups: they are lent to be written.
 pub fn put_tables(
     b: &SetBlock<'_>,

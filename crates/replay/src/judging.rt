@@ -18,5 +18,8 @@ pub(crate) fn judge_next<R: Read>(from: &mut R, room: &mut Room) -> Result<Optio
         return Ok(None);
     };
     let n = put_converted(case.corners, case.block, &mut room.out, &mut room.slices);
-    Ok(Some(n == case.text.len() && bits::part(&room.out, 0, n) == case.text))
+    Ok(Some(match n {
+        Some(k) => k == case.text.len() && bits::part(&room.out, 0, k) == case.text,
+        None => false,
+    }))
 }

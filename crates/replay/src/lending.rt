@@ -19,7 +19,7 @@ pub(crate) struct Slices {
     pub floats: [f32; 16 * LIMIT + 8],
 }
 
-// The first n elements, or all of them.
+// The first n elements, or all of them. Casts here and in reading: no From gives a usize of a u32.
 fn front<T>(s: &mut [T], n: usize) -> &mut [T] {
     let k = n.min(s.len());
     &mut s[..k]
@@ -47,16 +47,16 @@ fn convert_for(corners: u32, block: &[u8], s: &mut Slices) -> Answer {
 }
 
 // The length of the text, which is put as far as the buffer goes. A mesh beyond full slices has none.
-fn put_answer(answer: Answer, block: &[u8], s: &Slices, out: &mut [u8]) -> usize {
+fn put_answer(answer: Answer, block: &[u8], s: &Slices, out: &mut [u8]) -> Option<usize> {
     let p = match answer {
         Ok(p) => p,
-        Err(no) => return text::put_refusal(no, out),
+        Err(no) => return Some(text::put_refusal(no, out)),
     };
     if p.vertices > LIMIT || p.indices > 3 * LIMIT {
-        return 0;
+        return None;
     }
     let parts = parts_of(read_header(block));
-    text::put_mesh(
+    Some(text::put_mesh(
         p,
         parts,
         &s.positions,
@@ -66,11 +66,16 @@ fn put_answer(answer: Answer, block: &[u8], s: &Slices, out: &mut [u8]) -> usize
         &s.sources,
         &s.indices,
         out,
-    )
+    ))
 }
 
 // The text of a block's answer to a call with slices for so many corners.
-pub(crate) fn put_converted(corners: u32, block: &[u8], out: &mut [u8], s: &mut Slices) -> usize {
+pub(crate) fn put_converted(
+    corners: u32,
+    block: &[u8],
+    out: &mut [u8],
+    s: &mut Slices,
+) -> Option<usize> {
     let answer = convert_for(corners, block, s);
     put_answer(answer, block, s, out)
 }

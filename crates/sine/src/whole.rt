@@ -47,7 +47,7 @@ fn fraction(t: u64) -> f32
     (t as f32) * 5.9604644775390625e-8
 }
 
-// A bool here and in `half`: it is the sign of the angle, a bit of its pattern.
+// A bool here and in `half`: whether the value is below 0. It chooses a value and no step, and an enum of two would be made by the same tests.
 fn signed(x: f32, minus: bool) -> f32
     ensures { result ≡ cond minus (neg x) x }
 {
@@ -90,7 +90,7 @@ fn inside(b: u32) -> SinCos
     half(4095 - k, 16777216 - w, b < 2147483648)
 }
 
-// Sine and cosine of x; of an angle above 1,024 in size, or none, 0 and 1.
+// Sine and cosine of x; of an angle above 1,024 in size, or none, 0 and 1. Two tests, and no ||: to_bits asks for a number.
 pub fn sin_cos(x: f32) -> SinCos
     ensures { result ≡ sin_cos_of x }
 {

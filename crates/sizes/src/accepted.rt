@@ -6,7 +6,8 @@ use crate::kinds::Sizes;
 use bits::Words4;
 use block::{Header, Settings};
 
-// The colour is the caller's: it stands beside the block since each mesh is made of both (FORMAT 7.2).
+// The colour is the caller's: it stands beside the block since each mesh but an extrusion's is made of both (FORMAT 7.2). Who has an accepted block has its
+// settings by `read_settings` and its sizes by `sizes_of`, which ask for no more.
 #[derive(Clone, Copy)]
 pub struct AcceptedBlock<'a> {
     pub block: &'a [u8],

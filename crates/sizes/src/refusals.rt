@@ -10,6 +10,7 @@ use crate::net::product;
 use block::{Header, Kind, Refusal, limit_of};
 use tables::wide;
 
+// The tests of the sides stand here and in `is_no_extrusion`, as in the definitions.
 fn is_no_grid(h: Header) -> bool
     ensures { result ≡ is_no_grid h }
 {
@@ -54,7 +55,7 @@ fn shape_verdict(block: &[u8], h: Header) -> Result<Sizes, Refusal>
 
 // All rows up to 7. Block and header are two arguments, and no struct with the fact that the header is the block's: it would spare a clause here, at
 // `shape_verdict` and at geometry's `verdict_for` and `make`, and all but `verdict_for` would take it apart again for functions that ask nothing of the
-// two, or more than that (`Known`, `Asked`).
+// two, or more than that (`Known`, or what `AcceptedBlock` says).
 pub fn verdict_to_7(block: &[u8], h: Header) -> Result<Sizes, Refusal>
     requires { h ≡ header_of block.now }
     ensures { Judged block.now h (first_of (block_rows block.now h ++ shape_rows block.now h)) result }

@@ -7,8 +7,8 @@ ghost use Rattle.soups.specs.Prepared.{Normals, Prepared};
 use block::CreaseRule;
 use tables::{Plan, Tables, fill};
 
-// Each corner's face number, over the owners. Not one with `owners` of normals: the number is read from the words that are filled, so a closure for what
-// differs would take them from the loop, and its clauses would say what they are at each turn.
+// Each corner's face number, over the owners. Not one with `owners` of normals: the number is read from the words that are filled, so a closure would be
+// given them at each turn, and its clauses would say what they are then.
 fn spread_numbers(work: &mut [u32], t: Plan)
     requires { Sound work.old t }
     ensures { Kept t.owners work.old work.new × Spread work.old work.new t (number_in work.old t) t.faces }

@@ -37,7 +37,7 @@ fn put_quad(indices: &mut [u32], at: usize, o: Ball, j: usize, i: usize) -> usiz
     put_tri(indices, next, (j + 1 != o.k).then_some([a, c, d]))
 }
 
-// A loop, not put_words: a quad has one triangle or two, and a row of words one length.
+// A loop, not put_words: a quad has one triangle or two, and an array has one length.
 fn put_band(indices: &mut [u32], at: usize, o: Ball, j: usize) -> usize
     requires { (j < o.k) × (at + length (sphere_band o.n o.k j) ≤ length indices.old) }
     ensures { Added spliced (sphere_band o.n o.k j) at indices.old result indices.new }

@@ -82,7 +82,7 @@ impl<'a> Tables<'a> {
         part(self.work, self.plan.corners + a.0, n)
     }
 
-    // The vertex numbers of the n corners from a on (FORMAT 11).
+    // The vertex numbers of the n corners from a on (FORMAT 11). Not one with `corners_of`: each says in its contract what its table holds.
     pub fn names_of(&self, a: CornerNumber, n: usize) -> &'a [u32]
         requires { a.0 + n ≤ self.now.plan.now.count }
         ensures are { result.now ≡ seg self.now.work.now (self.now.plan.now.named + a.0) n }

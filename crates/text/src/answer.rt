@@ -36,7 +36,8 @@ impl Writer<'_> {
     }
 }
 
-// The text of a mesh.
+// The text of a mesh. The slices one by one: each of the two callers holds them as arrays of its own, and would make a struct for this call alone. That a
+// count fits a word stays a clause, here and in lines: a struct for it would hold the one number.
 pub fn put_mesh(
     head: Report,
     parts: Parts,

@@ -6,6 +6,7 @@ ghost use Rattle.text.specs.Fields.{field_of, fields, attribute};
 use crate::writer::Writer;
 use lists::get;
 
+// Casts of a word to a usize, here and in lines: no From gives a usize of a u32, and text does not stand on tables.
 impl Writer<'_> {
     // A word where `word` is set, else a number. A flag here and in `put_fields`, and no closure: that would take the writer and the number to choose
     // between two lines.

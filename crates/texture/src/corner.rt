@@ -5,7 +5,7 @@ ghost use Rattle.texture.specs.Corner.{texture_in};
 use bits::Words2;
 use block::{Header, Settings, texture_stream, uv};
 
-// The words of a corner without texture.
+// The words of a corner without texture. By hand: this is a const, and default is a call.
 pub const NO_TEXTURE: Words2 = Words2 { s: 0, t: 0 };
 
 // What the texture of a corner is read from: the block, its coordIndex, its header and its settings.

@@ -23,7 +23,8 @@ pub fn put2(work: &mut [u32], a: usize, w: Words2)
 }
 
 impl<'a> Source<'a> {
-    // The texture at a place, of a point whose words are in `work`. Where texture points are listed no default is made.
+    // The texture at a place, of a point whose words are in `work`. Where texture points are listed no default is made: what is handed on for it goes unread,
+    // since a closure for it would need a clause here, in corner_texture and in grid.
     fn texture_at(&self, fit: Fit, work: &[u32], t: Plan, p: PointNumber, place: usize) -> Words2
         requires { (p.0 < t.spots) × (t.points + 3 * t.spots ≤ length work.now) }
         ensures { result ≡ texture_in self.now.block.now self.now.coord.now self.now.header self.now.settings place (default_at (points_in work.now t) fit p.0) }

@@ -87,7 +87,8 @@ pub fn vertex(
     n
 }
 
-// How many vertices there are, once there were n and a corner's vertex got number r.
+// How many vertices there are, once there were n and a corner's vertex got number r. A number, and no flag beside it: a new vertex is number n, and no other
+// is.
 #[tactic(auto, unfolding(crate::specs::Adding::count_after))]
 pub fn count_after(n: VertexNumber, r: VertexNumber) -> VertexNumber
     requires { n.0 < most }

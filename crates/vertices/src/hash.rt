@@ -30,7 +30,7 @@ fn spread(sum: usize) -> usize
 
 impl<'a> CornerKey<'a> {
     // The words of a normal, each times its weight. No product waits for another.
-    // Not one with the two below: each has a number of words and weights of its own.
+    // Not one with the two below: over a list of weights it would be a loop with one sum, each of whose products waits for the one before.
     #[tactic(auto, unfolding(crate::specs::Hash::normal_sum))]
     fn normal_sum(&self, n: usize) -> usize
         ensures { (result ≡ normal_sum (three (seg self.now.words.now 0 n))) × (result < 3 * 2 ^ 60) }

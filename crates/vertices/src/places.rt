@@ -23,11 +23,13 @@ pub struct Chains {
     pub nexts: usize,
 }
 
-// The number of a bucket, which is none of the three of FORMAT 11.
+// The number of a bucket, which is none of the three of FORMAT 11. That it is below the number of buckets stays a clause: a type that says so would hold that
+// number, which is the chains'.
 #[derive(Clone, Copy)]
 pub struct Bucket(pub usize);
 
-// What the key of a corner is made of: its point, and nine words.
+// What the key of a corner is made of: its point, and nine words. A slice, and no array of nine: `vertex` takes any nine words or more, and may not ask for
+// less.
 #[derive(Clone, Copy)]
 pub struct CornerKey<'a> {
     pub point: PointNumber,
