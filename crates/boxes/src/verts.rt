@@ -42,7 +42,7 @@ fn is_right(i: usize) -> bool
 fn side(far: bool) -> f32
     ensures { result ≡ spec.side_of far }
 {
-    if far { 1.0 } else { 0.0 }
+    f32::from(far)
 }
 
 // Corner i of a face.

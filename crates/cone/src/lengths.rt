@@ -1,10 +1,10 @@
 // FORMAT 17.9, 9.3: the lengths by which the normals of a cone are scaled. Their squares are nearly
 // all one number but for some roundings, so the roots of four numbers in a row serve for them.
-ghost use Rattle.std.specs.Prelude.{◌≡◌, true, ◌+◌, ◌≤◌, ◌<◌, ◌^◌};
+ghost use Rattle.std.specs.Prelude.{◌≡◌, ◌+◌, ◌<◌, ◌^◌, IfSome};
 ghost use Rattle.std.specs.Float.{binary32};
-ghost use Rattle.std.specs.Float.Ieee.{of_bits, to_bits};
+ghost use Rattle.std.specs.Float.Ieee.{of_bits};
 ghost use Rattle.math.specs.SquareRoot.{root_of};
-ghost use Rattle.math.specs.Vector.{vdot, unit_of};
+ghost use Rattle.math.specs.Vector.{vlen};
 
 use math::square_root::roots;
 use math::{Four, V3};
@@ -44,30 +44,25 @@ pub fn lengths_near(k: Round) -> Lengths {
     Lengths { first, roots }
 }
 
-// Whether the root of the number with the bits w is at hand. Not an Option of the root: `scaled` asks this of three numbers before it looks up any.
-pub fn is_known(k: Lengths, w: u32) -> bool
-    ensures { result ≡ true → (k.first ≤ w) × (w < k.first + 4) }
+// The root of the number with the bits w, if it is among the four.
+fn known_root(k: Lengths, w: u32) -> Option<f32>
+    ensures { IfSome result (λ r. r ≡ root_of (of_bits binary32 w)) }
 {
-    k.first <= w && w < k.first + 4
-}
-
-fn known_length(k: Lengths, w: u32) -> f32
-    requires { (k.first ≤ w) × (w < k.first + 4) }
-    ensures { result ≡ root_of (of_bits binary32 w) }
-{
+    if w < k.first {
+        return None;
+    }
     match w - k.first {
-        0 => k.roots.a,
-        1 => k.roots.b,
-        2 => k.roots.c,
-        _ => k.roots.d,
+        0 => Some(k.roots.a),
+        1 => Some(k.roots.b),
+        2 => Some(k.roots.c),
+        3 => Some(k.roots.d),
+        _ => None,
     }
 }
 
-// v scaled to length 1, where w, the bits of the square of its length, is known.
-pub fn known_unit(k: Lengths, v: V3, w: u32) -> Option<V3>
-    requires { (k.first ≤ w) × (w < k.first + 4)
-        × (w ≡ to_bits binary32 (vdot v v)) }
-    ensures { result ≡ unit_of v }
+// The length of v, if it is known.
+pub fn known_length(k: Lengths, v: V3) -> Option<f32>
+    ensures { IfSome result (λ l. l ≡ vlen v) }
 {
-    math::unit_by(v, known_length(k, w))
+    known_root(k, math::bits_of(math::dot(v, v)))
 }

@@ -5,7 +5,7 @@ ghost use Rattle.mesh.specs.Normals.{or_else};
 ghost use Rattle.parts.specs.Written.{Roomy, Written};
 ghost use Rattle.cone.specs.Cone.{cone_normal, cone_foot, cone_apex, cone_verts, cone_tri, cone_side};
 
-use crate::lengths::{Lengths, is_known, known_unit, lengths_near};
+use crate::lengths::{Lengths, known_length, lengths_near};
 use block::Pair;
 use math::{V3, Y_AXIS};
 use parts::{Builder, Round, Vert, put_words, ring_at, share};
@@ -56,14 +56,16 @@ fn scaled(known: Lengths, a: V3, b: V3, c: V3) -> SliceNormals
         × (result.to ≡ or_else (unit_of b) y_axis)
         × (result.apex ≡ or_else (unit_of c) y_axis) }
 {
-    let x = math::bits_of(math::dot(a, a));
-    let y = math::bits_of(math::dot(b, b));
-    let z = math::bits_of(math::dot(c, c));
-    if is_known(known, x) && is_known(known, y) && is_known(known, z) {
+    let lengths = (
+        known_length(known, a),
+        known_length(known, b),
+        known_length(known, c),
+    );
+    if let (Some(x), Some(y), Some(z)) = lengths {
         return SliceNormals {
-            from: known_unit(known, a, x).unwrap_or(Y_AXIS),
-            to: known_unit(known, b, y).unwrap_or(Y_AXIS),
-            apex: known_unit(known, c, z).unwrap_or(Y_AXIS),
+            from: math::unit_by(a, x).unwrap_or(Y_AXIS),
+            to: math::unit_by(b, y).unwrap_or(Y_AXIS),
+            apex: math::unit_by(c, z).unwrap_or(Y_AXIS),
         };
     }
     three_normals(a, b, c)

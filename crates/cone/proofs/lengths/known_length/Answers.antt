@@ -1,16 +1,7 @@
-use Prim.Native.Nat.{◌+◌}
-use native.Mathlib.Omega.{arith}
-use Rattle.cone.proofs.Scaling.{known_at}
+use mathlib.Core.Path.{ap, ◌∙◌}
+use lib.Ieee.{binary32, to_bits}
+use Rattle.cone.proofs.Scaling.{length_is}
 use Rattle.cone.proofs.lengths.known_length.Goals as goal
 
-pub returns-in-0 : goal.returns-in-0
-returns-in-0 c = known_at c.args.w c.args.k.first c.args.k.root_a (omega (arith, c.in-0.is, c.requires.0, c.requires.1))
-
-pub returns-in-1 : goal.returns-in-1
-returns-in-1 c = known_at c.args.w (c.args.k.first + 1) c.args.k.root_b (omega (arith, c.in-1.is, c.requires.0, c.requires.1))
-
-pub returns-in-2 : goal.returns-in-2
-returns-in-2 c = known_at c.args.w (c.args.k.first + 2) c.args.k.root_c (omega (arith, c.in-2.is, c.requires.0, c.requires.1))
-
-pub returns-in_default : goal.returns-in_default
-returns-in_default c = known_at c.args.w (c.args.k.first + 3) c.args.k.root_d (omega (arith, c.requires.0, c.requires.1))
+pub returns : goal.returns
+returns c = length_is c.args.v c.bits_of.result c.known_root.result (c.bits_of.ensures ∙ ap (to_bits binary32) c.dot.ensures) c.known_root.ensures
