@@ -1,5 +1,5 @@
 // FORMAT 19.1: the rays of the paths, made once for all triangles. They stand coordinate by
-// coordinate, 64 places each, so that those of several paths are read together.
+// coordinate, 64 places each, and not as 64 of `Ray`, so that the compiler tests four paths at a time.
 ghost use Rattle.std.specs.Prelude.{◌≡◌, ◌+◌, ◌/◌, ◌≤◌, ◌<◌, length};
 ghost use Rattle.paths.specs.Pass.{spot_at, ray_at, stored, Loaded};
 
@@ -46,10 +46,9 @@ pub fn load(paths: &[u32], rays: &mut Rays)
     ensures { Loaded paths.now rays.new
         (length paths.now / 6) }
 {
-    let m = paths.len() / 6;
-    for j in 0..m {
-        let from = point_at(paths, 2 * j);
-        let to = point_at(paths, 2 * j + 1);
+    for (j, path) in paths.chunks_exact(6).enumerate() {
+        let from = point_at(path, 0);
+        let to = point_at(path, 1);
         put_spot(rays, j, from);
         put_spot(rays, j + 192, sub(to, from));
     }

@@ -6,6 +6,7 @@ ghost use Rattle.block.specs.Refusal.{refused_as, row, first_of};
 ghost use Rattle.pointset.specs.PointSet.{makes_colours};
 ghost use Rattle.pointset.specs.Numbers.{is_short};
 
+use crate::copies::Listed;
 use block::{LIMIT, Refusal};
 
 // Of a list of so many words.
@@ -20,10 +21,10 @@ fn full_colours(alpha: bool, words: usize) -> usize
 
 // Where they are present and there are at least as many as points.
 #[tactic(auto, unfolding(crate::specs::PointSet::makes_colours))]
-pub fn makes_colours(points: &[u32], has_colors: bool, alpha: bool, listed: &[u32]) -> bool
-    ensures { result ≡ makes_colours points.now has_colors alpha listed.now }
+pub fn makes_colours(points: &[u32], has_colors: bool, listed: Listed<'_>) -> bool
+    ensures { result ≡ makes_colours points.now has_colors listed.entry.alpha listed.entry.words.now }
 {
-    has_colors && full_colours(alpha, listed.len()) >= points.len() / 3
+    has_colors && full_colours(listed.alpha, listed.words.len()) >= points.len() / 3
 }
 
 // The words of n colours, where they are made.

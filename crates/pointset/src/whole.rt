@@ -21,13 +21,13 @@ pub fn point_set(
         (lent_to positions.new colours.new sources.new) result }
 {
     let n = points.len() / 3;
-    let made = makes_colours(points, has_colors, alpha, listed);
-    refusal_of(n, made, positions, colours, sources)?;
-    copy_words(points, positions, 3 * n);
     let given = Listed {
         words: listed,
         alpha,
     };
+    let made = makes_colours(points, has_colors, given);
+    refusal_of(n, made, positions, colours, sources)?;
+    copy_words(points, positions, 3 * n);
     put_colours(made.then_some(given), colours, n);
     put_sources(sources, n);
     Ok(Report {

@@ -1,5 +1,14 @@
-use Rattle.paths.proofs.Loading.{Loading}
+use mathlib.Core.Path.{◌≡◌}
+use Prim.Native.Nat.{◌/◌}
+use lib.ListN.{length}
+use Rattle.std.specs.Iterator.Adapters.{enumerate_source, enumerate_count}
+use Rattle.std.specs.Slice.Iter.{chunks_exact_rest, chunks_exact_size}
+use Rattle.paths.proofs.Loading.{Loading, Sixes}
 use Rattle.paths.proofs.rays.load.Given as goal
 
 abbrev pub invariant-loop-j : goal.invariant-loop-j
-invariant-loop-j l = Loading l.paths l.m l.initial.rays l.j l.rays
+invariant-loop-j l =
+    let s = enumerate_source l.j-iterator in
+    let k = enumerate_count l.j-iterator in
+    (chunks_exact_size s ≡ 6) × Sixes l.paths k (chunks_exact_rest s)
+    × Loading l.paths (length l.paths / 6) l.initial.rays k l.rays
