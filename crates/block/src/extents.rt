@@ -54,6 +54,7 @@ fn list_words(width: u8, count: u32) -> usize
     (width as usize) * (count as usize)
 }
 
+// No `sum`: its clause asks that the whole fits, which the loop shows turn by turn.
 // The words of the lists before list `k`. Two arrays, and no array of pairs: the widths are the kind's and the counts the block's, and `zip` pairs them here.
 fn words_before(w: [u8; 8], n: [u32; 8], k: usize) -> usize
     requires { k ≤ 8 }

@@ -49,6 +49,7 @@ pub fn put_tables(
     arcs_where(x, t, floats);
 }
 
+// `shared` is for the clauses alone: its widths are what the header's bit says.
 // The table of texture, where texture is wanted. It stands behind the owners, as in facesetshape. The settings stand beside x, as sizes makes an `Extruded`
 // without them.
 pub fn texture_where(

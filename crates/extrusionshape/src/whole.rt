@@ -13,7 +13,8 @@ use shaping::plain_shared;
 use sizes::{AcceptedBlock, Net};
 use tables::plan_of;
 
-// The mesh of an accepted extrusion, into the six slices; the working slices are left with zeros. An extrusion has no coordIndex.
+// The mesh of an accepted extrusion, into the six slices; the working slices are left with zeros. An extrusion has no coordIndex: an
+// empty slice goes for it, as at `block::get`.
 pub fn make_extrusion(a: &AcceptedBlock<'_>, b: &mut Buffers<'_>) -> Counts
     requires { Called Extrusion a.now b.old }
     ensures same { Same b.old b.new }

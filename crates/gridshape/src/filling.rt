@@ -30,7 +30,8 @@ pub fn put_tables(g: &GridBlock<'_>, shared: Shared, t: Plan, work: &mut [u32], 
     prepare(work, t, supplied, shared.ccw, s.crease, floats);
 }
 
-// The table of texture, where texture is made. It stands behind the owners, as in facesetshape.
+// The table of texture, where texture is made. It stands behind the owners, as in facesetshape. Not one with facesetshape's, for the reason at `put_tables`: a
+// shared one would take `put_textures` as a closure, with what it asks.
 pub fn texture_where(g: &GridBlock<'_>, shared: Shared, t: Plan, work: &mut [u32])
     requires { Placed g.now.header work.old t (t.owners + t.count) }
     ensures { TexturesAt shared (texture_of g.now.block.now g.now.header g.now.settings) t work.old work.new }

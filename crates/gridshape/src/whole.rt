@@ -13,7 +13,8 @@ use shaping::listed_shared;
 use sizes::{AcceptedBlock, Net};
 use tables::plan_of;
 
-// The mesh of an accepted grid, into the six slices; the working slices are left with zeros. A grid is always convex, and has no coordIndex.
+// The mesh of an accepted grid, into the six slices; the working slices are left with zeros. A grid is always convex, and has no coordIndex:
+// an empty slice goes for it, as at `block::get`.
 pub fn make_grid(a: &AcceptedBlock<'_>, b: &mut Buffers<'_>) -> Counts
     requires { Called Grid a.now b.old }
     ensures same { Same b.old b.new }

@@ -19,6 +19,7 @@ pub fn line_tables(points: u32, count: usize) -> CornerTables
     let corners = 3 * spots;
     let named = corners + count;
     let places = named + count;
+    // Number by number: a line set has no Plan, and a struct of the seven would be made here and in `of_plan` only to be taken apart.
     corner_tables(count, 0, spots, corners, named, places, places + count)
 }
 

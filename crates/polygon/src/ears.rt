@@ -7,7 +7,8 @@ ghost use Rattle.polygon.specs.Memo.{xy, Gone, Held};
 use crate::memo::{Search, corner_at, dot_at};
 use lists::{get, put};
 
-// One triangle, at the t'th place of `out`.
+// One triangle, at the t'th place of `out`. `out` and `rev` stay side by side, here and below: a struct with a `&mut` in it would have to say in each function
+// that it is still the caller's slice.
 pub fn put_tri(out: &mut [u32], t: usize, rev: bool, a: u32, b: u32, c: u32)
     requires { t < 2 ^ 31 }
     ensures { out.new ≡ sets out.old (t * 3) (flat (turn rev (triple a b c) ∷ [])) }

@@ -107,6 +107,7 @@ fn triangle_at(p: &[f32], q: Corner) -> Triangle
 // ---- the corners that are left
 
 // Where a corner in the way is looked for: the coordinates of a polygon, two for each corner; a word for each corner, 1 while it is left; and the triangle.
+// Words, and no bools: they lie in the words that are lent, as there is no heap.
 #[derive(Clone, Copy)]
 struct Field<'a> {
     p: &'a [f32],

@@ -26,6 +26,7 @@ impl<'a> Source<'a> {
     {
         let points = self.points;
         let g = self.g;
+        // No `sum`: its clause asks that the whole fits, which the loop shows turn by turn.
         let mut kept: usize = 0;
         for (_, part) in stretches_in(self.list, g) {
             let stretch = Source {

@@ -55,6 +55,7 @@ fn put_answer(answer: Answer, block: &[u8], s: &Slices, out: &mut [u8]) -> Optio
     if p.vertices > LIMIT || p.indices > 3 * LIMIT {
         return None;
     }
+    // As answer's `parts_in`, which is its own: to share this line would be one public function more.
     let parts = parts_of(read_header(block));
     Some(text::put_mesh(
         p,
