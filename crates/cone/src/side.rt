@@ -56,12 +56,10 @@ fn scaled(known: Lengths, a: V3, b: V3, c: V3) -> SliceNormals
         × (result.to ≡ or_else (unit_of b) y_axis)
         × (result.apex ≡ or_else (unit_of c) y_axis) }
 {
-    let lengths = (
-        known_length(known, a),
-        known_length(known, b),
-        known_length(known, c),
-    );
-    if let (Some(x), Some(y), Some(z)) = lengths {
+    if let Some(x) = known_length(known, a)
+        && let Some(y) = known_length(known, b)
+        && let Some(z) = known_length(known, c)
+    {
         return SliceNormals {
             from: math::unit_by(a, x).unwrap_or(Y_AXIS),
             to: math::unit_by(b, y).unwrap_or(Y_AXIS),
