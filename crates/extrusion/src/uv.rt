@@ -36,7 +36,8 @@ fn cap_texture(fit: Fit, p: Pair) -> Words2
 }
 
 // An extrusion, its settings, what `put_arcs` left in floats from place `at` on, and how its cross-section fits the texture of a cap.
-// The settings stand here and not in `Extruded`: sizes counts the corners of a cap without them, and would read them for nothing.
+// The settings stand here and not in `Extruded`: sizes counts the corners of a cap without them, and would read them for nothing. `at` stands beside the floats,
+// and no slice from there on: `put_arcs` says of all floats what it leaves, by the same place.
 #[derive(Clone, Copy)]
 pub struct Textured<'a> {
     pub source: Extruded<'a>,

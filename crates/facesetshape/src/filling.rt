@@ -44,7 +44,7 @@ fn fit_in(work: &[u32], t: Plan) -> Fit
     fit_of(points_of(work, &t))
 }
 
-// The table of texture, where texture is made.
+// The table of texture, where texture is made. Not one with gridshape's, for the reason there.
 // The textures stand behind the owners: a method of Plan for that place would ask that the sum fits, which each of its three callers would have to show, and
 // no clause would be shorter.
 pub fn texture_where(b: &SetBlock<'_>, shared: Shared, t: Plan, work: &mut [u32])

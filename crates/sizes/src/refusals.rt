@@ -10,7 +10,8 @@ use crate::net::product;
 use block::{Header, Kind, Refusal, limit_of};
 use tables::wide;
 
-// The tests of the sides stand here and in `is_no_extrusion`, as in the definitions.
+// The two tests of the sides stand here and in `is_no_extrusion`: a function of them would be one line for two, and its name a third for what the definitions
+// have two of.
 fn is_no_grid(h: Header) -> bool
     ensures { result ≡ is_no_grid h }
 {
