@@ -10,7 +10,7 @@ use Rattle.block.specs.declared.settings.Settings.{Settings}
 use Rattle.block.proofs.Table.{count_low}
 use Rattle.mesh.specs.Mesh.{Slices}
 use Rattle.mesh.specs.Extrusion.{spine_count, section_count, section_of, ring_of, cap_length, has_cap}
-use Rattle.mesh.specs.Sizes.{Sizes as Defined, one, side_count, cap_count, extrusion_sizes, sizes_of}
+use Rattle.mesh.specs.Sizes.{one, side_count, cap_count, extrusion_sizes, sizes_of}
 use Rattle.tables.specs.declared.layout.Plan.{Plan}
 use Rattle.tables.specs.Layout.{most, plan_of}
 use Rattle.lent.specs.Lent.{Asked}
@@ -24,7 +24,7 @@ use Rattle.extrusion.proofs.Joined.{planned}
 use Rattle.extrusion.proofs.Counted.{faces_third}
 use Rattle.lists.proofs.Numbers.{sum_product}
 use Rattle.sizes.specs.declared.kinds.Sizes.{Sizes}
-use Rattle.sizes.specs.Known.{Sides, Counted as Known}
+use Rattle.sizes.specs.Known.{Sides, Are}
 
 -- each face of n corners makes 3 (n - 2) indices
 indices_fit : (h : Header) (cap : ℕ) → 3 * (4 * side_count h + cap_count h cap * cap - 2 * (side_count h + cap_count h cap)) ≤ 6 * side_count h + cap_count h cap * (3 * (cap - 2))
@@ -58,8 +58,8 @@ module _ {bs : List ℕ} {h : Header} {s : Settings} {o : Slices} {w f : ℕ} (A
 
   -- with the corners of a cap as the code has them
   module _ {cap : ℕ} (e : cap ≡ cap_length (section_of bs h)) where
-    -- and the sizes z as they were counted, q sides and n caps
-    module _ {z : Sizes} (C : Known bs h z) {q n : ℕ} (eq : q ≡ side_count h) (en : n ≡ cap_count h cap) where
+    -- and the sizes z, q sides and n caps as it counts them
+    module _ {z : Sizes} (C : Are (extrusion_sizes bs h) 0 z) {q n : ℕ} (eq : q ≡ side_count h) (en : n ≡ cap_count h cap) where
       faces_are : q + n ≡ faces_in
       faces_are = let d : n ≡ cap_count h (cap_length (section_of bs h)) = en ∙ ap (cap_count h) e in λ i. eq i + d i
 
@@ -67,17 +67,15 @@ module _ {bs : List ℕ} {h : Header} {s : Settings} {o : Slices} {w f : ℕ} (A
       pub plan_asked : (z.points ≤ most) × (z.corners ≤ most) × (q + n ≤ most)
       unfolding extrusion_sizes
       plan_asked =
-          let l = low_by A refl in
-          (omega (arith, C.points, l.0), omega (arith, C.corners, l.1), omega (arith, faces_are, faces_third h (cap_length (section_of bs h)), (low_by A sizes_are).1))
+          let l = low_by A sizes_are in
+          (omega (arith, C.points, l.0), omega (arith, C.corners, l.1), omega (arith, faces_are, faces_third h (cap_length (section_of bs h)), l.1))
 
       pub counted : {ring : ℕ} {t : Plan} → ring ≡ ring_of (section_of bs h) → t ≡ plan_of z.points z.corners (q + n) ring
           → Counted (extrusion_sizes bs h) faces_in (ring_of (section_of bs h)) t
       unfolding extrusion_sizes
       counted er p =
           let k : ℕ = cap_length (section_of bs h) in
-          let a = C.points ∙ ap (λ (z : Defined). z.points) sizes_are in
-          let b = C.corners ∙ ap (λ (z : Defined). z.corners) sizes_are in
-          record { plan = p ∙ λ i. plan_of (a i) (b i) (faces_are i) (er i); third = faces_third h k; indices = indices_fit h k }
+          record { plan = p ∙ λ i. plan_of (C.points i) (C.corners i) (faces_are i) (er i); third = faces_third h k; indices = indices_fit h k }
 
     module _ {t : Plan} (P : Counted (extrusion_sizes bs h) faces_in (ring_of (section_of bs h)) t) where
       pub roomy : Ample (extrusion_sizes bs h) faces_in (ring_of (section_of bs h)) t w f

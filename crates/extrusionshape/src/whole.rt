@@ -10,7 +10,7 @@ use build::build;
 use extrusion::{Extruded, cap_count};
 use lent::{Buffers, Counts};
 use shaping::plain_shared;
-use sizes::{AcceptedBlock, Net};
+use sizes::{AcceptedBlock, Net, extrusion_sizes};
 use tables::plan_of;
 
 // The mesh of an accepted extrusion, into the six slices; the working slices are left with zeros. An extrusion has no coordIndex: an
@@ -24,11 +24,11 @@ pub fn make_extrusion(a: &AcceptedBlock<'_>, b: &mut Buffers<'_>) -> Counts
     let block = a.block;
     let header = a.header;
     let s = a.settings;
-    let z = a.sizes;
     let x = Extruded { block, header };
     let cap = x.cap_length();
     let ring = x.ring_width();
     let net = Net { header };
+    let z = extrusion_sizes(block, &net);
     let sides = net.quads();
     let caps = cap_count(header, cap);
     let t = plan_of(z.points, z.corners, sides + caps, ring);

@@ -23,10 +23,8 @@ fn make(call: Call, block: &[u8], h: Header, z: Sizes, b: &mut Buffers<'_>) -> R
         block,
         header: h,
         settings,
-        sizes: z,
-        missing: call.colour,
     };
-    let n = make_kind(&a, b);
+    let n = make_kind(&a, z, call.colour, b);
     let f = sizes::flags_of(h);
     // FORMAT 5's result has the five side by side: two are counted of what was made, three go by the header alone.
     Report {

@@ -16,7 +16,7 @@ use Rattle.block.specs.Extents.{list_bytes}
 use Rattle.lists.specs.Parts.{spliced}
 use Rattle.mesh.specs.Mesh.{Slices}
 use Rattle.mesh.specs.Grid.{x_dimension, z_dimension, grid_points}
-use Rattle.mesh.specs.Sizes.{Sizes as Defined, quad_count, side_count, grid_sizes, sizes_of, is_no_grid, is_no_extrusion, is_no_shape}
+use Rattle.mesh.specs.Sizes.{quad_count, side_count, grid_sizes, sizes_of, is_no_grid, is_no_extrusion, is_no_shape}
 use Rattle.mesh.proofs.Sizes.{grid_words}
 use Rattle.tables.specs.declared.layout.Plan.{Plan}
 use Rattle.tables.specs.Layout.{most, plan_of}
@@ -29,7 +29,7 @@ use Rattle.shaping.proofs.Tabling.{points_put}
 use Rattle.grid.specs.Sides.{Sides, Planned}
 use Rattle.grid.proofs.Sized.{sides_of, heights_in, shape_of}
 use Rattle.sizes.specs.declared.kinds.Sizes.{Sizes}
-use Rattle.sizes.specs.Known.{Sides as NetSides, Counted as Known}
+use Rattle.sizes.specs.Known.{Sides as NetSides, Are}
 
 -- the points as they are put
 pub points_there : (bs : List ℕ) (h : Header) (s : Settings) {t : Plan} (w : List ℕ) {w₁ : List ℕ} → Planned h (length w) t → w₁ ≡ spliced w t.points (grid_points h s (entries (list_bytes bs h 3)))
@@ -55,8 +55,8 @@ module _ {bs : List ℕ} {h : Header} {s : Settings} {o : Slices} {w f : ℕ} (A
   pub heights : x_dimension h * z_dimension h ≤ length (entries (list_bytes bs h 3))
   heights = heights_in bs h A.kind A.accepted.taken.length_is (x_dimension h * z_dimension h) shape.2
 
-  -- the sizes z as they were counted, and q quads
-  module _ {z : Sizes} (C : Known bs h z) {q : ℕ} (e : q ≡ side_count h) where
+  -- the sizes z as the code counts them, and q quads
+  module _ {z : Sizes} (C : Are (grid_sizes h) 0 z) {q : ℕ} (e : q ≡ side_count h) where
     quads_are : q ≡ quad_count h
     quads_are = e ∙ mul_comm (x_dimension h - 1) (z_dimension h - 1)
 
@@ -64,15 +64,13 @@ module _ {bs : List ℕ} {h : Header} {s : Settings} {o : Slices} {w f : ℕ} (A
     pub plan_asked : (z.points ≤ most) × (z.corners ≤ most) × (q ≤ most)
     unfolding grid_sizes
     plan_asked =
-        let l = low_by A refl in
-        (omega (arith, C.points, l.0), omega (arith, C.corners, l.1), omega (arith, quads_are, (low_by A sizes_are).1))
+        let l = low_by A sizes_are in
+        (omega (arith, C.points, l.0), omega (arith, C.corners, l.1), omega (arith, quads_are, l.1))
 
     pub counted : {t : Plan} → t ≡ plan_of z.points z.corners q 0 → Counted (grid_sizes h) (quad_count h) 0 t
     unfolding grid_sizes
     counted p =
-        let n = C.points ∙ ap (λ (z : Defined). z.points) sizes_are in
-        let c = C.corners ∙ ap (λ (z : Defined). z.corners) sizes_are in
-        record { plan = p ∙ λ i. plan_of (n i) (c i) (quads_are i) 0; third = omega arith; indices = omega arith }
+        record { plan = p ∙ λ i. plan_of (C.points i) (C.corners i) (quads_are i) 0; third = omega arith; indices = omega arith }
 
   module _ {t : Plan} (P : Counted (grid_sizes h) (quad_count h) 0 t) where
     pub roomy : Ample (grid_sizes h) (quad_count h) 0 t w f

@@ -11,8 +11,8 @@ use extrusion::Extruded;
 use primitives::Source;
 use tables::wide;
 
-// P, C and N are counted once a call, and handed on; and with them the faces, by which the tables of listed faces are planned: 0 where none are listed, and no
-// Option, as face sets and primitives alone read it, and there 0 is a number too.
+// Of what a list names, P, C and N are counted once a call, and handed on; and with them the faces, by which the tables of listed faces are planned: 0 where none
+// are listed, and no Option, as face sets and primitives alone read it, and there 0 is a number too.
 #[derive(Clone, Copy)]
 pub struct Sizes {
     pub points: usize,
@@ -71,7 +71,7 @@ fn line_set_sizes(block: &[u8], h: Header) -> Sizes
     }
 }
 
-fn grid_sizes(net: &Net) -> Sizes
+pub fn grid_sizes(net: &Net) -> Sizes
     ensures { Are (spec.grid_sizes net.now.header) 0 result }
 {
     let quads = net.quads();
@@ -91,7 +91,7 @@ fn cap_indices(k: usize) -> usize
     3 * k.saturating_sub(2)
 }
 
-fn extrusion_sizes(block: &[u8], net: &Net) -> Sizes
+pub fn extrusion_sizes(block: &[u8], net: &Net) -> Sizes
     requires { Given block.now net.now.header }
     ensures { Are (spec.extrusion_sizes block.now net.now.header) 0 result }
 {

@@ -9,6 +9,6 @@ mod refusals;
 
 pub use accepted::AcceptedBlock;
 pub use flags::{Flags, flags_of};
-pub use kinds::{Sizes, sizes_of};
+pub use kinds::{Sizes, extrusion_sizes, grid_sizes, sizes_of};
 pub use net::Net;
 pub use refusals::{is_no_shape, verdict_to_7};

@@ -15,18 +15,18 @@ pub invariant_of-net : goal.invariant_of-net
 invariant_of-net c = record { sides = net_sides (asked c.args.a.now c.requires) }
 
 pub plan_of-t-requires : goal.plan_of-t-requires
-plan_of-t-requires c = plan_asked (asked c.args.a.now c.requires) c.args.a.now.counted c.quads-quads.ensures.0
+plan_of-t-requires c = plan_asked (asked c.args.a.now c.requires) c.grid_sizes-z.ensures c.quads-quads.ensures.0
 
 pub put_tables-requires : goal.put_tables-requires
 put_tables-requires c =
     let A = asked c.args.a.now c.requires in
-    let C = counted A c.args.a.now.counted c.quads-quads.ensures.0 c.plan_of-t.ensures in
+    let C = counted A c.grid_sizes-z.ensures c.quads-quads.ensures.0 c.plan_of-t.ensures in
     (planned A C, heights A, omega (arith, (roomy A C).floats))
 
 pub texture_where-requires : goal.texture_where-requires
 texture_where-requires c =
     let A = asked c.args.a.now c.requires in
-    let C = counted A c.args.a.now.counted c.quads-quads.ensures.0 c.plan_of-t.ensures in
+    let C = counted A c.grid_sizes-z.ensures c.quads-quads.ensures.0 c.plan_of-t.ensures in
     let P = planned A C in
     let R = P.room in
     placed _ _ _ _ _ (faces_held c.put_tables.ensures) P.spots (omega (arith, R)) (omega (arith, (roomy A C).textures, c.put_tables.ensures.len))
@@ -34,13 +34,13 @@ texture_where-requires c =
 pub build-requires : goal.build-requires
 build-requires c =
     let A = asked c.args.a.now c.requires in
-    ready A (sizes_are A) (counted A c.args.a.now.counted c.quads-quads.ensures.0 c.plan_of-t.ensures) c.put_tables.ensures c.texture_where.ensures
-    (shape c.args.a.now.missing _ A.accepted.header A.accepted.settings c.listed_shared-shared.ensures refl A.kind)
+    ready A (sizes_are A) (counted A c.grid_sizes-z.ensures c.quads-quads.ensures.0 c.plan_of-t.ensures) c.put_tables.ensures c.texture_where.ensures
+    (shape c.args.missing _ A.accepted.header A.accepted.settings c.listed_shared-shared.ensures refl A.kind)
 
 pub returns-clause-made : goal.returns-clause-made
 returns-clause-made c =
     let A = asked c.args.a.now c.requires in
     let h = A.accepted.header in
     let s = A.accepted.settings in
-    shaped A (sizes_are A) (counted A c.args.a.now.counted c.quads-quads.ensures.0 c.plan_of-t.ensures) c.put_tables.ensures c.texture_where.ensures
-    (shape c.args.a.now.missing _ h s c.listed_shared-shared.ensures refl A.kind) (mesh_is c.args.a.now.missing _ h s c.listed_shared-shared.ensures (sides A).wide) c.build.ensures.built
+    shaped A (sizes_are A) (counted A c.grid_sizes-z.ensures c.quads-quads.ensures.0 c.plan_of-t.ensures) c.put_tables.ensures c.texture_where.ensures
+    (shape c.args.missing _ h s c.listed_shared-shared.ensures refl A.kind) (mesh_is c.args.missing _ h s c.listed_shared-shared.ensures (sides A).wide) c.build.ensures.built
