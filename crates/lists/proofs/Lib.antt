@@ -15,4 +15,4 @@ pub mod Pieces
 pub mod Squares
 pub mod Cuts
 pub mod Named
-pub mod Threes
+pub mod Chunked

@@ -2,14 +2,15 @@
 use mathlib.Core.Path.{◌≡◌, refl, sym, ap, ◌∙◌}
 use mathlib.Core.List.{List}
 use mathlib.Core.Logic.{⊎_elim}
-use Prim.Native.Nat.{ℕ, ◌+◌, ◌*◌, ◌/◌, ◌≤◌, ◌<◌}
+use Prim.Native.Nat.{ℕ, ◌+◌, ◌*◌, ◌≤◌, ◌<◌}
 use native.Mathlib.Nat.{not-suc-le-zero}
 use native.Mathlib.Omega.{arith}
 use lib.Ieee.{Float, nan}
-use lib.ListN.{length, get_or, set, drop, length-set, length-append, get_or-append}
-use lib.Seq.{get_or-set_same, get_or-set_other, get_or-drop, drop-drop, drop-append-add}
+use lib.ListN.{length, get_or, set, length-set}
+use lib.Seq.{get_or-set_same, get_or-set_other}
 use Rattle.lists.proofs.Numbers.{last_or}
 use Rattle.lists.proofs.Putting.{Split}
+use Rattle.lists.proofs.Chunked.{Chunked, chunked_at}
 use Rattle.math.specs.declared.vector.V3.{V3}
 use Rattle.math.specs.Vector.{v3, vsub}
 use Rattle.mesh.specs.Words.{floats, point_words}
@@ -123,45 +124,13 @@ module _ {paths : List ℕ} {m : ℕ} {rays₀ : List Float} where
           ∙ (λ n. record { orig = ef n; dir = (ed ∙ (λ k. vsub (et k) (ef k))) n })
           ∙ ap (λ (k : ℕ). ray_in paths k) (sym q)
 
--- ---- the walk over the paths, six words each: of l, n were met, and `rest` is left
+-- ---- the path of six words, met in the walk over all of them: its points are those of its number
 
-pub record Sixes (l : List ℕ) (n : ℕ) (rest : List ℕ) : Type 0 where
-  pub left : rest ≡ drop (n * 6) l
-  pub counted : n * 6 + length rest ≡ length l
-
-module _ {l : List ℕ} where
-  pub sixes_none : Sixes l 0 l
-  sixes_none = record { left = refl; counted = omega arith }
-
-  -- the next
-  module _ (p : List ℕ) {n : ℕ} {rest after : List ℕ} (T : Sixes l n rest) (S : Split rest p after) (m : length p ≡ 6) where
-    size : length rest ≡ length p + length after
-    size = ap length S.is ∙ length-append p after
-
-    pub sixes_here : n < length l / 6
-    sixes_here = omega (arith, T.counted, size)
-
-    word_here : (k i : ℕ) → k < 6 → n * 6 + k ≡ i → get_or p k 0 ≡ get_or l i 0
-    word_here k i h e =
-        sym (get_or-append p after 0 k (omega arith)) ∙ ap (λ (x : List ℕ). get_or x k 0) (sym S.is ∙ T.left) ∙ get_or-drop (n * 6) l k 0
-        ∙ ap (λ (j : ℕ). get_or l j 0) e
-
-    pub point_here : (b q : ℕ) → b < 2 → 2 * n + b ≡ q → point_in p b ≡ point_in l q
-    unfolding point_in point_words
-    point_here b q h e =
-        let x = word_here (b * 3) (q * 3) (omega arith) (omega arith) in
-        let y = word_here (b * 3 + 1) (q * 3 + 1) (omega arith) (omega arith) in
-        let z = word_here (b * 3 + 2) (q * 3 + 2) (omega arith) (omega arith) in
-        λ i. floats (record { x = x i; y = y i; z = z i })
-
-    pub sixes_more : Sixes l (n + 1) after
-    sixes_more =
-        let c = T.counted in
-        let s = size in
-        let w : length p + 0 ≡ 6 = omega arith in
-        let q : (n + 1) * 6 ≡ n * 6 + 6 = omega arith in
-        record {
-          left = sym (ap (λ (j : ℕ). drop j l) q ∙ sym (drop-drop 6 (n * 6) l) ∙ ap (λ (j : ℕ). drop j (drop (n * 6) l)) (sym w)
-              ∙ ap (drop (length p + 0)) (sym T.left ∙ S.is) ∙ drop-append-add p after 0);
-          counted = omega arith;
-        }
+module _ (p : List ℕ) {l rest after : List ℕ} {n : ℕ} (C : Chunked 6 l n rest) (S : Split rest p after) (m : length p ≡ 6) where
+  pub point_here : (b q : ℕ) → b < 2 → 2 * n + b ≡ q → point_in p b ≡ point_in l q
+  unfolding point_in point_words
+  point_here b q h e =
+      let x = chunked_at p C S m 0 (b * 3) (q * 3) (omega arith) (omega arith) in
+      let y = chunked_at p C S m 0 (b * 3 + 1) (q * 3 + 1) (omega arith) (omega arith) in
+      let z = chunked_at p C S m 0 (b * 3 + 2) (q * 3 + 2) (omega arith) (omega arith) in
+      λ i. floats (record { x = x i; y = y i; z = z i })

@@ -4,7 +4,7 @@ use lib.Dec.{eqb}
 use lib.ListN.{length}
 use Rattle.std.proofs.Common.{rules}
 use Rattle.lists.proofs.Putting.{Split}
-use Rattle.lists.proofs.Threes.{threes_none, threes_here, threes_more, threes_all}
+use Rattle.lists.proofs.Chunked.{chunked_none, chunked_all, chunked_here, chunked_more}
 use Rattle.paths.specs.Pass.{hit_count}
 use Rattle.paths.proofs.Updates.{running_none, running_more, running_all}
 use Rattle.paths.proofs.Passing.{turned}
@@ -15,7 +15,7 @@ use Rattle.paths.proofs.pass.pass.Goals as goal
 pub loop-t-init : goal.loop-t-init
 loop-t-init c =
     rw (c.into_iter-t-iterator.ensures.into_iter_gives, c.enumerate-t-items.ensures.source, c.enumerate-t-items.ensures.count, c.chunks_exact.ensures.size, c.chunks_exact.ensures.rest)
-    (refl, threes_none, running_none)
+    (refl, chunked_none, running_none)
 
 pub triangle_of-tri-requires : goal.triangle_of-tri-requires
 triangle_of-tri-requires c =
@@ -33,8 +33,8 @@ loop-t-preserved c =
     let tri = c.triangle_of-tri.ensures ∙ triangle_here _ I.1 d m _ in
     rw S.2 (
       S.0.0 ∙ I.0,
-      threes_more _ I.1 d m,
-      running_more I.2 (threes_here _ I.1 d m) (turned _ _ _ _ _ _ _ _ tri (rw (I.2.size, S.1) at c.turn.ensures.0)) c.turn.auto.answers,
+      chunked_more _ I.1 d m,
+      running_more I.2 (chunked_here _ I.1 d m (omega arith)) (turned _ _ _ _ _ _ _ _ tri (rw (I.2.size, S.1) at c.turn.ensures.0)) c.turn.auto.answers,
     )
 
 pub returns-then-not-turn : goal.returns-then-not-turn
@@ -45,8 +45,8 @@ returns-then-not-turn c =
     let d : Split _ _ _ = record { is = S.0.1.0 } in
     let tri = c.triangle_of-tri.ensures ∙ triangle_here _ I.1 d m _ in
     turns_end c.args.positions.now c.args.indices.now c.args.rays.now (length c.args.answers.now) (eqb (hit_count c.args.rays.now c.triangle_of-tri.result (length c.args.answers.now)) 0)
-    (running_more I.2 (threes_here _ I.1 d m) (turned _ _ _ _ _ _ _ _ tri (rw (I.2.size, S.1) at c.turn.ensures.0)) c.turn.auto.answers)
+    (running_more I.2 (chunked_here _ I.1 d m (omega arith)) (turned _ _ _ _ _ _ _ _ tri (rw (I.2.size, S.1) at c.turn.ensures.0)) c.turn.auto.answers)
     (rw I.2.size at c.turn.ensures.1) (search rules)
 
 pub returns : goal.returns
-returns c = let I = c.loop-t.invariant in running_all I.2 (omega (arith, threes_all I.1 (omega (arith, c.in-None.ensures.steps.0.1.0, I.0))))
+returns c = let I = c.loop-t.invariant in running_all I.2 (omega (arith, chunked_all I.1 (omega (arith, c.in-None.ensures.steps.0.1.0, I.0))))
