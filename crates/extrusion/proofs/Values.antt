@@ -5,7 +5,7 @@ use Prim.Native.Nat.{ℕ, suc, ◌+◌, ◌-◌, ◌*◌, ◌≤◌, ◌<◌}
 use native.Mathlib.Nat.{mul_comm}
 use native.Mathlib.Numerals.{add-one}
 use native.Mathlib.Omega.{arith}
-use lib.ListN.{length, get_or, drop}
+use lib.ListN.{length, get_or}
 use Rattle.std.specs.Prelude.{Some}
 use Rattle.std.specs.Iterator.{MakesProgress, item_count}
 use Rattle.math.specs.declared.vector.V3.{V3}
@@ -13,7 +13,7 @@ use Rattle.block.specs.declared.texture.Pair.{Pair}
 use Rattle.lists.specs.Loops.{tab}
 use Rattle.lists.proofs.Tabs.{length_tab, tab_at}
 use Rattle.lists.proofs.Numbers.{piece_room}
-use Rattle.lists.proofs.Lists.{head_left}
+use Rattle.lists.proofs.Chunked.{Chunked, chunked_here, chunked_at, chunked_more}
 use Rattle.mesh.specs.Frames.{at}
 use Rattle.mesh.specs.Arcs.{at2}
 
@@ -60,30 +60,15 @@ at2_is cs j r e = e _
 
 -- ---- a walk over a list: before entry n, the others are left
 
--- `left` is what stands in l from place n on
-pub record Left {A : Type 0} (l : List A) (n : ℕ) (left : List A) : Type 0 where
-  pub is : left ≡ drop n l
-  pub counted : n + length left ≡ length l
+module _ {A : Type 0} {l : List A} {n : ℕ} {left : List A} (C : Chunked 1 l n left) where
+  module _ {after : List A} {x : A} (e : left ≡ x ∷ after) where
+    pub left_next : Chunked 1 l (n + 1) after
+    left_next = chunked_more (x ∷ []) C (record { is = e }) refl
 
-module _ {A : Type 0} {l : List A} where
-  pub left_all : Left l 0 l
-  left_all = record { is = refl; counted = omega arith }
+    pub left_here : (n < length l) × ((d : A) → x ≡ get_or l n d)
+    left_here =
+        let h = chunked_here (x ∷ []) C (record { is = e }) refl (omega arith) in
+        (omega arith, λ d. chunked_at (x ∷ []) C (record { is = e }) refl d 0 n (omega arith) (omega arith))
 
-  pub left_next : {n : ℕ} {left after : List A} {x : A} → Left l n left → left ≡ x ∷ after → Left l (n + 1) after
-  left_next {n} {left} {after} {x} L e =
-      let c = L.counted in
-      let k : length left ≡ suc (length after) = ap length e in
-      let h = head_left l n x after x (sym L.is ∙ e) in
-      record { is = sym h.1 ∙ ap (λ (j : ℕ). drop j l) (sym (add-one n)); counted = omega arith }
-
-  pub left_here : {n : ℕ} {left after : List A} {x : A} → Left l n left → left ≡ x ∷ after → (n < length l) × ((d : A) → x ≡ get_or l n d)
-  left_here {n} {left} {after} {x} L e =
-      let c = L.counted in
-      let k : length left ≡ suc (length after) = ap length e in
-      (omega arith, λ d. sym (head_left l n x after d (sym L.is ∙ e)).0)
-
-  pub left_over : {n : ℕ} {left : List A} → Left l n left → left ≡ [] → n ≡ length l
-  left_over {n} {left} L e =
-      let c = L.counted in
-      let k : length left ≡ 0 = ap length e in
-      omega arith
+  pub left_over : left ≡ [] → n ≡ length l
+  left_over e = omega (arith, C.counted, ap length e)

@@ -1,6 +1,7 @@
 use Prim.Native.Nat.{◌+◌}
 use Rattle.block.specs.declared.texture.Pair.{Pair}
-use Rattle.extrusion.proofs.Values.{at2_is, left_all, left_next, left_here, left_over}
+use Rattle.lists.proofs.Chunked.{chunked_none}
+use Rattle.extrusion.proofs.Values.{at2_is, left_next, left_here, left_over}
 use Rattle.extrusion.proofs.Fitting.{fit_is, span_more}
 use mathlib.Core.Path.{ap, refl}
 use Rattle.mesh.specs.Texture.{span_of}
@@ -8,7 +9,7 @@ use Rattle.extrusion.proofs.caps.section_fit.Goals as goal
 
 pub loop-p-init : goal.loop-p-init
 unfolding span_of
-loop-p-init c = rw (c.into_iter-p-iterator.ensures.into_iter_gives, c.iter-p-items.ensures) (0, left_all, refl, refl)
+loop-p-init c = rw (c.into_iter-p-iterator.ensures.into_iter_gives, c.iter-p-items.ensures) (0, chunked_none, refl, refl)
 
 pub loop-p-preserved : goal.loop-p-preserved
 loop-p-preserved c =

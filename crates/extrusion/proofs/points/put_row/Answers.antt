@@ -1,5 +1,6 @@
 use Rattle.lists.proofs.Pieces.{pieces_all, pieces_more, pieces_none}
-use Rattle.extrusion.proofs.Values.{at2_is, left_all, left_next, left_here, left_over}
+use Rattle.lists.proofs.Chunked.{chunked_none}
+use Rattle.extrusion.proofs.Values.{at2_is, left_next, left_here, left_over}
 use Rattle.extrusion.proofs.Walking.{row_is, spot_is, spot_length}
 use Rattle.lists.specs.Parts.{spliced}
 use mathlib.Core.Path.{◌∙◌, refl, ap}
@@ -7,7 +8,7 @@ use native.Mathlib.Omega.{arith}
 use Rattle.extrusion.proofs.points.put_row.Goals as goal
 
 pub loop-j-init : goal.loop-j-init
-loop-j-init c = rw c.iter-p-items.ensures (left_all, pieces_none)
+loop-j-init c = rw c.iter-p-items.ensures (chunked_none, pieces_none)
 
 pub overflow_mul-j : goal.overflow_mul-j
 overflow_mul-j c = omega (arith, c.requires, (left_here c.loop-j.invariant.0 c.in-Some.ensures.steps).0)
