@@ -33,19 +33,28 @@ pub fn kind_of(number: u32) -> Kind
 pub fn is_primitives(kind: Kind) -> bool
     ensures { result ≡ is_primitives kind }
 {
-    matches!(kind, Kind::Primitives(_))
+    match kind {
+        Kind::FaceSet | Kind::LineSet | Kind::Grid | Kind::Extrusion => false,
+        Kind::Primitives(_) => true,
+    }
 }
 
-// Whether a kind has index lists.
+// Whether a kind has index lists. Here and beside it every kind is named, not by `matches!`: a new one has to be said.
 pub fn is_indexed(kind: Kind) -> bool
     ensures { result ≡ is_indexed kind }
 {
-    matches!(kind, Kind::FaceSet | Kind::LineSet | Kind::Primitives(_))
+    match kind {
+        Kind::FaceSet | Kind::LineSet | Kind::Primitives(_) => true,
+        Kind::Grid | Kind::Extrusion => false,
+    }
 }
 
 // Whether indices go in pairs, as lines.
 pub fn is_lines(kind: Kind) -> bool
     ensures { result ≡ is_lines kind }
 {
-    matches!(kind, Kind::LineSet)
+    match kind {
+        Kind::LineSet => true,
+        Kind::FaceSet | Kind::Grid | Kind::Extrusion | Kind::Primitives(_) => false,
+    }
 }

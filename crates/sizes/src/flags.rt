@@ -16,7 +16,10 @@ pub struct Flags {
 fn makes_colours(kind: Kind, colors: bool) -> bool
     ensures { result ≡ by_kind kind colors colors colors false (λ g. colors) }
 {
-    colors && !matches!(kind, Kind::Extrusion)
+    match kind {
+        Kind::FaceSet | Kind::LineSet | Kind::Grid | Kind::Primitives(_) => colors,
+        Kind::Extrusion => false,
+    }
 }
 
 // A line set is always solid and unlit.
