@@ -120,8 +120,7 @@ module _ (points : List ℕ) (has alpha : Bool) (listed : List ℕ) where
         rows : (ltb edition1.limit (points_in points) ≡ false) × (is_short (points_in points) b p c s ≡ false)
         rows = no_rows _ _ (sym ew)
 
-        few : points_in points ≤ 8192
-        unfolding edition1
+        few : points_in points ≤ edition1.limit
         few = ltb-false _ _ rows.0
 
         enough : b ≡ true → points_in points ≤ colours_in alpha listed
@@ -129,7 +128,7 @@ module _ (points : List ℕ) (has alpha : Bool) (listed : List ℕ) where
         enough e = leb-true _ _ (and_right has _ (sym eb ∙ e))
 
         pub roomy : Roomy points alpha listed p c s b
-        unfolding is_short
+        unfolding is_short edition1
         roomy =
             let u = or_none (ltb (length p) (3 * points_in points)) _ rows.1 in
             let v = or_none (ltb (length c) (cond b (4 * points_in points) 0)) _ u.1 in
