@@ -17,7 +17,7 @@ use Rattle.parts.specs.declared.round.Round.{Round}
 use Rattle.parts.specs.declared.builder.Builder.{Builder}
 use Rattle.parts.specs.declared.vert.Vert.{Vert}
 use Rattle.parts.specs.Ring.{share_of}
-use Rattle.parts.specs.Sizes.{dim_of, held_to, sum_of, no_sizes, sizes_where, Small}
+use Rattle.parts.specs.Sizes.{dim_of, held_to, sum_of, no_sizes, sizes_where, Small, piece_most}
 use Rattle.parts.specs.Round.{marks_of}
 use Rattle.parts.specs.Part.{Part}
 use Rattle.parts.specs.Cap.{cap_at, cap_part, cap_sizes, Numbered}
@@ -53,7 +53,7 @@ module _ (ps : List Float) (r h : Float) (n : ℕ) where
 
 -- ---- sizes that fit
 
-pub side_small : (n : ℕ) → n ≤ 1024 → Small 8192 (cone_side_sizes n)
+pub side_small : (n : ℕ) → n ≤ 1024 → Small piece_most (cone_side_sizes n)
 unfolding cone_side_sizes
 side_small n h = record { vertices = omega arith; indices = omega arith; pairs = omega arith }
 
@@ -89,8 +89,8 @@ module _ (ps : List Float) (r h : Float) (n : ℕ) (side bottom : Bool) {m : Mar
   unfolding cone_part
   all_sized = rw all_is (sized_followed D (rw bottom_is at Z₁) (cap_sized ps bottom (cap_of a)))
 
-  small_a : Small 8192 m.bottom
-  small_a = rw bottom_is (where_small 8192 side (cone_side_sizes n) (side_small n low))
+  small_a : Small piece_most m.bottom
+  small_a = rw bottom_is (where_small piece_most side (cone_side_sizes n) (side_small n low))
 
   pub lower_low : Numbered (cap_of m.bottom)
   lower_low = record { few = low; first_low = omega (arith, small_a.vertices); pair_low = omega (arith, small_a.pairs) }

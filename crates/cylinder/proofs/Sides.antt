@@ -15,7 +15,7 @@ use Rattle.parts.specs.declared.sizes.PartSizes.{PartSizes}
 use Rattle.parts.specs.declared.marks.Marks.{Marks}
 use Rattle.parts.specs.declared.round.Round.{Round}
 use Rattle.parts.specs.declared.builder.Builder.{Builder}
-use Rattle.parts.specs.Sizes.{dim_of, held_to, sum_of, no_sizes, sizes_where, Small}
+use Rattle.parts.specs.Sizes.{dim_of, held_to, sum_of, no_sizes, sizes_where, Small, piece_most}
 use Rattle.parts.specs.Round.{half, marks_of}
 use Rattle.parts.specs.Part.{Part, followed}
 use Rattle.parts.specs.Cap.{cap_at, cap_part, cap_sizes, Numbered}
@@ -41,7 +41,7 @@ module _ (ps : List Float) (r h : Float) (n : ℕ) where
 
 -- ---- sizes that fit
 
-pub side_small : (n : ℕ) → n ≤ 1024 → Small 8192 (side_sizes n)
+pub side_small : (n : ℕ) → n ≤ 1024 → Small piece_most (side_sizes n)
 unfolding side_sizes
 side_small n h = record { vertices = omega arith; indices = omega arith; pairs = omega arith }
 
@@ -72,8 +72,8 @@ module _ (ps : List Float) (r h : Float) (n : ℕ) where
     unfolding side_at
     Z₁ = rw ez (where_sized (side_part ps r h n) side (side_sized ps r h n))
 
-    small_a : Small 8192 z
-    small_a = rw ez (where_small 8192 side (side_sizes n) (side_small n low))
+    small_a : Small piece_most z
+    small_a = rw ez (where_small piece_most side (side_sizes n) (side_small n low))
 
     upper_numbered : Numbered (cap_of h true z)
     upper_numbered = record { few = low; first_low = omega (arith, small_a.vertices); pair_low = omega (arith, small_a.pairs) }
@@ -99,8 +99,8 @@ module _ (ps : List Float) (r h : Float) (n : ℕ) where
     unfolding cylinder_part
     all_sized = rw all_is (sized_followed (D bottom) (rw bottom_is at Z₂) (cap_sized ps bottom (cap_of (neg h) false (b side top))))
 
-    small_b : Small (8192 + 8192) m.bottom
-    small_b = rw bottom_is (sum_small 8192 8192 (a side) (sizes_where top (cap_sizes n)) (small_a side top {z = a side} low refl) (where_small 8192 top (cap_sizes n) (cap_small n low)))
+    small_b : Small (piece_most + piece_most) m.bottom
+    small_b = rw bottom_is (sum_small piece_most piece_most (a side) (sizes_where top (cap_sizes n)) (small_a side top {z = a side} low refl) (where_small piece_most top (cap_sizes n) (cap_small n low)))
 
     pub lower_low : Numbered (cap_of (neg h) false m.bottom)
     lower_low = record { few = low; first_low = omega (arith, small_b.vertices); pair_low = omega (arith, small_b.pairs) }

@@ -27,7 +27,7 @@ use Rattle.parts.specs.declared.marks.Marks.{Marks}
 use Rattle.parts.specs.Round.{marks_of}
 use Rattle.parts.specs.declared.builder.Builder.{Builder}
 use Rattle.parts.specs.declared.vert.GeomCtx.{GeomCtx}
-use Rattle.parts.specs.Sizes.{is_short_texture, is_short_part, report_of, sum_of, no_sizes, sizes_where, Small}
+use Rattle.parts.specs.Sizes.{is_short_texture, is_short_part, report_of, sum_of, no_sizes, sizes_where, Small, piece_most}
 use Rattle.parts.specs.Part.{Part, no_part, followed, finite_ctx, textures_of, part_mesh}
 use Rattle.parts.specs.Pushed.{position_words, normal_words, texture_words, texture_width, pushed, RoomFor}
 use Rattle.parts.specs.Cap.{cap_sizes}
@@ -103,7 +103,7 @@ pub sum_none : (y z : PartSizes) → sum_of y (sizes_where false z) ≡ y
 unfolding sizes_where
 sum_none y z = λ t. record { vertices = add-zero y.vertices t; indices = add-zero y.indices t; pairs = add-zero y.pairs t }
 
-pub cap_small : (n : ℕ) → n ≤ 1024 → Small 8192 (cap_sizes n)
+pub cap_small : (n : ℕ) → n ≤ 1024 → Small piece_most (cap_sizes n)
 unfolding cap_sizes
 cap_small n h = record { vertices = omega arith; indices = omega arith; pairs = omega arith }
 

@@ -43,6 +43,10 @@ no_sizes = record { vertices = 0; indices = 0; pairs = 0 }
 unfoldable pub sizes_where : Bool → PartSizes → PartSizes
 sizes_where there z = cond there z no_sizes
 
+-- a bound of the parts' own, above what the side or a cap of 1,024 slices has of each
+abbrev pub piece_most : ℕ
+piece_most = 8192
+
 -- at most m each
 pub record Small (m : ℕ) (z : PartSizes) : Type 0 where
   pub vertices : z.vertices ≤ m
