@@ -7,7 +7,7 @@ use native.Mathlib.Omega.{arith}
 use lib.ListN.{get_or}
 use Rattle.bits.specs.Bits.{field}
 use Rattle.bits.proofs.Fields.{field_lt}
-use Rattle.block.specs.Edition.{edition1, edition_of, limit_of, edition_in, counts_at, zeros_at}
+use Rattle.block.specs.Edition.{edition1, edition_of, limit_of, highest, edition_in, counts_at, zeros_at}
 use Rattle.block.specs.Header.{Narrow, counts_of, header_of}
 
 module _ (n : ℕ) where
@@ -19,7 +19,7 @@ module _ (n : ℕ) where
   unfolding edition_of edition1
   header_short = omega arith
 
-  pub limit_low : limit_of n ≤ 131072
+  pub limit_low : limit_of n ≤ highest
   unfolding edition_of edition1
   limit_low = omega arith
 

@@ -8,7 +8,7 @@ use lib.Dec.{T, ltb, eqb}
 use lib.ListN.{length, get_or, get_or-eq_default}
 use borrow.Author.Tests.{lt-ltb, le-ltb, eq-eqb, ne_eqb, ltb-false, ltb-true, eqb-true, not-false}
 use Rattle.lists.proofs.Tests.{and_both}
-use Rattle.block.specs.Edition.{edition1, is_known, limit_of, header_bytes}
+use Rattle.block.specs.Edition.{edition1, is_known, limit_of, highest, header_bytes}
 use Rattle.block.specs.Kind.{is_primitives}
 use Rattle.block.specs.Extents.{word_count}
 use Rattle.block.specs.Runs.{all_below}
@@ -141,7 +141,7 @@ taken_of bs h e =
     }
 
 -- no count of a block that is not refused is above the highest limit
-pub count_low : {bs : List ℕ} {h : Header} → Taken bs h → (k : ℕ) → get_or h.counts k 0 ≤ 131072
+pub count_low : {bs : List ℕ} {h : Header} → Taken bs h → (k : ℕ) → get_or h.counts k 0 ≤ highest
 count_low {bs} {h} T k = omega (arith, T.counts_are k, limit_low h.edition)
 
 -- ---- FORMAT 3, 9: the attributes of a triangle, fan, strip or quad set that is not refused

@@ -19,6 +19,14 @@ edition_of n = edition1
 abbrev pub limit_of : ℕ → ℕ
 limit_of n = (edition_of n).limit
 
+-- FORMAT 3, 4 and 7: no edition's limit is above it
+abbrev pub highest : ℕ
+highest = 131072
+
+-- a bound of the tables' own (FORMAT 4, 8), above every limit: no count of theirs is above it
+abbrev pub most : ℕ
+most = 2 * highest
+
 -- FORMAT 2.2: the edition of a block: its first 4 bits
 abbrev pub edition_in : List ℕ → Edition
 edition_in bs = edition_of (field bs 0 4)

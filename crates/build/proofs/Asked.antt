@@ -2,12 +2,13 @@
 use mathlib.Core.Path.{◌≡◌, sym, ap, subst, ◌∙◌}
 use mathlib.Core.Logic.{⊎_elim}
 use mathlib.Core.List.{List}
-use Prim.Native.Nat.{ℕ, suc, ◌+◌, ◌*◌, ◌-◌, ◌^◌, ◌≤◌, ◌<◌}
+use Prim.Native.Nat.{ℕ, suc, ◌+◌, ◌*◌, ◌-◌, ◌≤◌, ◌<◌}
 use native.Mathlib.Nat.{le_refl}
 use native.Mathlib.Omega.{arith}
 use lib.Ieee.{Float}
 use lib.ListN.{length, take, drop, length-append}
 use lib.Seq.{length-take-le}
+use Rattle.block.specs.Edition.{most}
 use Rattle.mesh.specs.Mesh.{Slices}
 use Rattle.tables.specs.declared.layout.Plan.{Plan}
 use Rattle.lists.specs.Parts.{Kept}
@@ -105,7 +106,7 @@ module _ {L : Lent} {s : Shared} {t : Plan} {w : List ℕ} {o : Slices} (R : Rea
           omega (arith, M.count, ap length M.made, length-append xs (drop (length xs) o.indices))
 
       pub mending_ready : length st.normals ≡ length o.normals
-          → (n ≤ 2 ^ 18) × (length (take (k - 0) (drop 0 o₁)) ≤ 3 * 2 ^ 18) × (n ≤ length w₂) × (3 * n ≤ length st.normals)
+          → (n ≤ most) × (length (take (k - 0) (drop 0 o₁)) ≤ 3 * most) × (n ≤ length w₂) × (3 * n ≤ length st.normals)
       unfolding tables_of tables_at
       mending_ready e =
           let q = sound.room in

@@ -8,7 +8,8 @@ use lib.ListN.{length, length-append}
 use Rattle.lists.specs.Loops.{tab}
 use Rattle.lists.specs.Lists.{flat}
 use Rattle.tables.specs.declared.layout.Plan.{Plan}
-use Rattle.tables.specs.Layout.{most, plan_of}
+use Rattle.block.specs.Edition.{most}
+use Rattle.tables.specs.Layout.{plan_of}
 use Rattle.tables.specs.Soups.{start_in, Sound}
 use Rattle.corners.specs.Laid.{tables_at, Laid, tables_of}
 use Rattle.faces.specs.Indices.{one_face, all_faces}

@@ -1,6 +1,6 @@
 -- FORMAT 4: where the tables of the corners stand while vertices are made.
 use Rattle.std.specs.Prelude.{ℕ, ◌+◌, ◌*◌, ◌/◌, ◌≤◌, ◌<◌}
-use Rattle.tables.specs.Layout.{most}
+use Rattle.block.specs.Edition.{most}
 use Rattle.tables.specs.declared.layout.Plan.{Plan}
 use Rattle.vertices.specs.declared.places.Chains.{Chains}
 use Rattle.corners.specs.declared.laid.CornerTables.{CornerTables}

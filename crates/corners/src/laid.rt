@@ -1,6 +1,6 @@
 // Where the tables of the corners stand in the working slice while vertices are made (FORMAT 4).
 ghost use Rattle.std.specs.Prelude.{◌≡◌, ◌≤◌, ◌^◌};
-ghost use Rattle.tables.specs.Layout.{most};
+ghost use Rattle.block.specs.Edition.{most};
 ghost use Rattle.corners.specs.Laid.{tables_at, tables_of};
 
 use tables::Plan;

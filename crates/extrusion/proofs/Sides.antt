@@ -12,7 +12,7 @@ use Rattle.mesh.specs.Quads.{tabs, quad}
 use Rattle.mesh.specs.Extrusion.{has_cap, point_number}
 use Rattle.lists.proofs.Tabs.{length_tab}
 use Rattle.lists.proofs.Totals.{tab_reverse}
-use Rattle.tables.specs.Layout.{most}
+use Rattle.block.specs.Edition.{most}
 use Rattle.lists.specs.Parts.{spliced}
 use Rattle.extrusion.specs.Listings.{one_if, side_points, begin_points, end_points, face_points}
 use Rattle.lists.proofs.Splices.{splice_more}

@@ -6,12 +6,13 @@ use Prim.Native.Nat.{ℕ, suc, ◌+◌, ◌-◌, ◌*◌, ◌≤◌, ◌<◌}
 use native.Mathlib.Nat.{zero-add}
 use native.Mathlib.Omega.{arith}
 use lib.ListN.{length, get_or, take, length-map}
+use Rattle.block.specs.Edition.{most}
 use Rattle.block.specs.declared.header.Header.{Header}
 use Rattle.lists.specs.Lists.{flat, total}
 use Rattle.mesh.specs.Extrusion.{spine_count, section_count}
 use Rattle.lists.proofs.Lists.{length_map_n, get_or_map_n, get_or_map_lt}
 use Rattle.tables.specs.declared.layout.Plan.{Plan}
-use Rattle.tables.specs.Layout.{most, Room}
+use Rattle.tables.specs.Layout.{Room}
 use Rattle.lists.specs.Parts.{seg, spliced, Kept, TableOf}
 use Rattle.tables.specs.Soups.{point_in, place_in, start_in, number_in}
 use Rattle.tables.specs.Listed.{Use, Listing, no_use, no_listing, uses_at, Beside, Listed}

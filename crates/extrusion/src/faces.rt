@@ -5,7 +5,7 @@ ghost use Rattle.lists.specs.Lists.{flat};
 ghost use Rattle.mesh.specs.Quads.{quad};
 ghost use Rattle.mesh.specs.Extrusion.{point_number, has_cap};
 ghost use Rattle.mesh.specs.Sizes.{one, cap_count};
-ghost use Rattle.tables.specs.Layout.{most};
+ghost use Rattle.block.specs.Edition.{most};
 ghost use Rattle.lists.specs.Parts.{spliced};
 ghost use Rattle.extrusion.specs.Listings.{side_points, face_points};
 

@@ -1,7 +1,7 @@
 // FORMAT 8.4: the tables of the faces: points, first corners, places and numbers.
 ghost use Rattle.std.specs.Prelude.{◌≡◌, ◌+◌, ◌-◌, ◌*◌, ◌≤◌, length};
 ghost use Rattle.mesh.specs.Extrusion.{spine_count, section_count};
-ghost use Rattle.tables.specs.Layout.{most};
+ghost use Rattle.block.specs.Edition.{most};
 ghost use Rattle.lists.specs.Loops.{tab};
 ghost use Rattle.lists.specs.Parts.{spliced};
 ghost use Rattle.tables.specs.Listed.{Beside, Listed};

@@ -4,6 +4,7 @@ use mathlib.Core.Bool.{Bool, true, false}
 use mathlib.Core.List.{List}
 use Prim.Native.Nat.{ℕ, ◌+◌, ◌-◌, ◌*◌, ◌≤◌}
 use native.Mathlib.Omega.{arith}
+use Rattle.block.specs.Edition.{most}
 use Rattle.block.specs.declared.kind.Kind.TheVariants.{Extrusion}
 use Rattle.block.specs.declared.header.Header.{Header}
 use Rattle.block.specs.declared.settings.Settings.{Settings}
@@ -12,7 +13,7 @@ use Rattle.mesh.specs.Mesh.{Slices}
 use Rattle.mesh.specs.Extrusion.{spine_count, section_count, section_of, ring_of, cap_length, has_cap}
 use Rattle.mesh.specs.Sizes.{one, side_count, cap_count, extrusion_sizes, sizes_of}
 use Rattle.tables.specs.declared.layout.Plan.{Plan}
-use Rattle.tables.specs.Layout.{most, plan_of}
+use Rattle.tables.specs.Layout.{plan_of}
 use Rattle.lent.specs.Lent.{Asked}
 use Rattle.lent.proofs.Accepts.{low_by}
 use Rattle.shaping.specs.Tabled.{Counted, Ample}

@@ -1,16 +1,17 @@
 -- FORMAT 6.1, 6.2: a pass over the runs of coordIndex that lists the kept ones.
 use Rattle.std.specs.Prelude.{◌≡◌, true, List, ℕ, ◌+◌, ◌/◌, ◌≤◌, ◌<◌, length, drop}
 use Rattle.bits.specs.Bits.{entries}
+use Rattle.block.specs.Edition.{most}
 use Rattle.block.specs.Runs.{Run, runs, kept, faces, corners, sum_over}
 use Rattle.lists.specs.Lists.{join_n}
 use Rattle.tables.specs.declared.layout.Plan.{Plan}
-use Rattle.tables.specs.Layout.{most, Room}
+use Rattle.tables.specs.Layout.{Room}
 use Rattle.tables.specs.Listed.{Beside, Listed}
 use Rattle.faceset.specs.declared.listing.Progress.{Progress}
 use Rattle.faceset.specs.Listings.{listed, listings_of}
 use Rattle.faceset.specs.Adding.{ListedTo}
 
--- the plan is that of the kept faces of coordIndex, whose bytes are bs, in len words (FORMAT 3: no list has more than 8,192 entries)
+-- the plan is that of the kept faces of coordIndex, whose bytes are bs, in len words (FORMAT 3, 4: no list has more entries than the limit)
 pub record Planned (points : ℕ) (bs : List ℕ) (len : ℕ) (t : Plan) : Type 0 where
   pub room : Room len t
   pub spots : t.spots ≡ points

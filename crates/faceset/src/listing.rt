@@ -1,8 +1,9 @@
 // The kept faces of a face set, listed in one pass over the runs of coordIndex (FORMAT 6.1, 6.2; split_runs, indexed_face_set).
 ghost use Rattle.std.specs.Prelude.{◌≡◌, ℕ, ◌+◌, ◌/◌, ◌≤◌, ◌<◌, length, set};
 ghost use Rattle.bits.specs.Bits.{entries};
+ghost use Rattle.block.specs.Edition.{most};
 ghost use Rattle.block.specs.Runs.{kept};
-ghost use Rattle.tables.specs.Layout.{most, Room};
+ghost use Rattle.tables.specs.Layout.{Room};
 ghost use Rattle.lists.specs.Lists.{map_n};
 ghost use Rattle.faceset.specs.Listings.{use_of};
 ghost use Rattle.faceset.specs.Adding.{Fits, FacePut, words_after, progress_after};

@@ -4,6 +4,7 @@ use mathlib.Core.List.{List}
 use Prim.Native.Nat.{ℕ, ◌/◌, ◌≤◌}
 use native.Mathlib.Omega.{arith}
 use lib.ListN.{length}
+use Rattle.block.specs.Edition.{most}
 use Rattle.block.specs.declared.kind.Kind.{Kind}
 use Rattle.block.specs.declared.kind.Kind.TheVariants.{FaceSet}
 use Rattle.block.specs.declared.header.Header.{Header}
@@ -16,7 +17,7 @@ use Rattle.mesh.specs.Mesh.{Slices}
 use Rattle.mesh.specs.Sizes.{Sizes, coord_runs, run_sizes, face_set_sizes, sizes_of}
 use Rattle.mesh.specs.FaceSet.{point_count}
 use Rattle.tables.specs.declared.layout.Plan.{Plan}
-use Rattle.tables.specs.Layout.{most, plan_of}
+use Rattle.tables.specs.Layout.{plan_of}
 use Rattle.lent.specs.Lent.{Asked}
 use Rattle.lent.proofs.Accepts.{low_by}
 use Rattle.shaping.specs.Tabled.{Counted, Ample}

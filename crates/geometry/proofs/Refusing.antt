@@ -7,6 +7,7 @@ use native.Mathlib.Omega.{arith}
 use borrow.Author.Tests.{ltb-false}
 use lib.Dec.{ltb}
 use lib.ListN.{length}
+use Rattle.block.specs.Edition.{most}
 use Rattle.block.specs.declared.header.Header.{Header}
 use Rattle.block.specs.declared.settings.Settings.{Settings}
 use Rattle.block.specs.declared.refusal.Refusal.TheVariants.{Buffer}
@@ -15,7 +16,6 @@ use Rattle.block.specs.Settings.{settings_of}
 use Rattle.block.specs.Refusal.{Row, row, block_rows, first_of}
 use Rattle.block.proofs.Table.{first_before, first_after}
 use Rattle.mesh.specs.Sizes.{Sizes as Defined, sizes_of, shape_rows}
-use Rattle.tables.specs.Layout.{most}
 use Rattle.lent.specs.Lent.{Accepted, Enough, Asked}
 use Rattle.lent.proofs.Accepts.{sizes_low}
 use Rattle.sizes.specs.declared.kinds.Sizes.{Sizes}

@@ -1,7 +1,7 @@
 // FORMAT 3: row 8 of the table of refusals, and the whole table.
 ghost use Rattle.std.specs.Prelude.{◌≡◌, ◌≤◌};
+ghost use Rattle.block.specs.Edition.{most};
 ghost use Rattle.block.specs.Header.{header_of};
-ghost use Rattle.tables.specs.Layout.{most};
 ghost use Rattle.sizes.specs.Judged.{Judged};
 ghost use Rattle.geometry.specs.Answer.{is_short, refusal};
 

@@ -5,11 +5,11 @@ use native.Mathlib.Nat.{mod-lt, div-lt_iff_lt-mul}
 use native.Mathlib.Omega.{arith}
 use lib.ListN.{get_or}
 use Rattle.lists.proofs.Numbers.{cell_turned}
+use Rattle.block.specs.Edition.{most}
 use Rattle.block.specs.declared.header.Header.{Header}
 use Rattle.mesh.specs.Quads.{quad}
 use Rattle.mesh.specs.Grid.{x_dimension, z_dimension}
 use Rattle.mesh.specs.Sizes.{quad_count}
-use Rattle.tables.specs.Layout.{most}
 use Rattle.grid.specs.Sides.{Sides}
 use Rattle.grid.specs.Listings.{quad_of, corner_point}
 

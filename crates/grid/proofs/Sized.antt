@@ -8,6 +8,7 @@ use borrow.Author.Tests.{ltb-false}
 use lib.Dec.{ltb}
 use lib.ListN.{length}
 use Rattle.bits.specs.Bits.{entries}
+use Rattle.block.specs.Edition.{most}
 use Rattle.block.specs.declared.kind.Kind.TheVariants.{Grid}
 use Rattle.block.specs.declared.header.Header.{Header}
 use Rattle.block.specs.Header.{header_of}
@@ -17,7 +18,6 @@ use Rattle.block.proofs.ExtentLaws.{widths_of, size_by, list_entries}
 use Rattle.mesh.specs.Grid.{x_dimension, z_dimension}
 use Rattle.mesh.specs.Sizes.{height_count, is_no_grid}
 use Rattle.tables.specs.declared.layout.Plan.{Plan}
-use Rattle.tables.specs.Layout.{most}
 use Rattle.tables.specs.Listed.{Listing, Listed}
 use Rattle.lists.proofs.Tests.{or_none}
 use Rattle.grid.specs.Sides.{Sides}

@@ -1,10 +1,11 @@
 -- FORMAT 2.2, 2.4: what is asked of a grid's sides, and of the plan of its tables.
 use Rattle.std.specs.Prelude.{◌≡◌, ℕ, ◌*◌, ◌^◌, ◌≤◌, ◌<◌}
+use Rattle.block.specs.Edition.{most}
 use Rattle.block.specs.declared.header.Header.{Header}
 use Rattle.mesh.specs.Grid.{x_dimension, z_dimension}
 use Rattle.mesh.specs.Sizes.{quad_count}
 use Rattle.tables.specs.declared.layout.Plan.{Plan}
-use Rattle.tables.specs.Layout.{most, Room}
+use Rattle.tables.specs.Layout.{Room}
 
 -- FORMAT 2.2, 3: a count of 14 bits; no side is below 2 (refusal 6), nor are there more points than the tables hold (refusal 7)
 pub record Sides (h : Header) : Type 0 where

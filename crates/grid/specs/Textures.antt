@@ -1,11 +1,11 @@
 -- FORMAT 7.3, 7.4: the texture of a grid's corner, and what is asked of the tables to write all of them.
 use Rattle.std.specs.Prelude.{List, [], ℕ, ◌+◌, ◌*◌, ◌/◌, ◌%◌, ◌≤◌, ◌<◌, length}
 use Rattle.bits.specs.declared.Words2.{Words2}
+use Rattle.block.specs.Edition.{most}
 use Rattle.block.specs.declared.header.Header.{Header}
 use Rattle.block.specs.declared.settings.Settings.{Settings}
 use Rattle.mesh.specs.Grid.{x_dimension, z_dimension, grid_default}
 use Rattle.tables.specs.declared.layout.Plan.{Plan}
-use Rattle.tables.specs.Layout.{most}
 use Rattle.tables.specs.Soups.{point_in}
 use Rattle.texture.specs.Corner.{texture_in}
 

@@ -4,7 +4,7 @@ ghost use Rattle.mesh.specs.Grid.{x_dimension, z_dimension};
 ghost use Rattle.mesh.specs.Sizes.{quad_count};
 ghost use Rattle.lists.specs.Loops.{tab};
 ghost use Rattle.lists.specs.Parts.{spliced};
-ghost use Rattle.tables.specs.Layout.{most};
+ghost use Rattle.block.specs.Edition.{most};
 ghost use Rattle.tables.specs.Listed.{Beside, Listed};
 ghost use Rattle.grid.specs.Sides.{Planned};
 ghost use Rattle.grid.specs.Listings.{corner_point, grid_listings};

@@ -7,19 +7,21 @@ use native.Mathlib.Nat.{mul_comm}
 use native.Mathlib.Omega.{arith}
 use lib.ListN.{length, get_or}
 use Rattle.bits.specs.Bits.{entries}
+use Rattle.block.specs.Edition.{most}
 use Rattle.block.specs.declared.kind.Kind.{Kind}
 use Rattle.block.specs.Kind.{by_kind}
 use Rattle.block.specs.declared.kind.Kind.TheVariants.{Grid}
 use Rattle.block.specs.declared.header.Header.{Header}
 use Rattle.block.specs.declared.settings.Settings.{Settings}
 use Rattle.block.specs.Extents.{list_bytes}
+use Rattle.block.proofs.Table.{count_low}
 use Rattle.lists.specs.Parts.{spliced}
 use Rattle.mesh.specs.Mesh.{Slices}
 use Rattle.mesh.specs.Grid.{x_dimension, z_dimension, grid_points}
 use Rattle.mesh.specs.Sizes.{quad_count, side_count, grid_sizes, sizes_of, is_no_grid, is_no_extrusion, is_no_shape}
 use Rattle.mesh.proofs.Sizes.{grid_words}
 use Rattle.tables.specs.declared.layout.Plan.{Plan}
-use Rattle.tables.specs.Layout.{most, plan_of}
+use Rattle.tables.specs.Layout.{plan_of}
 use Rattle.tables.specs.Soups.{points_in}
 use Rattle.lent.specs.Lent.{Asked}
 use Rattle.lent.proofs.Accepts.{low_by}
@@ -50,7 +52,7 @@ module _ {bs : List ℕ} {h : Header} {s : Settings} {o : Slices} {w f : ℕ} (A
   sides = sides_of bs h A.accepted.header shape.0 shape.1 (low_by A sizes_are).0
 
   pub net_sides : NetSides h
-  net_sides = let S = sides in record { long = S.wide; wide = S.deep; length_few = omega (arith, S.width); width_few = omega (arith, S.depth) }
+  net_sides = let S = sides in record { long = S.wide; wide = S.deep; length_few = omega (arith, count_low A.accepted.taken 0); width_few = omega (arith, count_low A.accepted.taken 1) }
 
   pub heights : x_dimension h * z_dimension h ≤ length (entries (list_bytes bs h 3))
   heights = heights_in bs h A.kind A.accepted.taken.length_is (x_dimension h * z_dimension h) shape.2

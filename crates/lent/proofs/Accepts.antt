@@ -8,11 +8,10 @@ use borrow.Author.Tests.{ltb-false}
 use Rattle.block.specs.declared.header.Header.{Header}
 use Rattle.block.specs.declared.kind.Kind.{Kind}
 use Rattle.block.specs.declared.settings.Settings.{Settings}
-use Rattle.block.specs.Edition.{limit_of}
+use Rattle.block.specs.Edition.{limit_of, most}
 use Rattle.block.proofs.EditionLaws.{limit_low}
 use Rattle.mesh.specs.Mesh.{Slices}
 use Rattle.mesh.specs.Sizes.{Sizes, sizes_of, is_over_corners}
-use Rattle.tables.specs.Layout.{most}
 use Rattle.lists.proofs.Tests.{or_none}
 use Rattle.lent.specs.Lent.{Accepted, Enough, Asked}
 

@@ -5,6 +5,7 @@ use mathlib.Core.List.{List}
 use Prim.Native.Nat.{ℕ, ◌*◌, ◌/◌, ◌^◌, ◌≤◌}
 use lib.ListN.{length, take}
 use Rattle.bits.specs.Bits.{entries}
+use Rattle.block.specs.Edition.{most}
 use Rattle.block.specs.declared.kind.Kind.TheVariants.{LineSet}
 use Rattle.block.specs.declared.header.Header.{Header}
 use Rattle.block.specs.Extents.{list_bytes}
@@ -13,7 +14,6 @@ use Rattle.block.proofs.ExtentLaws.{widths_of}
 use Rattle.mesh.specs.Mesh.{Slices}
 use Rattle.mesh.specs.FaceSet.{coord_in, point_count}
 use Rattle.mesh.specs.Sizes.{Sizes, named, lines_after, line_set_sizes, sizes_of}
-use Rattle.tables.specs.Layout.{most}
 use Rattle.corners.specs.declared.laid.CornerTables.{CornerTables}
 use Rattle.corners.specs.Laid.{Laid}
 use Rattle.block.specs.declared.settings.Settings.{Settings}

@@ -4,9 +4,9 @@ use mathlib.Core.List.{List}
 use Prim.Native.Nat.{ℕ, ◌+◌, ◌*◌, ◌≤◌}
 use native.Mathlib.Omega.{arith}
 use lib.ListN.{take, length}
+use Rattle.block.specs.Edition.{most}
 use Rattle.block.specs.Runs.{runs, sum_over}
 use Rattle.mesh.specs.Sizes.{named}
-use Rattle.tables.specs.Layout.{most}
 use Rattle.vertices.specs.Adding.{points_in}
 use Rattle.corners.specs.declared.laid.CornerTables.{CornerTables}
 use Rattle.corners.specs.Laid.{tables_at, Laid}

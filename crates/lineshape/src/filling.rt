@@ -1,7 +1,7 @@
 // FORMAT 8.2: the tables of a line set, as `make_lines` reads them.
 ghost use Rattle.std.specs.Prelude.{◌≡◌, ◌*◌, ◌/◌, ◌^◌, ◌≤◌, length};
 ghost use Rattle.bits.specs.Bits.{entries};
-ghost use Rattle.tables.specs.Layout.{most};
+ghost use Rattle.block.specs.Edition.{most};
 ghost use Rattle.corners.specs.Laid.{Laid};
 ghost use Rattle.lineshape.specs.Shape.{tables_for, line_tables, Tabled};
 

@@ -5,6 +5,7 @@ ghost use Rattle.std.specs.Float.{binary32};
 ghost use Rattle.std.specs.Float.Ieee.{sub, lt};
 ghost use Rattle.lists.specs.Parts.{spliced};
 ghost use Rattle.lists.specs.Named.{named_by};
+ghost use Rattle.block.specs.Edition.{most};
 ghost use Rattle.math.specs.Vector.{one_f, y_axis, unit_of};
 ghost use Rattle.math.specs.Order.{magnitude};
 ghost use Rattle.mesh.specs.Words.{words3, floats, bits, point_words};
@@ -48,8 +49,8 @@ struct Lent<'a> {
     positions: &'a [u32],
     indices: &'a [u32],
     count: usize,
-    ghost few_vertices: { count ≤ 2 ^ 18 },
-    ghost few_indices: { length indices.now ≤ 3 * 2 ^ 18 },
+    ghost few_vertices: { count ≤ most },
+    ghost few_indices: { length indices.now ≤ 3 * most },
 }
 
 fn tri_normal(a: V3, b: V3, c: V3) -> Option<V3>
@@ -204,7 +205,7 @@ pub fn fix_zero_normals(
     normals: &mut [u32],
     table: &mut [u32],
 )
-    requires { (count ≤ 2 ^ 18) × (length indices.now ≤ 3 * 2 ^ 18) × (count ≤ length table.old) × (3 * count ≤ length normals.old) }
+    requires { (count ≤ most) × (length indices.now ≤ 3 * most) × (count ≤ length table.old) × (3 * count ≤ length normals.old) }
     ensures { normals.new ≡ mended_words positions.now indices.now normals.old count ++ drop (3 * count) normals.old }
 {
     let lent = Lent {

@@ -13,7 +13,7 @@ use Rattle.std.specs.Prelude.{Some}
 use Rattle.math.specs.Vector.{vadd, unit_of}
 use Rattle.mesh.specs.Normals.{Hit, sum_all, sum_near, near_by, near_step, or_else}
 use Rattle.tables.specs.declared.layout.Plan.{Plan}
-use Rattle.tables.specs.Layout.{most}
+use Rattle.block.specs.Edition.{most}
 use Rattle.tables.specs.Soups.{gather_in, owner_in}
 use Rattle.lists.specs.Loops.{All}
 use Rattle.lists.specs.Parts.{seg}

@@ -1,19 +1,20 @@
 -- FORMAT 6.4: a pass over the stretches of coordIndex, and over the primitives of each, that lists the kept ones.
 use Rattle.std.specs.Prelude.{◌≡◌, true, List, ℕ, ◌+◌, ◌*◌, ◌/◌, ◌≤◌, ◌<◌, length, drop}
 use Rattle.bits.specs.Bits.{entries}
+use Rattle.block.specs.Edition.{most}
 use Rattle.block.specs.declared.topology.Topology.{Topology}
 use Rattle.block.specs.Runs.{all_below}
 use Rattle.primitives.specs.Primitives.{primitive_count, primitive_of}
 use Rattle.primitives.specs.Kept.{width_of, kept_over, kept_primitives}
 use Rattle.primitives.specs.Stretches.{stretches_left}
 use Rattle.tables.specs.declared.layout.Plan.{Plan}
-use Rattle.tables.specs.Layout.{most, Room}
+use Rattle.tables.specs.Layout.{Room}
 use Rattle.tables.specs.Listed.{Use, Beside, Listed}
 use Rattle.faceset.specs.Adding.{ListedTo}
 use Rattle.faceset.specs.declared.listing.Progress.{Progress}
 use Rattle.primitiveset.specs.Listings.{uses_of, primitive_uses, primitive_listings}
 
--- the plan is that of the kept primitives of coordIndex, whose bytes are bs, in len words (FORMAT 3: no list has more than 8,192 entries)
+-- the plan is that of the kept primitives of coordIndex, whose bytes are bs, in len words (FORMAT 3, 4: no list has more entries than the limit)
 pub record Planned (points : ℕ) (g : Topology) (bs : List ℕ) (len : ℕ) (t : Plan) : Type 0 where
   pub room : Room len t
   pub spots : t.spots ≡ points

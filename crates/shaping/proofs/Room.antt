@@ -3,13 +3,14 @@ use mathlib.Core.Path.{◌≡◌, refl, sym, subst}
 use mathlib.Core.List.{List}
 use Prim.Native.Nat.{ℕ, ◌+◌, ◌*◌, ◌≤◌}
 use native.Mathlib.Omega.{arith}
+use Rattle.block.specs.Edition.{most}
 use Rattle.block.specs.declared.header.Header.{Header}
 use Rattle.block.specs.declared.kind.Kind.{Kind}
 use Rattle.block.specs.declared.settings.Settings.{Settings}
 use Rattle.mesh.specs.Mesh.{Slices}
 use Rattle.mesh.specs.Sizes.{Sizes, sizes_of}
 use Rattle.tables.specs.declared.layout.Plan.{Plan}
-use Rattle.tables.specs.Layout.{most, plan_of}
+use Rattle.tables.specs.Layout.{plan_of}
 use Rattle.tables.proofs.Room.{plan_fits}
 use Rattle.lent.specs.Lent.{Asked}
 use Rattle.lent.proofs.Accepts.{low_by, enough_by}

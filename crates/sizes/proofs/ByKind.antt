@@ -9,6 +9,7 @@ use borrow.Author.Tests.{ltb-false}
 use lib.Dec.{ltb}
 use lib.ListN.{get_or}
 use Rattle.bits.specs.Bits.{entries}
+use Rattle.block.specs.Edition.{most}
 use Rattle.block.specs.declared.header.Header.{Header}
 use Rattle.block.specs.declared.runs.Totals.{Totals}
 use Rattle.block.specs.Extents.{list_bytes}
@@ -23,7 +24,6 @@ use Rattle.mesh.specs.Extrusion.{spine_count, section_count, section_of, extrusi
 use Rattle.mesh.specs.Grid.{x_dimension, z_dimension}
 use Rattle.mesh.specs.Sizes as spec
 use Rattle.mesh.specs.Sizes.{is_no_grid, is_no_shape}
-use Rattle.tables.specs.Layout.{most}
 use Rattle.extrusion.specs.Given.{Given}
 use Rattle.extrusion.proofs.Blocks.{given_of, section_of_lem, section_long}
 use Rattle.extrusion.proofs.Joined.{cap_fits}

@@ -1,5 +1,6 @@
 -- FORMAT 3, 4: a block that the rows 1 to 6 and 9 of the table let pass, and its sizes as the code returns them.
 use Rattle.std.specs.Prelude.{◌≡◌, false, List, ℕ, ◌≤◌, get_or}
+use Rattle.block.specs.Edition.{most}
 use Rattle.block.specs.declared.header.Header.{Header}
 use Rattle.block.specs.Header.{header_of}
 use Rattle.block.specs.declared.topology.Topology.{Topology}
@@ -8,7 +9,6 @@ use Rattle.block.specs.Refusal.{Taken}
 use Rattle.block.specs.Runs.{faces, sum_over}
 use Rattle.mesh.specs.Sizes.{Sizes as Defined, coord_runs, listed_runs, sizes_of, is_no_shape}
 use Rattle.mesh.specs.FaceSet.{point_count}
-use Rattle.tables.specs.Layout.{most}
 use Rattle.sizes.specs.declared.kinds.Sizes.{Sizes}
 
 -- FORMAT 3: h is the block's header, and none of the rows 1 to 6 and 9 holds

@@ -2,7 +2,7 @@
 ghost use Rattle.std.specs.Prelude.{◌≡◌, ◌-◌, ◌*◌, ◌≤◌, ◌<◌, ◌^◌, get_or};
 ghost use Rattle.extrusion.specs.Given.{Given};
 ghost use Rattle.mesh.specs.Sizes as spec;
-ghost use Rattle.tables.specs.Layout.{most};
+ghost use Rattle.block.specs.Edition.{most};
 ghost use Rattle.sizes.specs.Known.{Known, set_faces, primitive_faces, Are, Counted};
 
 use crate::net::Net;

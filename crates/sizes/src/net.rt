@@ -1,7 +1,7 @@
 // FORMAT 4: the points of a grid or an extrusion, and the quads between them.
 ghost use Rattle.std.specs.Prelude.{◌≡◌, ◌*◌, ◌≤◌, get_or};
 ghost use Rattle.mesh.specs.Sizes.{side_count};
-ghost use Rattle.tables.specs.Layout.{most};
+ghost use Rattle.block.specs.Edition.{most};
 ghost use Rattle.sizes.specs.Known.{Sides};
 
 use block::Header;

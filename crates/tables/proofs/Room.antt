@@ -1,7 +1,8 @@
 -- FORMAT 4: the tables fit the words that are lent.
 use Prim.Native.Nat.{ℕ, ◌+◌, ◌*◌, ◌≤◌}
 use native.Mathlib.Omega.{arith}
-use Rattle.tables.specs.Layout.{most, plan_of, Room}
+use Rattle.block.specs.Edition.{most}
+use Rattle.tables.specs.Layout.{plan_of, Room}
 
 -- a kept face has three corners or more
 pub plan_fits : (spots count faces ring len : ℕ) → spots ≤ most → count ≤ most → faces * 3 ≤ count → 8 * (count + spots) + 8 ≤ len → Room len (plan_of spots count faces ring)

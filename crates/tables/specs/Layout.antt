@@ -1,10 +1,7 @@
 -- FORMAT 4, 8: where the tables stand.
 use Rattle.std.specs.Prelude.{ℕ, ◌+◌, ◌*◌, ◌≤◌}
+use Rattle.block.specs.Edition.{most}
 use Rattle.tables.specs.declared.layout.Plan.{Plan}
-
--- a bound of the tables' own: no count is above 2 ^ 18 (refusal 7 of FORMAT 3 holds P and C to 8,192)
-abbrev pub most : ℕ
-most = 262144
 
 -- points 3P, corners C, first corners F + 1, vertex numbers C, places C, face numbers F, owners C, rows 7F, heads P, nexts C;
 -- and sums 4P, four words for each number that corners are gathered by, for what a crease rule makes once for all corners of one number.

@@ -1,7 +1,8 @@
 // FORMAT 4, 8: how many points, corners and kept faces there are, how many points make a ring, and where each table starts. Tables hold kept faces only.
 // They lie in the one slice of words that the caller lends, as there is no heap.
 ghost use Rattle.std.specs.Prelude.{◌≡◌, ◌≤◌};
-ghost use Rattle.tables.specs.Layout.{most, plan_of};
+ghost use Rattle.block.specs.Edition.{most};
+ghost use Rattle.tables.specs.Layout.{plan_of};
 
 // What writes the tables takes their words, `&mut`, beside the plan; what reads them is a method of `Tables`. A struct for the writing would have to say in
 // each function that its words are still the same reference, and its plan the same plan.

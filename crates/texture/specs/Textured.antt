@@ -1,6 +1,7 @@
 -- FORMAT 7.3, 7.4: the table of the corners' textures, two words a corner.
 use Rattle.std.specs.Prelude.{List, ℕ, ◌+◌, ◌*◌, ◌≤◌, ◌<◌, length, get_or}
 use Rattle.bits.specs.declared.Words2.{Words2}
+use Rattle.block.specs.Edition.{most}
 use Rattle.block.specs.declared.header.Header.{Header}
 use Rattle.block.specs.declared.settings.Settings.{Settings}
 use Rattle.mesh.specs.declared.texture.Fit.{Fit}
@@ -9,7 +10,6 @@ use Rattle.lists.specs.Loops.{tab}
 use Rattle.lists.specs.Lists.{flat}
 use Rattle.mesh.specs.Words.{words2}
 use Rattle.tables.specs.declared.layout.Plan.{Plan}
-use Rattle.tables.specs.Layout.{most}
 use Rattle.tables.specs.Soups.{point_in, place_in, points_in}
 use Rattle.texture.specs.Corner.{texture_in}
 

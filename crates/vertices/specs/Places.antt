@@ -1,6 +1,6 @@
 -- FORMAT 4, 5: room for vertices in the output slices and for the tables of the search.
 use Rattle.std.specs.Prelude.{List, ℕ, ◌+◌, ◌*◌, ◌≤◌, ◌<◌, length}
-use Rattle.tables.specs.Layout.{most}
+use Rattle.block.specs.Edition.{most}
 use Rattle.vertices.specs.declared.places.Widths.{Widths}
 use Rattle.vertices.specs.declared.places.Chains.{Chains}
 

@@ -1,7 +1,7 @@
 // One vertex more, and the vertex of a corner (FORMAT 11).
 ghost use Rattle.std.specs.Prelude.{◌≡◌, ◌+◌, ◌≤◌, ◌<◌, length};
 ghost use Rattle.vertices.specs.Places.{Laid, Room};
-ghost use Rattle.tables.specs.Layout.{most};
+ghost use Rattle.block.specs.Edition.{most};
 ghost use Rattle.vertices.specs.Search.{corner_key};
 ghost use Rattle.vertices.specs.Adding.{linked, Appended, Ready, Vertexed, count_after};
 

@@ -1,7 +1,7 @@
 // The bucket of a corner's key: vertices with one key are in one bucket, so the search looks at no other.
 ghost use Rattle.std.specs.Prelude.{◌≡◌, ◌+◌, ◌*◌, ◌^◌, ◌≤◌, ◌<◌, length, get_or};
 ghost use Rattle.lists.specs.Parts.{seg};
-ghost use Rattle.tables.specs.Layout.{most};
+ghost use Rattle.block.specs.Edition.{most};
 ghost use Rattle.vertices.specs.Hash.{normal_sum, colour_sum, texture_sum, spread_of, bucket_of};
 ghost use Rattle.vertices.specs.Search.{two, three, four, corner_key};
 

@@ -1,7 +1,7 @@
 // The search among the vertices made (FORMAT 11).
 ghost use Rattle.std.specs.Prelude.{◌≡◌, ◌+◌, ◌≤◌, ◌<◌, length};
 ghost use Rattle.mesh.specs.Vertices.{same_key};
-ghost use Rattle.tables.specs.Layout.{most};
+ghost use Rattle.block.specs.Edition.{most};
 ghost use Rattle.vertices.specs.Places.{Store, Roomy, Laid};
 ghost use Rattle.vertices.specs.Hash.{bucket_of};
 ghost use Rattle.vertices.specs.Search.{known_by, key_at, corner_key, place_of, bucket_at, Chained};

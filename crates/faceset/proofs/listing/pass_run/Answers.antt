@@ -9,7 +9,7 @@ use Rattle.bits.proofs.Entries.{entries_length}
 use Rattle.block.proofs.RunLaws.{kept_below}
 use Rattle.lists.specs.Lists.{map_n}
 use Rattle.lists.proofs.Lists.{length_map_n}
-use Rattle.tables.specs.Layout.{most}
+use Rattle.block.specs.Edition.{most}
 use Rattle.faceset.specs.Listings.{use_of}
 use Rattle.faceset.specs.Adding.{words_after, progress_after}
 use Rattle.faceset.proofs.Faces.{used_at}

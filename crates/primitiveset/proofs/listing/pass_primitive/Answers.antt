@@ -5,10 +5,10 @@ use lib.ListN.{length, get_or}
 use Rattle.std.proofs.Common.{rules}
 use Rattle.std.proofs.iter.Serving.{serving}
 use Rattle.bits.specs.Bits.{entries}
+use Rattle.block.specs.Edition.{most}
 use Rattle.block.specs.Runs.{run_of}
 use Rattle.primitives.specs.Primitives.{places_of}
 use Rattle.primitives.specs.Kept.{width_of}
-use Rattle.tables.specs.Layout.{most}
 use Rattle.faceset.specs.Adding.{words_after, progress_after}
 use Rattle.faceset.proofs.Writing.{face_put_is}
 use Rattle.primitiveset.specs.Listings.{uses_of}
