@@ -1,12 +1,14 @@
 -- What holds of every edition: its fields fit in a word, its header is short, and its limit and its counts are low.
-use Prim.Native.Nat.{ℕ, zero, suc, ◌+◌, ◌*◌, ◌^◌, ◌≤◌, ◌<◌}
+use Prim.Native.Nat.{ℕ, zero, suc, ◌+◌, ◌*◌, ◌≤◌, ◌<◌}
 use mathlib.Core.Path.{◌≡◌, refl}
 use mathlib.Core.List.{List}
-use native.Mathlib.Nat.{mul-le-mul}
+use native.Mathlib.Nat.{lt_of_lt_of_le, mul-le-mul}
 use native.Mathlib.Omega.{arith}
 use lib.ListN.{get_or}
+use lib.Pow.{pow_mono}
 use Rattle.bits.specs.Bits.{field}
 use Rattle.bits.proofs.Fields.{field_lt}
+use Rattle.math.specs.Whole.{Exact}
 use Rattle.block.specs.Edition.{edition1, edition_of, limit_of, highest, edition_in, counts_at, zeros_at}
 use Rattle.block.specs.Header.{Narrow, counts_of, header_of}
 
@@ -18,6 +20,11 @@ module _ (n : ℕ) where
   pub header_short : (edition_of n).header_words ≤ 32
   unfolding edition_of edition1
   header_short = omega arith
+
+  -- a count is an f32 without loss
+  pub count_bits_low : (edition_of n).count_bits ≤ 24
+  unfolding edition_of edition1
+  count_bits_low = omega arith
 
   pub limit_low : limit_of n ≤ highest
   unfolding edition_of edition1
@@ -40,13 +47,12 @@ module _ (n : ℕ) where
 pub field_room : {k w : ℕ} → k ≤ 32 → w ≤ 32 → k * w ≤ 1024
 field_room h l = mul-le-mul {n₂ = 32} {m₂ = 32} h l
 
--- a count is small enough to be an f32 without loss
+-- so each count of a header is one
 module _ (bs : List ℕ) where
-  few : (i : ℕ) → field bs i (edition_in bs).count_bits < 2 ^ 16
-  unfolding edition_of edition1
-  few i = omega (arith, field_lt bs i 14)
+  few : (i : ℕ) → Exact (field bs i (edition_in bs).count_bits)
+  few i = lt_of_lt_of_le (field_lt bs i (edition_in bs).count_bits) (pow_mono (count_bits_low (field bs 0 4)))
 
-  pub count_narrow : (k : ℕ) → get_or (header_of bs).counts k 0 < 2 ^ 16
+  pub count_narrow : (k : ℕ) → Exact (get_or (header_of bs).counts k 0)
   unfolding header_of counts_of
   count_narrow zero = few (counts_at + 0 * (edition_in bs).count_bits)
   count_narrow (suc zero) = few (counts_at + 1 * (edition_in bs).count_bits)

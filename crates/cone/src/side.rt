@@ -1,5 +1,5 @@
 // FORMAT 17.9, cone (side): a triangle a slice, with vertices of its own.
-ghost use Rattle.std.specs.Prelude.{◌≡◌, List, ℕ, ◌+◌, ◌*◌, ◌≤◌, ◌<◌, IfSome, MatchOption, Float};
+ghost use Rattle.std.specs.Prelude.{◌≡◌, List, ℕ, ◌+◌, ◌*◌, ◌^◌, ◌≤◌, ◌<◌, IfSome, MatchOption, Float};
 ghost use Rattle.math.specs.Vector.{y_axis, unit_of};
 ghost use Rattle.mesh.specs.Normals.{or_else};
 ghost use Rattle.parts.specs.Written.{Roomy, Written};
@@ -14,7 +14,7 @@ use tables::narrow;
 // What is scaled to length 1 for the normal at pair p.
 #[tactic(auto, unfolding(crate::specs::Cone::cone_normal))]
 fn cone_slope(pairs: &[f32], k: Round, p: usize) -> V3
-    requires { p < 65536 }
+    requires { p < 2 ^ 32 }
     ensures { or_else (unit_of result) y_axis ≡ cone_normal pairs.now k.r k.height p }
 {
     let q = ring_at(pairs, p);
@@ -71,7 +71,7 @@ fn scaled(known: Lengths, a: V3, b: V3, c: V3) -> SliceNormals
 
 // Those of the slice whose pairs begin at p.
 fn slice_normals(pairs: &[f32], known: Lengths, k: Round, p: usize) -> SliceNormals
-    requires { p + 5 < 65536 }
+    requires { p + 5 < 2 ^ 32 }
     ensures { (result.from ≡ cone_normal pairs.now k.r k.height (p + 2))
         × (result.to ≡ cone_normal pairs.now k.r k.height (p + 3))
         × (result.apex ≡ cone_normal pairs.now k.r k.height (p + 4)) }
@@ -85,7 +85,7 @@ fn slice_normals(pairs: &[f32], known: Lengths, k: Round, p: usize) -> SliceNorm
 // A vertex of the foot, its position from pair p.
 #[tactic(auto, unfolding(crate::specs::Cone::cone_foot))]
 fn cone_foot(pairs: &[f32], k: Round, p: usize, normal: V3, s: f32) -> Vert
-    requires { p < 65536 }
+    requires { p < 2 ^ 32 }
     ensures { (q : ℕ) → normal ≡ cone_normal pairs.now k.r k.height q
         → result ≡ cone_foot pairs.now k.r k.height p q s }
 {

@@ -2,7 +2,7 @@
 use mathlib.Core.Path.{◌≡◌, refl, sym, ap, ◌∙◌}
 use mathlib.Core.Bool.{false}
 use mathlib.Core.List.{List}
-use Prim.Native.Nat.{ℕ, ◌*◌, ◌^◌, ◌<◌}
+use Prim.Native.Nat.{ℕ, ◌*◌}
 use borrow.Author.Tests.{ltb-false}
 use lib.Dec.{ltb}
 use lib.ListN.{length, get_or}
@@ -17,6 +17,7 @@ use Rattle.block.proofs.ExtentLaws.{widths_of, size_by, list_length}
 use Rattle.lists.specs.Loops.{tab}
 use Rattle.lists.proofs.Tabs.{tab_same}
 use Rattle.lists.specs.Lists.{flat}
+use Rattle.math.specs.Whole.{Exact}
 use Rattle.math.specs.declared.vector.V3.{V3}
 use Rattle.math.specs.declared.quaternion.Quat.{Quat}
 use Rattle.block.specs.declared.texture.Pair.{Pair}
@@ -60,10 +61,10 @@ points_put bs l made sp cs scs qs k es ec ef et em =
 
 -- a count is small enough to be a float
 module _ {bs : List ℕ} {h : Header} (G : Given bs h) where
-  pub spine_few : spine_count h < 2 ^ 16
+  pub spine_few : Exact (spine_count h)
   spine_few = rw G.head (count_narrow bs 0)
 
-  pub section_few : section_count h < 2 ^ 16
+  pub section_few : Exact (section_count h)
   section_few = rw G.head (count_narrow bs 1)
 
 pub section_of_lem : (bs : List ℕ) (h : Header) → h ≡ header_of bs → twos (list_bytes bs h 1) (section_count h) ≡ (extrusion_of bs).section

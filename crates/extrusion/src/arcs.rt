@@ -1,5 +1,6 @@
 // FORMAT 8.4, arc_params: how far along the cross-section, and along the spine, each of its points is.
 ghost use Rattle.std.specs.Prelude.{◌≡◌, ℕ, Float, ◌++◌, ◌+◌, ◌-◌, ◌^◌, ◌≤◌, ◌<◌, length};
+ghost use Rattle.math.specs.Whole.{Exact};
 ghost use Rattle.mesh.specs.Arcs as spec;
 ghost use Rattle.mesh.specs.Arcs.{step2, step3, length_to, arcs, arcs2, arcs3};
 ghost use Rattle.mesh.specs.Extrusion.{spine_count, section_count, extrusion_of};
@@ -52,7 +53,7 @@ fn arc_total<F: Fn(usize) -> f32>(n: usize, step: F) -> f32
 
 // The length x up to point i, of the whole length t; or, where that is not above 0, i of the last number m.
 fn share(t: f32, m: usize, i: usize, x: f32) -> f32
-    requires { (m < 65536) × (i < 65536) }
+    requires { Exact m × Exact i }
     ensures { result ≡ spec.share t m i x }
 {
     if t > 0.0 {
@@ -64,7 +65,7 @@ fn share(t: f32, m: usize, i: usize, x: f32) -> f32
 // The parameters of n points, by the step from each to the next, into floats from place k.
 fn put_params<F: Fn(usize) -> f32>(n: usize, step: F, floats: &mut [f32], k: usize)
     requires some { 2 ≤ n }
-    requires few { n < 65536 }
+    requires few { Exact n }
     requires room { k + n ≤ length floats.old }
     requires called { (i : ℕ) → i + 1 < n → F.pre step i }
     ensures { (value : ℕ → Float) → ((i : ℕ) (d : Float) → i + 1 < n → F.post step i d → d ≡ value i) → floats.new ≡ spliced floats.old k (arcs value n) }

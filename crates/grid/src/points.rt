@@ -2,6 +2,7 @@
 ghost use Rattle.std.specs.Prelude.{◌≡◌, ◌+◌, ◌*◌, ◌≤◌, ◌<◌, length};
 ghost use Rattle.bits.specs.Bits.{entries};
 ghost use Rattle.block.specs.Extents.{list_bytes};
+ghost use Rattle.math.specs.Whole.{Exact};
 ghost use Rattle.mesh.specs.Grid.{x_dimension, z_dimension, step_word, grid_point, grid_points};
 ghost use Rattle.lists.specs.Parts.{spliced};
 
@@ -12,7 +13,7 @@ use mesh::put_words3;
 
 // The bits of n steps of a spacing.
 fn step_word(spacing: f32, n: usize) -> u32
-    requires { n < 65536 }
+    requires { Exact n }
     ensures { result ≡ step_word spacing n }
 {
     math::bits_of(spacing * math::whole_float(n))

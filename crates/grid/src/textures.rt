@@ -1,5 +1,6 @@
 // FORMAT 7.3, 7.4, elevation_grid (st, t_out): the textures of a grid's corners.
-ghost use Rattle.std.specs.Prelude.{◌≡◌, ℕ, ◌*◌, ◌/◌, ◌%◌, ◌≤◌, ◌<◌};
+ghost use Rattle.std.specs.Prelude.{◌≡◌, ℕ, ◌-◌, ◌*◌, ◌/◌, ◌%◌, ◌≤◌, ◌<◌};
+ghost use Rattle.math.specs.Whole.{Exact};
 ghost use Rattle.mesh.specs.Grid.{x_dimension, z_dimension, part_word, grid_default};
 ghost use Rattle.lists.specs.Parts.{spliced};
 ghost use Rattle.tables.specs.Soups.{point_in};
@@ -14,7 +15,7 @@ use texture::{Source, put2};
 
 // The bits of i of n - 1 steps. Not the share of parts: grid does not stand on parts, and the quotient is one line.
 fn part_word(i: usize, n: usize) -> u32
-    requires { (i < 65536) × (2 ≤ n) × (n ≤ 65536) }
+    requires { Exact i × (2 ≤ n) × Exact (n - 1) }
     ensures { result ≡ part_word i n }
 {
     math::bits_of(math::whole_float(i) / math::whole_float(n - 1))

@@ -4,3 +4,4 @@ pub mod Nearest
 pub mod Digit
 pub mod Quaternion
 pub mod Order
+pub mod Whole

@@ -1,8 +1,9 @@
 // FORMAT 9.1: f32 and its bits. All NaNs are one: any NaN pattern is read, and 7fc00000 is written.
-ghost use Rattle.std.specs.Prelude.{◌≡◌, ◌<◌, pos};
+ghost use Rattle.std.specs.Prelude.{◌≡◌, pos};
 ghost use Rattle.std.specs.Float.{binary32};
 ghost use Rattle.std.specs.Float.Ieee.{of_bits, of_int, to_bits};
 ghost use Rattle.std.specs.Float.Ieee.Scale.{finite};
+ghost use Rattle.math.specs.Whole.{Exact};
 
 // f32::from_bits
 pub fn of_bits(n: u32) -> f32
@@ -26,10 +27,10 @@ pub fn bits_of(x: f32) -> u32
 
 // A number of steps or points as a float.
 pub fn whole_float(n: usize) -> f32
-    requires { n < 65536 }
+    requires { Exact n }
     ensures { result ≡ of_int binary32 (pos n) }
 {
-    n as u16 as f32
+    n as u32 as f32
 }
 
 // f32::is_finite. A name of its own: the contract says it by `finite`, by which the definitions go, where the library has `float_is_finite`.

@@ -79,7 +79,7 @@ fn cap_centre(k: Cap) -> Vert
 // Vertex i of its ring.
 #[tactic(auto, unfolding(crate::specs::Cap::cap_vert))]
 fn cap_vert(pairs: &[f32], k: Cap, i: usize) -> Vert
-    requires { (k.pair < 2 ^ 24) × (i < 2 ^ 16) }
+    requires { k.pair + i < 2 ^ 32 }
     ensures { result ≡ cap_vert pairs.now k i }
 {
     let q = ring_at(pairs, k.pair + i);
@@ -137,7 +137,7 @@ impl Builder<'_> {
             k.first + 1,
             k.slices,
             |i|
-                requires { (k.pair < 2 ^ 24) × (i < 2 ^ 16) }
+                requires { k.pair + i < 2 ^ 32 }
                 ensures { result ≡ cap_vert pairs.exit.now k i ∷ [] }
             { [cap_vert(pairs, k, i)] },
         );

@@ -1,6 +1,7 @@
 // FORMAT 17.3, ring: points of a unit circle, from the pairs that are lent.
 ghost use Rattle.std.specs.Prelude.{◌≡◌, ◌+◌, ◌*◌, ◌<◌, ◌^◌, get_or};
 ghost use Rattle.std.specs.Float.{nan};
+ghost use Rattle.math.specs.Whole.{Exact};
 ghost use Rattle.parts.specs.Ring.{sine_at, cosine_at, ring_at, share_of};
 
 use lists::get_or;
@@ -50,7 +51,7 @@ pub fn ring_at(pairs: &[f32], k: usize) -> Ring
 // i of n steps.
 #[tactic(auto, unfolding(crate::specs::Ring::share_of))]
 pub fn share(i: usize, n: usize) -> f32
-    requires { (i < 65536) × (n < 65536) }
+    requires { Exact i × Exact n }
     ensures { result ≡ share_of i n }
 {
     math::whole_float(i) / math::whole_float(n)
