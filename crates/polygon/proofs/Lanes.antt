@@ -62,9 +62,9 @@ flag_from left n from k e l =
 
 pub cross_at : (ox oy ax ay : Float) (n : ℕ) (x y : List Float) → length x ≡ n → length y ≡ n → (k : ℕ) → k < n
     → get_or
-      (zip2 (sub binary32) (zip2 (mul binary32) (replicate n (sub binary32 ax ox)) (zip2 (sub binary32) y (replicate n oy)))
-        (zip2 (mul binary32) (replicate n (sub binary32 ay oy)) (zip2 (sub binary32) x (replicate n ox))))
-      k nan
+    (zip2 (sub binary32) (zip2 (mul binary32) (replicate n (sub binary32 ax ox)) (zip2 (sub binary32) y (replicate n oy)))
+    (zip2 (mul binary32) (replicate n (sub binary32 ay oy)) (zip2 (sub binary32) x (replicate n ox))))
+    k nan
     ≡ cross2 (ox, oy) (ax, ay) (get_or x k nan, get_or y k nan)
 unfolding cross2
 cross_at ox oy ax ay zero x y ex ey k l = absurd (omega arith)

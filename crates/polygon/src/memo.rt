@@ -86,7 +86,8 @@ fn dots_in(p: &[f32]) -> (f32x16, f32x16)
 fn crosses(o: Dot, a: Dot, x: f32x16, y: f32x16) -> f32x16
     ensures { (k : ℕ) → k < 16 → get_or result k nan ≡ cross2 (spot_of o) (spot_of a) (get_or x k nan, get_or y k nan) }
 {
-    f32x16::splat(a.x - o.x) * (y - f32x16::splat(o.y)) - f32x16::splat(a.y - o.y) * (x - f32x16::splat(o.x))
+    f32x16::splat(a.x - o.x) * (y - f32x16::splat(o.y))
+        - f32x16::splat(a.y - o.y) * (x - f32x16::splat(o.x))
 }
 
 // Whether one of sixteen corners is near: left, its flag being 1, and not to the right of two sides.
