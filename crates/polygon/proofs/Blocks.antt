@@ -22,6 +22,10 @@ use Rattle.polygon.specs.declared.memo.Dot.{Dot}
 
 -- ---- a corner that is not near is in no one's way
 
+pub not_left : (left : List ℕ) (g : ℕ → Bool) (j v : ℕ) → v ≡ get_or left j 0 → eqb v 1 ≡ false → hits left g j ≡ false
+unfolding hits
+not_left left g j v ev e = ap (λ (b : Bool). b && g j) (sym (ap (λ (n : ℕ). eqb n 1) ev) ∙ e)
+
 pub not_in_way : (P : ℕ → Pt) (left : List ℕ) (a b c : Dot) (j v : ℕ) (q : Pt) (u w : Float) → v ≡ get_or left j 0 → q ≡ P j
     → u ≡ cross2 (spot_of b) (spot_of c) q → w ≡ cross2 (spot_of c) (spot_of a) q → (eqb v 1 && (le +0 u && le +0 w)) ≡ false → hits left (λ i. in_way (dot_of P i) a b c) j ≡ false
 unfolding hits in_way point_in_tri

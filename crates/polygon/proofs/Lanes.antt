@@ -13,7 +13,8 @@ use lib.Lanes.{zip2, mask_l, top}
 use Rattle.std.specs.Int.Bits.{bit_and}
 use Rattle.std.proofs.lemmas.Grind.{elements}
 use Rattle.std.proofs.lemmas.List.{length-map, length-drop, take_all, get_or-take, get_or-drop}
-use Rattle.std.proofs.lemmas.Simd.{mask_l-mod}
+use Rattle.std.proofs.lemmas.Simd.{mask_l-mod, bitmask_splat, none_from_empty_mask}
+use mir.Syntax.{w32}
 use Rattle.polygon.specs.Ears.{+0, cross2}
 use Rattle.polygon.specs.Memo.{xy}
 
@@ -73,11 +74,23 @@ cross_at ox oy ax ay (suc n) (x ∷ xs) [] ex ey k l = absurd (omega arith)
 cross_at ox oy ax ay (suc n) (x ∷ xs) (y ∷ ys) ex ey zero l = refl
 cross_at ox oy ax ay (suc n) (x ∷ xs) (y ∷ ys) ex ey (suc k) l = cross_at ox oy ax ay n xs ys (omega arith) (omega arith) k (omega arith)
 
--- ---- whether one of them is near
+-- ---- whether one of them is left
 
 -- what a test gives in a lane: all ones, or 0
 abbrev lane : Bool → ℕ
 lane b = cond b 4294967295 0
+
+no_bit : (m : ℕ) → not (eqb m 0) ≡ false → m ≡ 0
+no_bit m e = eqb-true m 0 (not-false (eqb m 0) e)
+
+pub no_flag : (fs : List ℕ) → length fs ≡ 16 → not (eqb (mask_l (map (top 31) (zip2 (λ a b. lane (eqb a b)) fs (replicate 16 1))) % 2 ^ 64) 0) ≡ false
+    → (k : ℕ) → k < 16 → eqb (get_or fs k 0) 1 ≡ false
+no_flag fs e none k l =
+    let whole = take_all 16 fs (omega arith) in
+    let none_set = sym (bitmask_splat w32 eqb fs 16 1 e (omega arith)) ∙ no_bit _ none in
+    none_from_empty_mask (λ x. eqb x 1) fs 0 16 0 (omega arith) (ap (λ xs. mask_l (map (λ x. eqb x 1) xs)) whole ∙ none_set) k (omega arith) (omega arith)
+
+-- ---- whether one of them is near
 
 all_three : (a b c : Bool) → top 31 (bit_and (bit_and (lane a) (lane b)) (lane c)) ≡ (a && (b && c))
 all_three true true true = refl
@@ -117,9 +130,6 @@ none_near (suc n) (f ∷ fs) (u ∷ us) (v ∷ vs) ef eu ev e zero l =
     sym (all_three (eqb f 1) (le +0 u) (le +0 v)) ∙ (first_clear _ (mask_l (map (top 31) (nears n fs us vs))) e).0
 none_near (suc n) (f ∷ fs) (u ∷ us) (v ∷ vs) ef eu ev e (suc k) l =
     none_near n fs us vs (omega arith) (omega arith) (omega arith) (first_clear _ (mask_l (map (top 31) (nears n fs us vs))) e).1 k (omega arith)
-
-no_bit : (m : ℕ) → not (eqb m 0) ≡ false → m ≡ 0
-no_bit m e = eqb-true m 0 (not-false (eqb m 0) e)
 
 pub no_lane_near : (fs : List ℕ) (us vs : List Float) → length fs ≡ 16 → length us ≡ 16 → length vs ≡ 16 → not (eqb (mask_l (map (top 31) (nears 16 fs us vs)) % 2 ^ 64) 0) ≡ false
     → (k : ℕ) → k < 16 → (eqb (get_or fs k 0) 1 && (le +0 (get_or us k nan) && le +0 (get_or vs k nan))) ≡ false

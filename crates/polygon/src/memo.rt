@@ -90,6 +90,13 @@ fn crosses(o: Dot, a: Dot, x: f32x16, y: f32x16) -> f32x16
         - f32x16::splat(a.y - o.y) * (x - f32x16::splat(o.x))
 }
 
+// Whether one of sixteen corners is left, its flag being 1.
+fn is_any_left(left: u32x16) -> bool
+    ensures { result ≡ false → (k : ℕ) → k < 16 → eqb (get_or left k 0) 1 ≡ false }
+{
+    left.simd_eq(u32x16::splat(1)).any()
+}
+
 // Whether one of sixteen corners is near: left, its flag being 1, and not to the right of two sides.
 fn is_any_near(left: u32x16, bc: f32x16, ca: f32x16) -> bool
     ensures { result ≡ false → (k : ℕ) → k < 16 → (eqb (get_or left k 0) 1 && (le +0 (get_or bc k nan) && le +0 (get_or ca k nan))) ≡ false }
@@ -146,18 +153,22 @@ impl<'a> Field<'a> {
         )
     }
 
-    // Whether one of the block of corners from `from` on is near the triangle, by its sides b c and c a. Where none is, none of them lies in it.
+    // Whether one of the block of corners from `from` on is near the triangle, by its sides b c and c a. Where none is, none of them lies in it. Ears go
+    // one after another, so in many blocks none is left: those are passed before their coordinates are read.
     fn is_block_near(&self, from: usize) -> bool
         requires { from + 16 ≤ length self.now.left.now }
         ensures { result ≡ false → (j : ℕ) → from ≤ j → j < from + 16 → hits self.now.left.now (λ i. in_way (dot_of (xy self.now.p.now) i) self.now.t.a self.now.t.b self.now.t.c) j ≡ false }
     {
-        let (x, y) = dots_in(&self.p[from * 2..]);
         let left = u32x16::from_slice(&self.left[from..]);
+        if !is_any_left(left) {
+            return false;
+        }
+        let (x, y) = dots_in(&self.p[from * 2..]);
         let t = self.t;
         is_any_near(left, crosses(t.b, t.c, x, y), crosses(t.c, t.a, x, y))
     }
 
-    // As `scan`, of a block of corners: it is passed as a whole where none of them is near. The last block may be short: then some before it are looked at again.
+    // As `scan`, of a block of corners: it is passed as a whole where none of them is near. The last block may be short: then some before it are read again.
     fn scan_block(&self, from: usize, to: usize) -> Option<usize>
         requires { (from ≤ to) × (to ≤ from + 16) × (to ≤ length self.now.left.now) }
         ensures { result ≡ found to (first (hits self.now.left.now (λ j. in_way (dot_of (xy self.now.p.now) j) self.now.t.a self.now.t.b self.now.t.c)) (to - from) from) }
