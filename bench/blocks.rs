@@ -214,7 +214,8 @@ pub fn against_the_hash_at_the_end(entries: usize) -> Shape {
     let (normal, colour, s) = ([0.0, 1.0, 0.0], [0.5, 0.25, 0.75, 1.0], 0.5_f32);
     let first = |t: &u32| is_first(hash_of(normal.map(f32::to_bits), colour.map(f32::to_bits), [s.to_bits(), *t]), entries);
     let ends = (0.5_f32.to_bits()..).filter(first).take(entries);
-    let textures: Vec<f32> = ends.flat_map(|t| [s, f32::from_bits(t)]).collect();
+    // The vertex has 1 - t, which is exact from 0.5 on.
+    let textures: Vec<f32> = ends.flat_map(|t| [s, 1.0 - f32::from_bits(t)]).collect();
     let mut shape = faces(OWN, &[0.0; 3], &vec![0; entries]);
     shape.flags[flag::ALPHA] = true;
     for present in [flag::COLOURS, flag::NORMALS, flag::TEXTURE] {
