@@ -2,7 +2,7 @@
 use mathlib.Core.Path.{◌≡◌, refl, sym, ap, ◌∙◌}
 use mathlib.Core.Bool.{Bool, true, false}
 use mathlib.Core.List.{List, [], ◌∷◌}
-use mathlib.Core.Logic.{◌⊎◌, inl, inr, ⊎_elim}
+use mathlib.Core.Logic.{⊎_elim}
 use Prim.Native.Nat.{ℕ, zero, suc, ◌+◌, ◌-◌, ◌≤◌, ◌<◌}
 use native.Mathlib.Nat.{le_refl, eq-or-lt_of_le, sub-zero}
 use native.Mathlib.Numerals.{add-one}
@@ -100,20 +100,6 @@ module _ (f : ℕ → Bool) where
 
     pub block_past : e ≤ h → first f (n - k) k ≡ first f (n - e) e
     block_past l = past_to n k e up within (λ (j : ℕ) (a : k ≤ j) (b : j < e). before j a (omega arith))
-
--- one turn of a count: o is 1 where r, and number k passes f only there
-pub count_step : (f : ℕ → Bool) (from k s o : ℕ) (r : Bool) → (s ≡ 0 → (j : ℕ) → from ≤ j → j < k → f j ≡ false) → o ≡ pick r 1 0 → (r ≡ false → f k ≡ false)
-    → s + o ≡ 0 → (j : ℕ) → from ≤ j → j < k + 1 → f j ≡ false
-count_step f from k s o true h e q z j l b = let w : ⊥ = omega arith in absurd w
-count_step f from k s o false h e q z j l b = go (eq-or-lt_of_le {n = j} {m = k} (omega arith))
-  where
-    go : (j ≡ k) ⊎ (j < k) → f j ≡ false
-    go (inl w) = ap f w ∙ q refl
-    go (inr w) = h (omega arith) j l w
-
-pub one_small : (o : ℕ) (r : Bool) → o ≡ pick r 1 0 → o ≤ 1
-one_small o true e = omega arith
-one_small o false e = omega arith
 
 -- ---- a search in a list
 
