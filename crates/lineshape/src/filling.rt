@@ -6,9 +6,8 @@ ghost use Rattle.corners.specs.Laid.{Laid};
 ghost use Rattle.lineshape.specs.Shape.{tables_for, line_tables, Tabled};
 
 use corners::{CornerTables, corner_tables};
-use faceset::put_points;
 use lines::list_entries;
-use tables::wide;
+use tables::{put_points, wide};
 
 // Where the tables stand: the points, and then a row for each entry that names one of them.
 pub fn line_tables(points: u32, count: usize) -> CornerTables
