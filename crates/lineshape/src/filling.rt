@@ -6,9 +6,8 @@ ghost use Rattle.corners.specs.Laid.{Laid};
 ghost use Rattle.lineshape.specs.Shape.{tables_for, line_tables, Tabled};
 
 use corners::CornerTables;
-use faceset::put_points;
 use lines::list_entries;
-use tables::{plan_of, wide};
+use tables::{plan_of, put_points, wide};
 
 // Where the tables stand: those of a plan with a corner for each entry that names a point, and no faces.
 pub fn line_tables(points: u32, count: usize) -> CornerTables
