@@ -14,7 +14,7 @@ use Rattle.lists.specs.Parts.{Kept}
 use Rattle.tables.specs.Soups.{point_in, start_in, Sound}
 use Rattle.tables.proofs.Stays.{start_kept, sound_kept}
 use Rattle.vertices.specs.declared.places.Widths.{Widths}
-use Rattle.vertices.specs.Places.{Store}
+use Rattle.vertices.specs.Places.{colour_words, texture_words, Store}
 use Rattle.vertices.proofs.Turns.{made_few}
 use Rattle.corners.specs.declared.attributes.Attributes.{Attributes}
 use Rattle.corners.specs.declared.laid.CornerTables.{CornerTables}
@@ -57,7 +57,7 @@ module _ {L : Lent} {s : Shared} {t : Plan} {w : List ℕ} {o : Slices} (R : Rea
         points = sound.points;
         floats = R.floats;
         roomy = record {
-          widths = (omega arith, wide_le 4 s.widths.colour R.colour, wide_le 2 s.widths.texture R.texture);
+          widths = (omega arith, wide_le colour_words s.widths.colour R.colour, wide_le texture_words s.widths.texture R.texture);
           few = sound.room.few;
           sources = R.sources;
           normals = subst (λ (v : ℕ). v * t.count ≤ length o.normals) (sym e) R.normals;

@@ -33,7 +33,7 @@ use Rattle.faces.proofs.Joined.{made_joined}
 use Rattle.mending.specs.Mend.{mended_words}
 use Rattle.mending.proofs.MendedWords.{mended_slice}
 use Rattle.build.specs.declared.shared.Shared.{Shared}
-use Rattle.build.specs.Built.{Told, Wide, part, Ready, Meshed, Built}
+use Rattle.build.specs.Built.{Told, Wide, part, made_by, Ready, Meshed, Built}
 use Rattle.build.proofs.Asked.{store_of, tables_kept}
 
 -- an attribute that is made, or not
@@ -130,7 +130,7 @@ module _ {L : Lent} {s : Shared} {t : Plan} {w : List ℕ} {F : Frame} {fs : Lis
           → Meshed s.widths (mesh F fs) o
           (record { sources = st.sources; positions = x; normals = out; colours = st.colours; textures = st.textures; indices = o₁ })
           (record { vertices = n; indices = k })
-      unfolding mesh slices_of mesh_of
+      unfolding mesh slices_of mesh_of made_by
       meshed out e =
           let vs : List Key = vertices F fs in
           let is : List ℕ = indices_of F fs vs in
@@ -140,12 +140,14 @@ module _ {L : Lent} {s : Shared} {t : Plan} {w : List ℕ} {F : Frame} {fs : Lis
           record {
             vertices = C.count ∙ ap length vertices_told ∙ sym Z.sources;
             count = indices_made.count;
-            sources = sources_held H F is ∙ ap (λ (m : ℕ). S.sources ++ drop m o.sources) (sym Z.sources);
-            positions = positions_held H F is refl ∙ ap (λ (m : ℕ). S.positions ++ drop m o.positions) (sym Z.positions);
-            normals = normals_made out e ∙ ap (λ (m : ℕ). S.normals ++ drop m o.normals) (sym Z.normals);
-            colours = part_over 3 s.widths.colour (4 * length vs) S.colours st.colours o.colours R.colour Z.colours (colours_left H) (colours_held H F is);
-            textures = part_over 1 s.widths.texture (2 * length vs) S.textures st.textures o.textures R.texture Z.textures (textures_left H) (textures_held H F is);
-            indices = indices_made.made;
+            slices = λ i. record {
+              sources = (sources_held H F is ∙ ap (λ (m : ℕ). S.sources ++ drop m o.sources) (sym Z.sources)) i;
+              positions = (positions_held H F is refl ∙ ap (λ (m : ℕ). S.positions ++ drop m o.positions) (sym Z.positions)) i;
+              normals = (normals_made out e ∙ ap (λ (m : ℕ). S.normals ++ drop m o.normals) (sym Z.normals)) i;
+              colours = part_over 3 s.widths.colour (4 * length vs) S.colours st.colours o.colours R.colour Z.colours (colours_left H) (colours_held H F is) i;
+              textures = part_over 1 s.widths.texture (2 * length vs) S.textures st.textures o.textures R.texture Z.textures (textures_left H) (textures_held H F is) i;
+              indices = indices_made.made i;
+            };
           }
 
 -- FORMAT 5, 10.3, 11, 12: what the five calls leave, one after another
