@@ -15,11 +15,11 @@ use Rattle.lists.specs.Parts.{Kept}
 use Rattle.tables.specs.Soups.{point_in, start_in, Sound}
 use Rattle.tables.proofs.Stays.{start_kept, sound_kept}
 use Rattle.vertices.specs.declared.places.Widths.{Widths}
-use Rattle.vertices.specs.Places.{Store}
+use Rattle.vertices.specs.Places.{colour_words, texture_words, Store}
 use Rattle.vertices.proofs.Turns.{made_few}
 use Rattle.corners.specs.declared.attributes.Attributes.{Attributes}
 use Rattle.corners.specs.declared.laid.CornerTables.{CornerTables}
-use Rattle.corners.specs.Laid.{tables_at, tables_of}
+use Rattle.corners.specs.Laid.{tables_of}
 use Rattle.corners.specs.Corner.{Lent, point_at, key_in}
 use Rattle.corners.specs.Cornered as cornered
 use Rattle.corners.specs.Cornered.{vertices_in, Cornered}
@@ -27,7 +27,7 @@ use Rattle.faces.specs.Indices as indices
 use Rattle.faces.specs.Indices.{all_faces, Made}
 use Rattle.build.specs.declared.shared.Shared.{Shared}
 use Rattle.build.specs.Built.{Wide, Ready}
-use Rattle.build.proofs.Rooms.{all_sized}
+use Rattle.build.proofs.Indices.{all_sized}
 
 -- the slices that tell vertices apart
 abbrev pub store_of : Slices → Store
@@ -50,7 +50,7 @@ module _ {L : Lent} {s : Shared} {t : Plan} {w : List ℕ} {o : Slices} (R : Rea
   sound = R.soup.told.holds.sound
 
   pub corners_ready : cornered.Ready L s.widths w (tables_of t) (store_of o) o.positions
-  unfolding tables_of tables_at point_at point_in
+  unfolding tables_of point_at point_in
   corners_ready =
       let e = R.normal in
       record {
@@ -58,7 +58,7 @@ module _ {L : Lent} {s : Shared} {t : Plan} {w : List ℕ} {o : Slices} (R : Rea
         points = sound.points;
         floats = R.floats;
         roomy = record {
-          widths = (omega arith, wide_le 4 s.widths.colour R.colour, wide_le 2 s.widths.texture R.texture);
+          widths = (omega arith, wide_le colour_words s.widths.colour R.colour, wide_le texture_words s.widths.texture R.texture);
           few = sound.room.few;
           sources = R.sources;
           normals = subst (λ (v : ℕ). v * t.count ≤ length o.normals) (sym e) R.normals;
@@ -71,11 +71,11 @@ module _ {L : Lent} {s : Shared} {t : Plan} {w : List ℕ} {o : Slices} (R : Rea
   module _ {z : Store} {x₀ : List ℕ} {st : Store} {x w₁ : List ℕ} {n : ℕ}
       (C : Cornered L s.attributes s.widths (tables_of t) z x₀ w st x w₁ n) where
     few_vertices : n ≤ t.count
-    unfolding vertices_in tables_of tables_at
+    unfolding vertices_in tables_of
     few_vertices = omega (arith, C.count, made_few (key_in L s.attributes s.widths w (tables_of t)) t.count)
 
     pub tables_kept : Kept t.named w w₁
-    unfolding tables_of tables_at
+    unfolding tables_of
     tables_kept = C.kept
 
     sound_after : Sound w₁ t
@@ -107,7 +107,7 @@ module _ {L : Lent} {s : Shared} {t : Plan} {w : List ℕ} {o : Slices} (R : Rea
 
       pub mending_ready : length st.normals ≡ length o.normals
           → (n ≤ most) × (length (take (k - 0) (drop 0 o₁)) ≤ 3 * most) × (n ≤ length w₂) × (3 * n ≤ length st.normals)
-      unfolding tables_of tables_at
+      unfolding tables_of
       mending_ready e =
           let q = sound.room in
           let few : n ≤ t.count = few_vertices in

@@ -25,7 +25,7 @@ use Rattle.vertices.specs.Places.{Store}
 use Rattle.vertices.specs.Adding as adding
 use Rattle.vertices.specs.Adding.{made_of}
 use Rattle.vertices.proofs.Sliced.{sources_held, positions_held, normals_held, colours_held, textures_held, colours_left, textures_left}
-use Rattle.corners.specs.Laid.{tables_at, tables_of}
+use Rattle.corners.specs.Laid.{tables_of}
 use Rattle.corners.specs.Corner.{Lent, key_in}
 use Rattle.corners.specs.Cornered.{vertices_in, Cornered}
 use Rattle.faces.specs.Indices.{all_faces, Named, Made}
@@ -33,7 +33,7 @@ use Rattle.faces.proofs.Joined.{made_joined}
 use Rattle.mending.specs.Mend.{mended_words}
 use Rattle.mending.proofs.MendedWords.{mended_slice}
 use Rattle.build.specs.declared.shared.Shared.{Shared}
-use Rattle.build.specs.Built.{Told, Wide, part, Ready, Meshed, Built}
+use Rattle.build.specs.Built.{Told, Wide, part, made_by, Ready, Meshed, Built}
 use Rattle.build.proofs.Asked.{store_of, tables_kept}
 
 -- an attribute that is made, or not
@@ -52,7 +52,7 @@ module _ {L : Lent} {s : Shared} {t : Plan} {w : List ℕ} {F : Frame} {fs : Lis
 
   -- FORMAT 11: the vertices of all corners are the soup's
   vertices_told : vertices_in L s.attributes s.widths w (tables_of t) ≡ vertices F fs
-  unfolding vertices_in made_of vertices tables_of tables_at
+  unfolding vertices_in made_of vertices tables_of
   vertices_told = ap (firsts same_key []) T.keys
 
   -- corner i of kept face j, among all corners; its key
@@ -81,7 +81,7 @@ module _ {L : Lent} {s : Shared} {t : Plan} {w : List ℕ} {F : Frame} {fs : Lis
     holds_after = holds_kept (tables_kept R C) (le_refl t.named) T.holds
 
     named_told : (c : ℕ) → c < t.count → named_in w₁ t c ≡ place same_key (key_at c) (vertices F fs)
-    unfolding named_in tables_of tables_at
+    unfolding named_in tables_of
     named_told c h = C.named c h ∙ ap (place same_key (key_at c)) vertices_told
 
     named_after : Named w₁ t F fs (vertices F fs)
@@ -95,7 +95,7 @@ module _ {L : Lent} {s : Shared} {t : Plan} {w : List ℕ} {F : Frame} {fs : Lis
 
     -- FORMAT 5: the slices hold the soup's vertices, with normals still to be mended
     vertices_held : adding.Holds s.widths F.points (store_of o) o.positions st x (vertices F fs)
-    unfolding tables_of tables_at adding.points_in points_in
+    unfolding tables_of adding.points_in points_in
     vertices_held =
         subst (adding.Holds s.widths F.points (store_of o) o.positions st x) vertices_told
         (subst (λ (p : List ℕ). adding.Holds s.widths p (store_of o) o.positions st x (vertices_in L s.attributes s.widths w (tables_of t))) T.holds.points C.holds)
@@ -130,7 +130,7 @@ module _ {L : Lent} {s : Shared} {t : Plan} {w : List ℕ} {F : Frame} {fs : Lis
           → Meshed s.widths (mesh F fs) o
           (record { sources = st.sources; positions = x; normals = out; colours = st.colours; textures = st.textures; indices = o₁ })
           (record { vertices = n; indices = k })
-      unfolding mesh slices_of mesh_of
+      unfolding mesh slices_of mesh_of made_by
       meshed out e =
           let vs : List Key = vertices F fs in
           let is : List ℕ = indices_of F fs vs in
@@ -140,12 +140,14 @@ module _ {L : Lent} {s : Shared} {t : Plan} {w : List ℕ} {F : Frame} {fs : Lis
           record {
             vertices = C.count ∙ ap length vertices_told ∙ sym Z.sources;
             count = indices_made.count;
-            sources = sources_held H F is ∙ ap (λ (m : ℕ). S.sources ++ drop m o.sources) (sym Z.sources);
-            positions = positions_held H F is refl ∙ ap (λ (m : ℕ). S.positions ++ drop m o.positions) (sym Z.positions);
-            normals = normals_made out e ∙ ap (λ (m : ℕ). S.normals ++ drop m o.normals) (sym Z.normals);
-            colours = part_over 3 s.widths.colour (4 * length vs) S.colours st.colours o.colours R.colour Z.colours (colours_left H) (colours_held H F is);
-            textures = part_over 1 s.widths.texture (2 * length vs) S.textures st.textures o.textures R.texture Z.textures (textures_left H) (textures_held H F is);
-            indices = indices_made.made;
+            slices = λ i. record {
+              sources = (sources_held H F is ∙ ap (λ (m : ℕ). S.sources ++ drop m o.sources) (sym Z.sources)) i;
+              positions = (positions_held H F is refl ∙ ap (λ (m : ℕ). S.positions ++ drop m o.positions) (sym Z.positions)) i;
+              normals = (normals_made out e ∙ ap (λ (m : ℕ). S.normals ++ drop m o.normals) (sym Z.normals)) i;
+              colours = part_over 3 s.widths.colour (4 * length vs) S.colours st.colours o.colours R.colour Z.colours (colours_left H) (colours_held H F is) i;
+              textures = part_over 1 s.widths.texture (2 * length vs) S.textures st.textures o.textures R.texture Z.textures (textures_left H) (textures_held H F is) i;
+              indices = indices_made.made i;
+            };
           }
 
 -- FORMAT 5, 10.3, 11, 12: what the five calls leave, one after another

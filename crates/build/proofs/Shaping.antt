@@ -4,12 +4,13 @@ use mathlib.Core.Bool.{Bool, true, false, cond}
 use mathlib.Core.List.{List, []}
 use Prim.Native.Nat.{ℕ, suc}
 use Rattle.block.specs.declared.header.Header.{Header}
-use Rattle.mesh.specs.Mesh.{Mesh, Slices, slices_of, over}
+use Rattle.mesh.specs.Mesh.{Mesh, Slices, slices_of, over_all}
 use Rattle.mesh.specs.Result.{makes_normals, makes_colours, makes_textures, made_of}
 use Rattle.vertices.specs.declared.places.Widths.{Widths}
+use Rattle.vertices.specs.Places.{colour_words, texture_words}
 use Rattle.lent.specs.declared.Counts.{Counts}
 use Rattle.lent.specs.Lent.{Shaped}
-use Rattle.build.specs.Built.{part, Meshed}
+use Rattle.build.specs.Built.{part, made_by, Meshed}
 
 part_made : (b : Bool) (n : ℕ) (l : List ℕ) → part (cond b (suc n) 0) l ≡ cond b l []
 unfolding part
@@ -18,17 +19,16 @@ part_made false n l = refl
 
 -- of any kind but a line set, where the widths are those of what is made
 pub shaped_of : {h : Header} {widths : Widths} {M : Mesh} {o m : Slices} {r : Counts} → makes_normals h ≡ true
-    → widths.colour ≡ cond (makes_colours h) 4 0 → widths.texture ≡ cond (makes_textures h) 2 0 → Meshed widths M o m r → Shaped h M o m r
-unfolding made_of slices_of
-shaped_of {h} {widths} {M} {o} {m} {r} n c t B = record {
-  vertices = B.vertices;
-  count = B.count;
-  slices = λ i. record {
-    sources = B.sources i;
-    positions = B.positions i;
-    normals = (B.normals ∙ ap (λ (b : Bool). over (cond b (slices_of M).normals []) o.normals) (sym n)) i;
-    colours = (B.colours ∙ ap (λ (l : List ℕ). over l o.colours) (ap (λ (k : ℕ). part k (slices_of M).colours) c ∙ part_made (makes_colours h) 3 (slices_of M).colours)) i;
-    textures = (B.textures ∙ ap (λ (l : List ℕ). over l o.textures) (ap (λ (k : ℕ). part k (slices_of M).textures) t ∙ part_made (makes_textures h) 1 (slices_of M).textures)) i;
-    indices = B.indices i;
-  };
-}
+    → widths.colour ≡ cond (makes_colours h) colour_words 0 → widths.texture ≡ cond (makes_textures h) texture_words 0 → Meshed widths M o m r → Shaped h M o m r
+unfolding made_of made_by slices_of
+shaped_of {h} {widths} {M} {o} n c t B =
+    let S = slices_of M in
+    let made : made_by widths S ≡ made_of h S = λ i. record {
+      sources = S.sources;
+      positions = S.positions;
+      normals = cond (sym n i) S.normals [];
+      colours = (ap (λ (k : ℕ). part k S.colours) c ∙ part_made (makes_colours h) 3 S.colours) i;
+      textures = (ap (λ (k : ℕ). part k S.textures) t ∙ part_made (makes_textures h) 1 S.textures) i;
+      indices = S.indices;
+    } in
+    record { vertices = B.vertices; count = B.count; slices = B.slices ∙ ap (λ (l : Slices). over_all l o) made }

@@ -6,10 +6,11 @@ use Rattle.lists.specs.Loops.{tab}
 use Rattle.lists.specs.Lists.{join_n}
 use Rattle.mesh.specs.Soup.{Face, Frame}
 use Rattle.mesh.specs.Vertices.{keys_of}
-use Rattle.mesh.specs.Mesh.{Mesh, mesh, Slices, slices_of, over}
+use Rattle.mesh.specs.Mesh.{Mesh, mesh, Slices, slices_of, over_all}
 use Rattle.tables.specs.declared.layout.Plan.{Plan}
 use Rattle.tables.specs.Soups.{start_in, Holds}
 use Rattle.vertices.specs.declared.places.Widths.{Widths}
+use Rattle.vertices.specs.Places.{normal_words, colour_words, texture_words}
 use Rattle.corners.specs.Laid.{tables_of, Laid}
 use Rattle.corners.specs.Corner.{Lent, key_in}
 use Rattle.lent.specs.declared.Counts.{Counts}
@@ -40,9 +41,9 @@ pub record Ready (L : Lent) (s : Shared) (t : Plan) (w : List ℕ) (o : Slices) 
   pub low : t.owners ≤ 2 ^ 32
   pub scratch : t.places + t.count * 5 ≤ length w
   pub long : (g : ℕ) → g < t.faces → start_in w t g + 3 ≤ start_in w t (suc g)
-  pub normal : s.widths.normal ≡ 3
-  pub colour : Wide 4 s.widths.colour
-  pub texture : Wide 2 s.widths.texture
+  pub normal : s.widths.normal ≡ normal_words
+  pub colour : Wide colour_words s.widths.colour
+  pub texture : Wide texture_words s.widths.texture
   pub sources : t.count ≤ length o.sources
   pub positions : 3 * t.count ≤ length o.positions
   pub normals : 3 * t.count ≤ length o.normals
@@ -56,16 +57,23 @@ unfoldable pub part : ℕ → List ℕ → List ℕ
 part zero l = []
 part (suc n) l = l
 
+-- FORMAT 5: of the slices of a mesh, what is made: normals always
+unfoldable pub made_by : Widths → Slices → Slices
+made_by widths S =
+    record {
+      sources = S.sources;
+      positions = S.positions;
+      normals = S.normals;
+      colours = part widths.colour S.colours;
+      textures = part widths.texture S.textures;
+      indices = S.indices;
+    }
+
 -- FORMAT 5: the slices o became m, which hold the mesh M
 pub record Meshed (widths : Widths) (M : Mesh) (o m : Slices) (r : Counts) : Type 0 where
   pub vertices : r.vertices ≡ length (slices_of M).sources
   pub count : r.indices ≡ length (slices_of M).indices
-  pub sources : m.sources ≡ over (slices_of M).sources o.sources
-  pub positions : m.positions ≡ over (slices_of M).positions o.positions
-  pub normals : m.normals ≡ over (slices_of M).normals o.normals
-  pub colours : m.colours ≡ over (part widths.colour (slices_of M).colours) o.colours
-  pub textures : m.textures ≡ over (part widths.texture (slices_of M).textures) o.textures
-  pub indices : m.indices ≡ over (slices_of M).indices o.indices
+  pub slices : m ≡ over_all (made_by widths (slices_of M)) o
 
 -- FORMAT 5: the slices hold the mesh of the soup that the tables w told, and the working slices became w' and f', which hold zeros
 pub record Built (L : Lent) (s : Shared) (t : Plan) (w : List ℕ) (o m : Slices) (w' : List ℕ) (f' : List Float) (r : Counts) : Type 0 where

@@ -18,7 +18,7 @@ use Rattle.lists.proofs.Splices.{put_kept, put_same}
 use Rattle.vertices.specs.declared.places.Widths.{Widths}
 use Rattle.vertices.specs.declared.places.Chains.{Chains}
 use Rattle.vertices.specs.Places as places
-use Rattle.vertices.specs.Places.{Store}
+use Rattle.vertices.specs.Places.{key_words, Store}
 use Rattle.vertices.specs.Search.{corner_key}
 use Rattle.vertices.specs.Adding as adding
 use Rattle.vertices.specs.Adding.{points_in, Vertexed}
@@ -162,7 +162,7 @@ module _ {L : Lent} {a : Attributes} {widths : Widths} {t : CornerTables} {z : S
 
     module _ (h : c < t.count) where
       -- what is asked for corner c
-      pub turned_ready : (l : List ℕ) → 9 ≤ length l → adding.Ready widths (chains_of t) s x m n (point_at m t c) l
+      pub turned_ready : (l : List ℕ) → key_words ≤ length l → adding.Ready widths (chains_of t) s x m n (point_at m t c) l
       turned_ready l g =
           made_ready _ _ _ _ _ _ _ c n s x m U.made t.count (chains_laid R.laid) (point_at m t c) l R.roomy R.positions h
           (rw (point_same R.laid U.same c h) (R.points c h)) g

@@ -53,7 +53,7 @@ normal_at L a w t c =
 unfoldable pub colour_at : Lent → Attributes → List ℕ → CornerTables → ℕ → Words4
 colour_at L a w t c = get4_at L.block L.coord a.colours a.alpha (place_at w t c) (number_at w t c) a.missing
 
--- FORMAT 11: the nine words of a corner
+-- FORMAT 11: the words of a corner's key
 unfoldable pub words_at : Lent → Attributes → List ℕ → CornerTables → ℕ → List ℕ
 words_at L a w t c = words3 (normal_at L a w t c) ++ words4 (colour_at L a w t c) ++ words2 (texture_at w t c)
 

@@ -8,7 +8,7 @@ use Rattle.corners.specs.declared.laid.CornerTables.{CornerTables}
 use Rattle.corners.specs.Laid.{chains_of}
 use Rattle.corners.specs.Corner.{point_at}
 
--- FORMAT 11, PolyMesh::build (local.push): with n vertices made, the key of corner c, of the nine words l, gets a number, which leaves the words `table`; the number
+-- FORMAT 11, PolyMesh::build (local.push): with n vertices made, the key of corner c, of the words l, gets a number, which leaves the words `table`; the number
 -- is then written among the vertex numbers, and there are n' vertices
 pub record Numbered (widths : Widths) (t : CornerTables) (n c : ℕ) (l : List ℕ) (s : Store) (x m : List ℕ) (s' : Store) (x' m' : List ℕ) (n' : ℕ) : Type 0 where
   pub number : ℕ

@@ -1,4 +1,4 @@
-// The point of a corner and the nine words of its key (FORMAT 7, 11): three of the normal, four of the colour, two of the texture.
+// The point of a corner and the words of its key (FORMAT 7, 11): those of the normal, the colour and the texture.
 ghost use Rattle.std.specs.Prelude.{◌≡◌, ◌+◌, ◌*◌, ◌≤◌, ◌<◌, length};
 ghost use Rattle.corners.specs.Laid.{Laid};
 ghost use Rattle.corners.specs.Corner.{point_at, place_at, number_at, texture_at, generated_at, normal_at, colour_at, words_at};
@@ -9,6 +9,7 @@ use crate::laid::CornerTables;
 use bits::{Words2, Words3, Words4};
 use block::{CornerNumber, PointNumber, get4};
 use tables::wide;
+use vertices::KEY_WORDS;
 
 // A corner, with the tables that say what it is.
 #[derive(Clone, Copy)]
@@ -85,7 +86,7 @@ impl<'a> Corner<'a> {
         )
     }
 
-    pub fn key(&self, g: &Given<'_>) -> [u32; 9]
+    pub fn key(&self, g: &Given<'_>) -> [u32; KEY_WORDS]
         requires { 3 * self.now.tables.now.count ≤ length g.now.floats.now }
         ensures { result ≡ words_at (lent_in g.now) g.now.attributes self.now.work.now self.now.tables.now self.now.c.0 }
     {

@@ -14,7 +14,7 @@ use block::{CornerNumber, VertexNumber};
 use tables::{fill, narrow};
 use vertices::{Chains, Widths, count_after, vertex};
 
-// Corner c, with the nine words key, gets its vertex number, where n vertices are made. How many there are then.
+// Corner c, with the words of its key, gets its vertex number, where n vertices are made. How many there are then.
 // Over slices, as `all_vertices` below.
 fn number_corner(
     sources: &mut [u32],

@@ -5,11 +5,10 @@ use mathlib.Core.List.{List, [], ◌∷◌, ◌++◌}
 use Prim.Native.Nat.{ℕ, suc, ◌+◌, ◌-◌, ◌*◌, ◌≤◌, ◌<◌, zero}
 use native.Mathlib.Omega.{arith}
 use borrow.Rule.Slice.PartMut.{put_mid}
-use lib.ListN.{length, get_or, set, take, drop, take-append-drop}
-use lib.Seq.{sets, length-sets, get_or-take, get_or-drop}
+use lib.ListN.{length, get_or, take, drop, take-append-drop}
+use lib.Seq.{get_or-take, get_or-drop}
 use Rattle.lists.proofs.Lists.{drop_three}
-use Rattle.lists.proofs.Stores.{drop_sets}
-use Rattle.lists.proofs.Splices.{sets_spliced, put_part, splice_over, mid_spliced}
+use Rattle.lists.proofs.Splices.{splice_start, splice_join, splice_over, mid_spliced, put_size, put_part, put_above}
 use Rattle.lists.specs.Parts.{spliced}
 use Rattle.polygon.specs.Ears.{Tri, triple, flat}
 use Rattle.polygon.proofs.Whole.{length_flat}
@@ -28,14 +27,6 @@ length_threes (suc n) [] = omega arith
 length_threes (suc n) (a ∷ []) = omega arith
 length_threes (suc n) (a ∷ b ∷ []) = omega arith
 length_threes (suc n) (a ∷ b ∷ c ∷ l) = omega (arith, length_threes n l)
-
--- three words written, and no others
-pub three_set : (l : List ℕ) (a b c : ℕ) → length l ≡ 3 → set (set (set l 0 a) 1 b) 2 c ≡ a ∷ b ∷ c ∷ []
-three_set [] a b c h = cc
-three_set (x ∷ []) a b c h = cc
-three_set (x ∷ y ∷ []) a b c h = cc
-three_set (x ∷ y ∷ z ∷ []) a b c h = refl
-three_set (x ∷ y ∷ z ∷ u ∷ l) a b c h = let e : ⊥ = omega arith in absurd e
 
 -- ---- the loop that renames
 
@@ -56,44 +47,42 @@ module _ (ccw : Bool) (named : List ℕ) where
   pub record Renaming (o₀ o : List ℕ) (at n i : ℕ) : Type 0 where
     pub within : i ≤ n
     pub long : length o ≡ length o₀
-    pub rest : sets o (at + i * 3) (numbered ccw named (threes (n - i) (drop (at + i * 3) o))) ≡ sets o₀ at (numbered ccw named (threes n (drop at o₀)))
+    pub rest : spliced o (at + i * 3) (numbered ccw named (threes (n - i) (drop (at + i * 3) o))) ≡ spliced o₀ at (numbered ccw named (threes n (drop at o₀)))
 
   pub renaming_go : (o₀ o o' : List ℕ) (at n i k : ℕ) → i < n → k ≡ at + i * 3 → at + n * 3 ≤ length o₀
       → o' ≡ spliced o k (numbered ccw named (triple (get_or o k 0) (get_or o (k + 1) 0) (get_or o (k + 2) 0) ∷ []))
       → Renaming o₀ o at n i → Renaming o₀ o' at n (i + 1)
   unfolding numbered wound threes
-  renaming_go o₀ o o' at n i k h q b e₀ R =
+  renaming_go o₀ o o' at n i k h q b e R =
       let T : Tri = triple (get_or o k 0) (get_or o (k + 1) 0) (get_or o (k + 2) 0) in
       let m : ℕ = n - (i + 1) in
       let r : List ℕ = drop (k + 3) o in
-      let l : length o ≡ length o₀ = R.long in
-      let e : o' ≡ sets o k (numbered ccw named (T ∷ [])) = e₀ ∙ sym (sets_spliced o k (numbered ccw named (T ∷ [])) (omega (arith, length_numbered ccw named (T ∷ [])))) in
+      let x : length (numbered ccw named (T ∷ [])) ≡ 3 = length_numbered ccw named (T ∷ []) in
+      let g : k + 3 ≤ length o = omega (arith, R.long) in
       let f : n - i ≡ suc (n - (i + 1)) = omega arith in
       let s : at + (i + 1) * 3 ≡ k + 3 = omega arith in
-      let u : suc (suc (suc k)) ≡ k + 3 = omega arith in
-      let v : k + 3 ≤ k + 3 = omega arith in
-      let d : drop (k + 3) o' ≡ drop (k + 3) o = ap (drop (k + 3)) e ∙ drop_sets (numbered ccw named (T ∷ [])) o k (k + 3) v in
       record {
         within = omega arith;
-        long = ap length e ∙ length-sets o k (numbered ccw named (T ∷ [])) ∙ l;
+        long = put_size o k (numbered ccw named (T ∷ [])) e x g ∙ R.long;
         rest =
-            ap (λ (j : ℕ). sets o' j (numbered ccw named (threes m (drop j o')))) s
-            ∙ ap (λ (x : List ℕ). sets o' (k + 3) (numbered ccw named (threes m x))) d
-            ∙ ap (λ (x : List ℕ). sets x (k + 3) (numbered ccw named (threes m r))) e
-            ∙ ap (λ (j : ℕ). sets (sets o k (numbered ccw named (T ∷ []))) j (numbered ccw named (threes m r))) (sym u)
-            ∙ ap (λ (j : ℕ). sets o k (numbered ccw named (threes j (get_or o k 0 ∷ get_or o (k + 1) 0 ∷ get_or o (k + 2) 0 ∷ r)))) (sym f)
-            ∙ ap (λ (x : List ℕ). sets o k (numbered ccw named (threes (n - i) x))) (sym (drop_three 0 o k (omega arith)))
-            ∙ ap (λ (j : ℕ). sets o j (numbered ccw named (threes (n - i) (drop j o)))) q
+            ap (λ (j : ℕ). spliced o' j (numbered ccw named (threes m (drop j o')))) s
+            ∙ ap (λ (x : List ℕ). spliced o' (k + 3) (numbered ccw named (threes m x))) (put_above o k (numbered ccw named (T ∷ [])) e x g)
+            ∙ ap (λ (x : List ℕ). spliced x (k + 3) (numbered ccw named (threes m r))) e
+            ∙ ap (λ (j : ℕ). spliced (spliced o k (numbered ccw named (T ∷ []))) (k + j) (numbered ccw named (threes m r))) (sym x)
+            ∙ sym (splice_join o k (numbered ccw named (T ∷ [])) (numbered ccw named (threes m r)))
+            ∙ ap (λ (j : ℕ). spliced o k (numbered ccw named (threes j (get_or o k 0 ∷ get_or o (k + 1) 0 ∷ get_or o (k + 2) 0 ∷ r)))) (sym f)
+            ∙ ap (λ (x : List ℕ). spliced o k (numbered ccw named (threes (n - i) x))) (sym (drop_three 0 o k (omega arith)))
+            ∙ ap (λ (j : ℕ). spliced o j (numbered ccw named (threes (n - i) (drop j o)))) q
             ∙ R.rest;
       }
 
-  pub renaming_end : (o₀ o : List ℕ) (at n i : ℕ) → n ≤ i → at + n * 3 ≤ length o₀ → Renaming o₀ o at n i → o ≡ spliced o₀ at (numbered ccw named (threes n (drop at o₀)))
+  pub renaming_end : (o₀ o : List ℕ) (at n i : ℕ) → n ≤ i → Renaming o₀ o at n i → o ≡ spliced o₀ at (numbered ccw named (threes n (drop at o₀)))
   unfolding numbered wound threes
-  renaming_end o₀ o at n i h b R =
+  renaming_end o₀ o at n i h R =
       let z : n - i ≡ 0 = omega arith in
-      sym (ap (λ (j : ℕ). sets o (at + i * 3) (numbered ccw named (threes j (drop (at + i * 3) o)))) z) ∙ R.rest
-      ∙ sets_spliced o₀ at (numbered ccw named (threes n (drop at o₀)))
-      (omega (arith, length_numbered ccw named (threes n (drop at o₀)), length_threes n (drop at o₀), b))
+      splice_start o (at + i * 3)
+      ∙ sym (ap (λ (j : ℕ). spliced o (at + i * 3) (numbered ccw named (threes j (drop (at + i * 3) o)))) z)
+      ∙ R.rest
 
   -- ---- all of a face
 

@@ -29,6 +29,7 @@ use Rattle.lists.proofs.Lists.{get_or_map_lt}
 use Rattle.lists.specs.Parts.{seg}
 use Rattle.lists.proofs.Keep.{kept_seg}
 use Rattle.vertices.specs.declared.places.Widths.{Widths}
+use Rattle.vertices.specs.Places.{colour_words, colour_start, texture_start}
 use Rattle.vertices.specs.Search.{two, three, four, corner_key}
 use Rattle.vertices.specs.Adding.{points_in}
 use Rattle.corners.specs.declared.attributes.Attributes.{Attributes}
@@ -50,7 +51,7 @@ pub record Coloured (missing : Words4) (bs : List ℕ) (L : Lent) (a : Attribute
   pub absent : a.missing ≡ missing
   pub normal : widths.normal ≡ 0
   pub texture : widths.texture ≡ 0
-  pub colour : widths.colour ≡ cond (header_of bs).colors 4 0
+  pub colour : widths.colour ≡ cond (header_of bs).colors colour_words 0
 
 -- ---- the parts of a key
 
@@ -58,11 +59,11 @@ normal_none : (l : List ℕ) (u : ℕ) → u ≡ 0 → three (seg l 0 u) ≡ no3
 unfolding seg
 normal_none l u e = rw e refl
 
-texture_none : (l : List ℕ) (u : ℕ) → u ≡ 0 → two (seg l 7 u) ≡ no2
+texture_none : (l : List ℕ) (u : ℕ) → u ≡ 0 → two (seg l texture_start u) ≡ no2
 unfolding seg
 texture_none l u e = rw e refl
 
-colour_made : (n : Words3) (k : Words4) (x : Words2) (u : ℕ) (b : Bool) → u ≡ cond b 4 0 → four (seg (words3 n ++ words4 k ++ words2 x) 3 u) ≡ cond b k no4
+colour_made : (n : Words3) (k : Words4) (x : Words2) (u : ℕ) (b : Bool) → u ≡ cond b colour_words 0 → four (seg (words3 n ++ words4 k ++ words2 x) colour_start u) ≡ cond b k no4
 unfolding seg
 colour_made n k x u true e = rw e refl
 colour_made n k x u false e = rw e refl
@@ -83,7 +84,7 @@ module _ {missing : Words4} {bs : List ℕ} {L : Lent} {a : Attributes} {widths 
     u : LineUse
     u = get_or (line_uses (point_count (rest_of bs).head) (entries L.coord)) c no_use
 
-    colour_is : four (seg (words_at L a w t c) 3 widths.colour) ≡ colour_of missing (rest_of bs) L.coord u.number u.place
+    colour_is : four (seg (words_at L a w t c) colour_start widths.colour) ≡ colour_of missing (rest_of bs) L.coord u.number u.place
     unfolding u words_at colour_at
     colour_is =
         colour_made (normal_at L a w t c) (colour_at L a w t c) (texture_at w t c) widths.colour (header_of bs).colors A.colour

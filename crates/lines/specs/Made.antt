@@ -12,7 +12,7 @@ use Rattle.mesh.specs.FaceSet.{Rest, point_count}
 use Rattle.mesh.specs.Lines.{line_keys, lines_of}
 use Rattle.mesh.specs.Sizes.{lines_after}
 use Rattle.vertices.specs.declared.places.Widths.{Widths}
-use Rattle.vertices.specs.Places.{Store}
+use Rattle.vertices.specs.Places.{colour_words, Store}
 use Rattle.vertices.specs.Adding.{points_in}
 use Rattle.corners.specs.declared.attributes.Attributes.{Attributes}
 use Rattle.corners.specs.declared.laid.CornerTables.{CornerTables}
@@ -37,7 +37,7 @@ pub record Ready (L : Lent) (a : Attributes) (widths : Widths) (w : List ℕ) (t
   pub corners : cornered.Ready L widths w t s x
   pub normal : widths.normal ≡ 0
   pub texture : widths.texture ≡ 0
-  pub colour : (widths.colour ≡ 0) ⊎ (widths.colour ≡ 4)
+  pub colour : (widths.colour ≡ 0) ⊎ (widths.colour ≡ colour_words)
   pub room : 2 * sum_over (lines_after p false) (runs (entries L.coord)) ≤ length o
   pub missing : Words4
   pub rest : Rest
@@ -48,7 +48,7 @@ pub record Lined (S : Slices) (widths : Widths) (z : Store) (x₀ o₀ : List �
   pub sources : s.sources ≡ S.sources ++ drop (length S.sources) z.sources
   pub positions : x ≡ S.positions ++ drop (length S.positions) x₀
   pub normals : s.normals ≡ z.normals
-  pub colours : widths.colour ≡ 4 → s.colours ≡ S.colours ++ drop (length S.colours) z.colours
+  pub colours : widths.colour ≡ colour_words → s.colours ≡ S.colours ++ drop (length S.colours) z.colours
   pub uncoloured : widths.colour ≡ 0 → s.colours ≡ z.colours
   pub textures : s.textures ≡ z.textures
   pub indices : o ≡ S.indices ++ drop (length S.indices) o₀

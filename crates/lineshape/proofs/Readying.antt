@@ -19,7 +19,7 @@ use Rattle.mesh.specs.FaceSet.{rest_of, coord_in, point_count}
 use Rattle.mesh.specs.Lines.{lines_of, line_set_mesh}
 use Rattle.mesh.specs.Result.{makes_normals, makes_colours, makes_textures, made_of}
 use Rattle.vertices.specs.declared.places.Widths.{Widths}
-use Rattle.vertices.specs.Places.{Store, Roomy}
+use Rattle.vertices.specs.Places.{colour_words, Store, Roomy}
 use Rattle.corners.specs.declared.attributes.Attributes.{Attributes}
 use Rattle.corners.specs.declared.laid.CornerTables.{CornerTables}
 use Rattle.corners.specs.Laid.{Laid}
@@ -38,7 +38,7 @@ use Rattle.lineshape.proofs.Bounds.{points_whole, enough, corners_low, laid_at}
 unmade : (b : Bool) (made held : List ℕ) {l : List ℕ} → b ≡ false → l ≡ held → l ≡ over (cond b made []) held
 unmade b made held e h = h ∙ ap (λ (b : Bool). over (cond b made []) held) (sym e)
 
-made_where : (b : Bool) (u : ℕ) (made held : List ℕ) {l : List ℕ} → u ≡ cond b 4 0 → (u ≡ 4 → l ≡ over made held) → (u ≡ 0 → l ≡ held) → l ≡ over (cond b made []) held
+made_where : (b : Bool) (u : ℕ) (made held : List ℕ) {l : List ℕ} → u ≡ cond b colour_words 0 → (u ≡ colour_words → l ≡ over made held) → (u ≡ 0 → l ≡ held) → l ≡ over (cond b made []) held
 made_where true u made held e f g = f e
 made_where false u made held e f g = g e
 
@@ -101,11 +101,11 @@ module _ (missing : Words4) (d : List Float) {bs : List ℕ} {h : Header} {s : S
       let n = (stand (point_count h) (entries coord) e).3 in
       subst (λ (x : Widths). Roomy x (store_of o) t.count) (sym v)
       (record {
-        widths = (omega arith, wide_most h.colors 4, omega arith);
+        widths = (omega arith, wide_most h.colors colour_words, omega arith);
         few = omega (arith, n, corners_low A c);
         sources = omega (arith, n, N.sources);
         normals = omega arith;
-        colours = wide_few h.colors 4 t.count (length o.colours) (omega (arith, n, N.colours));
+        colours = wide_few h.colors colour_words t.count (length o.colours) (omega (arith, n, N.colours));
         textures = omega arith;
       })
 
@@ -124,7 +124,7 @@ module _ (missing : Words4) (d : List Float) {bs : List ℕ} {h : Header} {s : S
         };
         normal = coloured.normal;
         texture = coloured.texture;
-        colour = subst (λ (x : Widths). (x.colour ≡ 0) ⊎ (x.colour ≡ 4)) (sym v) (wide_by h.colors 4);
+        colour = subst (λ (x : Widths). (x.colour ≡ 0) ⊎ (x.colour ≡ colour_words)) (sym v) (wide_by h.colors colour_words);
         room = N.indices;
         missing = missing;
         rest = rest_of bs;

@@ -28,9 +28,15 @@ fn line_widths(h: Header) -> Widths
     }
 }
 
-// The mesh of an accepted line set, of which `count` entries name a point, into the six slices; the working slices are left with zeros. It reads no settings, so
-// it takes no `AcceptedBlock`.
-pub fn make_line_set(block: &[u8], h: Header, count: usize, missing: Words4, b: &mut Buffers<'_>) -> Counts
+// The mesh of an accepted line set, of which `count` entries name a point, into the six slices; the working slices are left with zeros. It reads no settings,
+// so it takes no `AcceptedBlock`.
+pub fn make_line_set(
+    block: &[u8],
+    h: Header,
+    count: usize,
+    missing: Words4,
+    b: &mut Buffers<'_>,
+) -> Counts
     requires { Asked LineSet block.now h (settings_of block.now) (slices_in b.old) (length b.old.words.now) (length b.old.floats.now)
         × (count ≡ (sizes_of block.now h).corners) }
     ensures same { Same b.old b.new }

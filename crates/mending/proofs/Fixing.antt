@@ -8,7 +8,6 @@ use lib.Dec.{ltb}
 use borrow.Author.Tests.{ltb-true, ltb-false}
 use lib.ListN.{length, get_or, drop}
 use lib.Ieee.{Float, binary32, sub, lt}
-use lib.Seq.{sets, sets-eq}
 use Rattle.bits.specs.declared.Words3.{Words3}
 use Rattle.math.specs.declared.vector.V3.{V3}
 use Rattle.std.specs.Prelude.{Option}
@@ -18,6 +17,8 @@ use Rattle.math.specs.Order.{magnitude}
 use Rattle.lists.specs.Loops.{tab}
 use Rattle.lists.proofs.Tabs.{length_tab, map_tab}
 use Rattle.lists.specs.Lists.{map_n, flat}
+use Rattle.lists.specs.Parts.{spliced}
+use Rattle.lists.proofs.Splices.{splice_front}
 use Rattle.mesh.specs.Words.{words3, floats, bits, point_words}
 use Rattle.mesh.specs.Mend.{visible, or_words, renorm, vertex_spot, first_normal, mend_by, mended}
 use Rattle.mesh.specs.Mesh.{mesh_of}
@@ -103,18 +104,18 @@ module _ (ps is ns₀ : List ℕ) (count : ℕ) where
   unfolding point_words
   words_same ns v p = λ i. record { x = p (v * 3) (omega arith) i; y = p (v * 3 + 1) (omega arith) i; z = p (v * 3 + 2) (omega arith) i }
 
-  pub mending_go : (ns ns' : List ℕ) (v : ℕ) (w r : Words3) → v < count
+  pub mending_go : (ns ns' : List ℕ) (v : ℕ) (w r : Words3) → 3 * count ≤ length ns₀ → v < count
       → w ≡ point_words ns v → r ≡ mend_by (unit_of (floats w)) w (first_normal (lent_frame ps) (lent_keys [] count) v is)
-      → length ns' ≡ length ns → ns' ≡ sets ns (v * 3) (words3 r)
+      → length ns' ≡ length ns → ns' ≡ spliced ns (v * 3) (words3 r)
       → Mending ps is ns₀ count ns v → Mending ps is ns₀ count ns' (v + 1)
   unfolding mended lent_key
-  mending_go ns ns' v w r h ew er el es M =
+  mending_go ns ns' v w r b h ew er el es M =
       let f : ℕ → Words3 = one ps is ns₀ count in
       let e : r ≡ f v =
       er ∙ ap (λ (m : Words3). mend_by (unit_of (floats m)) m (first_normal (lent_frame ps) (lent_keys [] count) v is)) (ew ∙ words_same ns v (λ j g. M.past j (omega arith)))
       ∙ ap (mend_by (unit_of (floats (point_words ns₀ v))) (point_words ns₀ v)) (first_lent v) in
       let z : v * 3 ≡ 0 + v * 3 = omega arith in
-      threes_go (λ v. words3 (f v)) (λ v. refl) 0 count ns₀ ns ns' v h el (es ∙ (λ i. sets ns (z i) (words3 (e i)))) M
+      threes_go (λ v. words3 (f v)) (λ v. refl) 0 count ns₀ ns ns' v (omega arith) h el (es ∙ (λ i. spliced ns (z i) (words3 (e i)))) M
 
   length_mended : length (mended_words ps is ns₀ count) ≡ 3 * count
   unfolding mended_words mesh_of lent_keys
@@ -122,11 +123,9 @@ module _ (ps is ns₀ : List ℕ) (count : ℕ) where
       length_words words3 3 (λ x. refl) (map_n (mended (lent_frame ps) (lent_keys ns₀ count) is) 0 (lent_keys ns₀ count))
       ∙ ap (λ (k : ℕ). 3 * k) (length_map_n (mended (lent_frame ps) (lent_keys ns₀ count) is) 0 (lent_keys ns₀ count) ∙ length_tab (lent_key ns₀) count 0)
 
-  pub mending_end : (ns : List ℕ) (v : ℕ) → count ≤ v → 3 * count ≤ length ns₀ → Mending ps is ns₀ count ns v
+  pub mending_end : (ns : List ℕ) (v : ℕ) → count ≤ v → Mending ps is ns₀ count ns v
       → ns ≡ mended_words ps is ns₀ count ++ drop (3 * count) ns₀
-  mending_end ns v h b M =
+  mending_end ns v h M =
       let made = mended_words ps is ns₀ count in
-      let g : length made ≡ 3 * count = length_mended in
-      let z : 0 + length made ≡ 3 * count = omega arith in
-      threes_end (λ v. words3 (one ps is ns₀ count v)) (λ v. refl) 0 count ns₀ ns v h M ∙ ap (sets ns₀ 0) mended_tab ∙ sets-eq made ns₀ 0 (omega arith)
-      ∙ ap (λ (k : ℕ). made ++ drop k ns₀) z
+      threes_end (λ v. words3 (one ps is ns₀ count v)) (λ v. refl) 0 count ns₀ ns v h M ∙ ap (spliced ns₀ 0) mended_tab ∙ splice_front ns₀ made
+      ∙ ap (λ (k : ℕ). made ++ drop k ns₀) length_mended

@@ -7,6 +7,7 @@ use Prim.Native.Nat.{ℕ, ◌≤◌, ◌<◌}
 use native.Mathlib.Omega.{arith}
 use lib.ListN.{length, get_or}
 use Rattle.std.proofs.lemmas.Option.{none-some}
+use Rattle.lists.proofs.Options.{is_some_then}
 use Rattle.bits.specs.declared.Words2.{Words2}
 use Rattle.bits.specs.declared.Words4.{Words4}
 use Rattle.block.specs.declared.crease.CreaseRule.{CreaseRule}
@@ -17,8 +18,9 @@ use Rattle.mesh.specs.Soup.{Corner, gathered}
 use Rattle.mesh.specs.FaceSet.{Rest, corner_by}
 use Rattle.mesh.specs.Result.{makes_normals, makes_colours, makes_textures}
 use Rattle.tables.specs.Listed.{Use, Listing, no_use, no_listing, uses_at}
+use Rattle.vertices.specs.Places.{colour_words, texture_words}
 use Rattle.soups.specs.Attributes.{attributes_of, face_widths, Streamed}
-use Rattle.soups.proofs.Streams.{is_some_then, corner_use, reads_of, untextured}
+use Rattle.soups.proofs.Streams.{corner_use, reads_of, untextured}
 use Rattle.texture.specs.Corner.{texture_in}
 use Rattle.texture.proofs.Streams.{texture_rest}
 use Rattle.shaping.specs.Shared.{listed_shared, plain_widths, plain_attributes, plain_shared, frame_by}
@@ -47,8 +49,8 @@ listed_shape missing R bs coord default convex ls S K long same = record {
       same j i h b ∙ texture_rest bs coord R (get_or ls j no_listing).number u.place (default u.point) S.textures S.texture_index;
   bare = λ e n u. untextured R coord n u.place (default u.point) e;
   normals = K.0;
-  colours = ap (λ (b : Bool). cond b 4 0) (sym K.1);
-  textures = ap (λ (b : Bool). cond b 2 0) (sym K.2);
+  colours = ap (λ (b : Bool). cond b colour_words 0) (sym K.1);
+  textures = ap (λ (b : Bool). cond b texture_words 0) (sym K.2);
 }
 
 -- no normal is supplied, and there is no colour
@@ -67,10 +69,10 @@ plain_shape bs coord h convex ring ls {corner = corner} K long at bleak same bar
   texture = same;
   bare = go h.need_uvs refl;
   normals = K.0;
-  colours = ap (λ (b : Bool). cond b 4 0) (sym K.1);
-  textures = ap (λ (b : Bool). cond b 2 0) (sym K.2);
+  colours = ap (λ (b : Bool). cond b colour_words 0) (sym K.1);
+  textures = ap (λ (b : Bool). cond b texture_words 0) (sym K.2);
 }
   where
-    go : (b : Bool) → h.need_uvs ≡ b → ◌≡◌ {A = ℕ} (cond h.need_uvs 2 0) 0 → (n : ℕ) (u : Use) → (corner n u).texture ≡ no2
-    go true q e = let t = ap {B = ℕ} (λ (b : Bool). cond b 2 0) q in let z : ⊥ = omega (arith, t, e) in absurd z
+    go : (b : Bool) → h.need_uvs ≡ b → ◌≡◌ {A = ℕ} (cond h.need_uvs texture_words 0) 0 → (n : ℕ) (u : Use) → (corner n u).texture ≡ no2
+    go true q e = let t = ap {B = ℕ} (λ (b : Bool). cond b texture_words 0) q in let z : ⊥ = omega (arith, t, e) in absurd z
     go false q e = bare q

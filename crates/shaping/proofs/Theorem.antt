@@ -22,6 +22,7 @@ use Rattle.tables.specs.Soups.{start_in}
 use Rattle.tables.specs.Listed.{Use, Listing, faces_with, uses_at}
 use Rattle.tables.proofs.Stays.{start_le, point_kept, place_kept, start_kept}
 use Rattle.tables.proofs.Listings.{listed_sound, listed_kept}
+use Rattle.vertices.specs.Places.{colour_words, texture_words}
 use Rattle.corners.specs.Laid.{tables_of, Laid}
 use Rattle.corners.specs.Corner.{Lent, texture_at}
 use Rattle.soups.specs.Keyed.{Reads, Textured, Textures}
@@ -78,7 +79,7 @@ module _ {k : Kind} {bs coord : List ℕ} {h : Header} {s : Settings} {o : Slice
   textures : Textures sh.widths w₂ t ls corner
   textures = go (makes_textures h) S.textures
     where
-      go : (b : Bool) → sh.widths.texture ≡ cond b 2 0 → Textures sh.widths w₂ t ls corner
+      go : (b : Bool) → sh.widths.texture ≡ cond b texture_words 0 → Textures sh.widths w₂ t ls corner
       go true u = inl (u, textured (omega (arith, u)))
       go false u = inr (u, S.bare u)
 
@@ -119,8 +120,8 @@ module _ {k : Kind} {bs coord : List ℕ} {h : Header} {s : Settings} {o : Slice
         sources = omega (arith, c, M.sources);
         positions = omega (arith, c, M.positions);
         normals = omega (arith, c, M.normals);
-        colours = made_few 4 t.count (length o.colours) (makes_colours h) S.colours (omega (arith, c, M.colours));
-        textures = made_few 2 t.count (length o.textures) (makes_textures h) S.textures (omega (arith, c, M.textures));
+        colours = made_few colour_words t.count (length o.colours) (makes_colours h) S.colours (omega (arith, c, M.colours));
+        textures = made_few texture_words t.count (length o.textures) (makes_textures h) S.textures (omega (arith, c, M.textures));
         indices = let i = N.indices in omega (arith, c, G.faces, i, M.indices);
         floats = omega (arith, G.floats, T.size);
       }

@@ -7,6 +7,7 @@ use Rattle.mesh.specs.Soup.{Corner}
 use Rattle.mesh.specs.Result.{makes_normals, makes_colours, makes_textures}
 use Rattle.tables.specs.Listed.{Use, Listing, no_use, no_listing, uses_at}
 use Rattle.soups.specs.Keyed.{Reads}
+use Rattle.vertices.specs.Places.{colour_words, texture_words}
 use Rattle.build.specs.declared.shared.Shared.{Shared}
 
 -- FORMAT 5, 7: of a block with header h and with coordIndex `coord`: each listed face has three corners or more; points stand in rings of `ring`; a corner
@@ -18,5 +19,5 @@ pub record Shape (bs coord : List ℕ) (h : Header) (sh : Shared) (ring : ℕ) (
       → f (get_or ls j no_listing).number (get_or (uses_at ls j) i no_use) ≡ (corner (get_or ls j no_listing).number (get_or (uses_at ls j) i no_use)).texture
   pub bare : sh.widths.texture ≡ 0 → (n : ℕ) (u : Use) → (corner n u).texture ≡ no2
   pub normals : makes_normals h ≡ true
-  pub colours : sh.widths.colour ≡ cond (makes_colours h) 4 0
-  pub textures : sh.widths.texture ≡ cond (makes_textures h) 2 0
+  pub colours : sh.widths.colour ≡ cond (makes_colours h) colour_words 0
+  pub textures : sh.widths.texture ≡ cond (makes_textures h) texture_words 0

@@ -7,6 +7,7 @@ use Rattle.block.specs.Stream.{stream_of}
 use Rattle.mesh.specs.Words.{no4}
 use Rattle.mesh.specs.Soup.{Frame}
 use Rattle.vertices.specs.declared.places.Widths.{Widths}
+use Rattle.vertices.specs.Places.{normal_words, texture_words}
 use Rattle.corners.specs.declared.attributes.Attributes.{Attributes}
 use Rattle.soups.specs.Attributes.{attributes_of, face_widths}
 use Rattle.build.specs.declared.shared.Shared.{Shared}
@@ -17,7 +18,7 @@ listed_shared missing convex h = record { ccw = h.ccw; convex = convex; widths =
 
 -- FORMAT 5, 8.4, extrusion (pm): normals are made, colours never, and texture where it is wanted
 unfoldable pub plain_widths : Header → Widths
-plain_widths h = record { normal = 3; colour = 0; texture = cond h.need_uvs 2 0 }
+plain_widths h = record { normal = normal_words; colour = 0; texture = cond h.need_uvs texture_words 0 }
 
 -- FORMAT 8.4, extrusion (pm): no normals are supplied; the colours are not read
 unfoldable pub plain_attributes : Header → Attributes

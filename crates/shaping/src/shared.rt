@@ -1,5 +1,6 @@
 // What the faces of a shape share (FORMAT 8, PolyMesh).
 ghost use Rattle.std.specs.Prelude.{◌≡◌, cond};
+ghost use Rattle.vertices.specs.Places.{texture_words};
 ghost use Rattle.shaping.specs.Shared.{plain_attributes, listed_shared, plain_shared};
 
 use bits::Words4;
@@ -7,7 +8,7 @@ use block::{Header, color_stream};
 use build::Shared;
 use corners::Attributes;
 use soups::{attributes_of, face_widths};
-use vertices::Widths;
+use vertices::{NORMAL_WORDS, TEXTURE_WORDS, Widths};
 
 // Colours, normals and texture are listed in the block.
 pub fn listed_shared(h: Header, missing: Words4, convex: bool) -> Shared
@@ -37,10 +38,10 @@ fn plain_attributes(h: Header) -> Attributes
 }
 
 fn texture_width(h: Header) -> usize
-    ensures { result ≡ cond h.need_uvs 2 0 }
+    ensures { result ≡ cond h.need_uvs texture_words 0 }
 {
     if h.need_uvs {
-        return 2;
+        return TEXTURE_WORDS;
     }
     0
 }
@@ -51,7 +52,7 @@ pub fn plain_shared(h: Header, convex: bool) -> Shared
 {
     let attributes = plain_attributes(h);
     let widths = Widths {
-        normal: 3,
+        normal: NORMAL_WORDS,
         colour: 0,
         texture: texture_width(h),
     };

@@ -34,9 +34,10 @@ use Rattle.tables.specs.Listed.{Use, Listing, no_use, no_listing, faces_with, us
 use Rattle.tables.proofs.Held.{faces_held, start_held}
 use Rattle.tables.proofs.Listings.{listed_long, listed_corner}
 use Rattle.vertices.specs.declared.places.Widths.{Widths}
+use Rattle.vertices.specs.Places.{normal_words, colour_words, texture_words, colour_start, texture_start}
 use Rattle.vertices.specs.Search.{two, three, four, corner_key}
 use Rattle.corners.specs.declared.attributes.Attributes.{Attributes}
-use Rattle.corners.specs.Laid.{tables_at, tables_of}
+use Rattle.corners.specs.Laid.{tables_of}
 use Rattle.corners.specs.Corner.{Lent, point_at, place_at, number_at, texture_at, generated_at, normal_at, colour_at, words_at, key_in}
 use Rattle.lists.proofs.Numbers.{by_width}
 use Rattle.soups.specs.Keyed.{Reads, Textures}
@@ -68,21 +69,21 @@ module _ {w : List ℕ} {t : Plan} {F : Frame} {fs : List Face} (H : Holds w t F
 
 -- ---- a corner's key
 
--- the nine words of a corner
-abbrev nine : Words3 → Words4 → Words2 → List ℕ
-nine n c x = words3 n ++ words4 c ++ words2 x
+-- the words of a corner's key
+abbrev words_of_key : Words3 → Words4 → Words2 → List ℕ
+words_of_key n c x = words3 n ++ words4 c ++ words2 x
 
-normal_part : (n : Words3) (c : Words4) (x : Words2) (u : ℕ) → u ≡ 3 → three (seg (nine n c x) 0 u) ≡ n
+normal_part : (n : Words3) (c : Words4) (x : Words2) (u : ℕ) → u ≡ normal_words → three (seg (words_of_key n c x) 0 u) ≡ n
 unfolding seg
 normal_part n c x u e = rw e refl
 
-colour_part : (n : Words3) (c q : Words4) (x : Words2) (u : ℕ) → ((u ≡ 4) × (q ≡ c)) ⊎ ((u ≡ 0) × (q ≡ no4)) → four (seg (nine n c x) 3 u) ≡ q
+colour_part : (n : Words3) (c q : Words4) (x : Words2) (u : ℕ) → ((u ≡ colour_words) × (q ≡ c)) ⊎ ((u ≡ 0) × (q ≡ no4)) → four (seg (words_of_key n c x) colour_start u) ≡ q
 unfolding seg
-colour_part n c q x u h = by_width (λ (k : ℕ). four (seg (nine n c x) 3 k)) 4 q u h
+colour_part n c q x u h = by_width (λ (k : ℕ). four (seg (words_of_key n c x) colour_start k)) colour_words q u h
 
-texture_part : (n : Words3) (c : Words4) (x q : Words2) (u : ℕ) → ((u ≡ 2) × (q ≡ x)) ⊎ ((u ≡ 0) × (q ≡ no2)) → two (seg (nine n c x) 7 u) ≡ q
+texture_part : (n : Words3) (c : Words4) (x q : Words2) (u : ℕ) → ((u ≡ texture_words) × (q ≡ x)) ⊎ ((u ≡ 0) × (q ≡ no2)) → two (seg (words_of_key n c x) texture_start u) ≡ q
 unfolding seg
-texture_part n c x q u h = by_width (λ (k : ℕ). two (seg (nine n c x) 7 k)) 2 q u h
+texture_part n c x q u h = by_width (λ (k : ℕ). two (seg (words_of_key n c x) texture_start k)) texture_words q u h
 
 -- three floats from m on whose words are those of v
 pub three_at : (e : List Float) (m : ℕ) (v : Words3) → map (to_bits binary32) (take 3 (drop m e)) ≡ words3 v
@@ -128,15 +129,15 @@ module _ {L : Lent} {a : Attributes} {widths : Widths} {ring : ℕ} {w : List �
     is = listed_corner E corner j i h used
 
     point_is : point_at w (tables_of t) c ≡ q.point
-    unfolding point_at tables_of tables_at point_in c n u
+    unfolding point_at tables_of point_in c n u
     point_is = E.points j i h used ∙ sym (R.point n u).0 ∙ sym (ap (λ (x : Corner). x.point) is)
 
     place_is : place_at w (tables_of t) c ≡ u.place
-    unfolding place_at tables_of tables_at place_in c u
+    unfolding place_at tables_of place_in c u
     place_is = E.places j i h used
 
     number_is : number_at w (tables_of t) c ≡ n
-    unfolding number_at tables_of tables_at owner_in c n
+    unfolding number_at tables_of owner_in c n
     number_is = numbers j i h used
 
     normal_is : normal_at L a w (tables_of t) c ≡ corner_normal F (faces_with corner ls) j f q
@@ -158,7 +159,7 @@ module _ {L : Lent} {a : Attributes} {widths : Widths} {ring : ℕ} {w : List �
     unfolding words_at
     words_normal = normal_part (normal_at L a w (tables_of t) c) (colour_at L a w (tables_of t) c) (texture_at w (tables_of t) c) widths.normal R.normal ∙ normal_is
 
-    colour_is : four (seg (words_at L a w (tables_of t) c) 3 widths.colour) ≡ q.colour
+    colour_is : four (seg (words_at L a w (tables_of t) c) colour_start widths.colour) ≡ q.colour
     unfolding words_at colour_at
     colour_is =
         colour_part (normal_at L a w (tables_of t) c) (colour_at L a w (tables_of t) c) q.colour (texture_at w (tables_of t) c) widths.colour
@@ -167,7 +168,7 @@ module _ {L : Lent} {a : Attributes} {widths : Widths} {ring : ℕ} {w : List �
         (λ e. inr (e.0, ap (λ (x : Corner). x.colour) is ∙ e.1 n u))
         R.colour)
 
-    texture_is : two (seg (words_at L a w (tables_of t) c) 7 widths.texture) ≡ q.texture
+    texture_is : two (seg (words_at L a w (tables_of t) c) texture_start widths.texture) ≡ q.texture
     unfolding words_at c n u
     texture_is =
         texture_part (normal_at L a w (tables_of t) c) (colour_at L a w (tables_of t) c) (texture_at w (tables_of t) c) q.texture widths.texture

@@ -6,6 +6,7 @@ use Rattle.block.specs.declared.header.Header.{Header}
 use Rattle.block.specs.Stream.{stream_of, values_in, index_in}
 use Rattle.mesh.specs.FaceSet.{Rest}
 use Rattle.vertices.specs.declared.places.Widths.{Widths}
+use Rattle.vertices.specs.Places.{normal_words, colour_words, texture_words}
 use Rattle.corners.specs.declared.attributes.Attributes.{Attributes}
 
 -- FORMAT 7.1: normals are list 4 and colours list 2 of the block, each with its index list after it
@@ -20,7 +21,7 @@ attributes_of missing h =
 
 -- FORMAT 5: how many words of each attribute are made for a vertex
 unfoldable pub face_widths : Header → Widths
-face_widths h = record { normal = 3; colour = cond h.colors 4 0; texture = cond (h.need_uvs || h.texture_points) 2 0 }
+face_widths h = record { normal = normal_words; colour = cond h.colors colour_words 0; texture = cond (h.need_uvs || h.texture_points) texture_words 0 }
 
 -- FORMAT 2.4: the lists of R are those of the block's streams
 pub record Streamed (bs : List ℕ) (R : Rest) : Type 0 where

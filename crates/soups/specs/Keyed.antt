@@ -8,6 +8,7 @@ use Rattle.tables.specs.declared.layout.Plan.{Plan}
 use Rattle.tables.specs.Soups.{start_in}
 use Rattle.tables.specs.Listed.{Use, Listing, no_use, no_listing, uses_at}
 use Rattle.vertices.specs.declared.places.Widths.{Widths}
+use Rattle.vertices.specs.Places.{normal_words, colour_words, texture_words}
 use Rattle.corners.specs.declared.attributes.Attributes.{Attributes}
 use Rattle.corners.specs.Laid.{tables_of}
 use Rattle.corners.specs.Corner.{Lent, texture_at}
@@ -17,8 +18,8 @@ use Rattle.corners.specs.Corner.{Lent, texture_at}
 pub record Reads (L : Lent) (a : Attributes) (widths : Widths) (ring : ℕ) (corner : ℕ → Use → Corner) : Type 0 where
   pub point : (n : ℕ) (u : Use) → ((corner n u).point ≡ u.point) × ((corner n u).gather ≡ gathered ring u.point)
   pub given : (s : Stream) → a.normals ≡ Some s → (n : ℕ) (u : Use) → (corner n u).given ≡ get3_at L.block L.coord s u.place n no3
-  pub normal : widths.normal ≡ 3
-  pub colour : ((widths.colour ≡ 4) × ((n : ℕ) (u : Use) → (corner n u).colour ≡ get4_at L.block L.coord a.colours a.alpha u.place n a.missing))
+  pub normal : widths.normal ≡ normal_words
+  pub colour : ((widths.colour ≡ colour_words) × ((n : ℕ) (u : Use) → (corner n u).colour ≡ get4_at L.block L.coord a.colours a.alpha u.place n a.missing))
       ⊎ ((widths.colour ≡ 0) × ((n : ℕ) (u : Use) → (corner n u).colour ≡ no4))
 
 -- FORMAT 7.3: the table of texture has the words of each corner, where texture is made
@@ -28,4 +29,4 @@ pub record Textured (w : List ℕ) (t : Plan) (ls : List Listing) (corner : ℕ 
 
 abbrev pub Textures : Widths → List ℕ → Plan → List Listing → (ℕ → Use → Corner) → Type 0
 Textures widths w t ls corner =
-    ((widths.texture ≡ 2) × Textured w t ls corner) ⊎ ((widths.texture ≡ 0) × ((n : ℕ) (u : Use) → (corner n u).texture ≡ no2))
+    ((widths.texture ≡ texture_words) × Textured w t ls corner) ⊎ ((widths.texture ≡ 0) × ((n : ℕ) (u : Use) → (corner n u).texture ≡ no2))

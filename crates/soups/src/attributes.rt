@@ -5,7 +5,7 @@ ghost use Rattle.soups.specs.Attributes.{attributes_of, face_widths};
 use bits::Words4;
 use block::{Header, color_stream, normal_stream};
 use corners::Attributes;
-use vertices::Widths;
+use vertices::{COLOUR_WORDS, NORMAL_WORDS, TEXTURE_WORDS, Widths};
 
 pub fn attributes_of(h: Header, missing: Words4) -> Attributes
     ensures { result ≡ attributes_of missing h }
@@ -25,8 +25,12 @@ pub fn face_widths(h: Header) -> Widths
     ensures { result ≡ face_widths h }
 {
     Widths {
-        normal: 3,
-        colour: if h.colors { 4 } else { 0 },
-        texture: if h.need_uvs || h.texture_points { 2 } else { 0 },
+        normal: NORMAL_WORDS,
+        colour: if h.colors { COLOUR_WORDS } else { 0 },
+        texture: if h.need_uvs || h.texture_points {
+            TEXTURE_WORDS
+        } else {
+            0
+        },
     }
 }

@@ -9,7 +9,7 @@ use native.Mathlib.Omega.{arith}
 use borrow.Author.Tests.{eq-eqb, ne_eqb}
 use lib.Dec.{T}
 use lib.ListN.{length, get_or, set, take, drop, length-append, length-set, get_or-append}
-use lib.Seq.{sets, get_or-append_seam, take-set-le}
+use lib.Seq.{get_or-append_seam, take-set-le}
 use Rattle.std.specs.Prelude.{Option, Some, None}
 use Rattle.block.specs.declared.number.VertexNumber.{VertexNumber}
 use Rattle.lists.specs.Lists.{has, place, meet, firsts}
@@ -18,8 +18,8 @@ use Rattle.lists.proofs.Lists.{All_append, All_get_or, T_true, has_get_or, first
 use Rattle.mesh.proofs.Keys.{same_key_sound, same_key_self}
 use Rattle.vertices.specs.declared.places.Widths.{Widths}
 use Rattle.vertices.specs.declared.places.Chains.{Chains}
-use Rattle.lists.specs.Parts.{seg}
-use Rattle.vertices.specs.Places.{Store, Roomy, Laid, Room}
+use Rattle.lists.specs.Parts.{seg, spliced}
+use Rattle.vertices.specs.Places.{normal_words, colour_words, texture_words, key_words, Store, Roomy, Laid, Room}
 use Rattle.vertices.specs.Search.{two, three, four, key_at, corner_key, place_of, bucket_at, Chained}
 use Rattle.vertices.specs.Hash.{normal_of, colour_of, texture_of, bucket_of}
 use Rattle.vertices.specs.Adding.{linked, Appended, position_of, trimmed, Holds, points_in, count_after, Held, Vertexed}
@@ -43,7 +43,7 @@ unfolding place_of up_to
 place_below w s n k i f = subst (λ (x : Option VertexNumber). up_to x ≤ n) f (seek_le (λ i. same_key k (key_at w s i)) n)
 
 module _ (w : Widths) (pts : List ℕ) (z : Store) (x₀ : List ℕ) (s : Store) (x : List ℕ) (ks : List Key) (H : Holds w pts z x₀ s x ks)
-    (W : (w.normal ≤ 3) × (w.colour ≤ 4) × (w.texture ≤ 2)) where
+    (W : (w.normal ≤ normal_words) × (w.colour ≤ colour_words) × (w.texture ≤ texture_words)) where
   held_key : (i : ℕ) (d : Key) → i < length ks → key_at w s i ≡ get_or ks i d
   unfolding key_at trimmed
   held_key i d l =
@@ -128,12 +128,12 @@ vertexed_old w t n k s x m i R C f =
       len = refl;
     }
 
-module _ (w : Widths) (t : Chains) (n v b : ℕ) (l : List ℕ) (s : Store) (x m : List ℕ) (s' : Store) (x' m' : List ℕ) (R : Room w t s x m (n + 1)) (p : v < t.spots) (g : 9 ≤ length l)
+module _ (w : Widths) (t : Chains) (n v b : ℕ) (l : List ℕ) (s : Store) (x m : List ℕ) (s' : Store) (x' m' : List ℕ) (R : Room w t s x m (n + 1)) (p : v < t.spots) (g : key_words ≤ length l)
     (A : Appended w t n v b l s x m s' x' m') where
   k : Key
   k = corner_key w v l
 
-  W : (w.normal ≤ 3) × (w.colour ≤ 4) × (w.texture ≤ 2)
+  W : (w.normal ≤ normal_words) × (w.colour ≤ colour_words) × (w.texture ≤ texture_words)
   W = R.roomy.widths
 
   position : seg m (t.points + 3 * v) 3 ≡ position_of (points_in t m) k
@@ -146,13 +146,13 @@ module _ (w : Widths) (t : Chains) (n v b : ℕ) (l : List ℕ) (s : Store) (x m
   held_grow z x₀ ks H e D =
       record {
         sources = A.sources ∙ ap (set s.sources n) (sym (corner_point_lem w v l)) ∙ source_grow z.sources s.sources ks k n e H.sources (omega (arith, R.roomy.sources));
-        positions = A.positions ∙ ap (sets x (3 * n)) position ∙ row_grow (position_of (points_in t m)) 3 (position_wide (points_in t m)) x₀ x ks k n e H.positions R.positions;
-        normals = A.normals ∙ ap (sets s.normals (w.normal * n)) (sym (corner_normal_lem w v l W g))
-            ∙ row_grow (normal_of w) w.normal (normal_wide w W.0) z.normals s.normals ks k n e H.normals R.roomy.normals;
-        colours = A.colours ∙ ap (sets s.colours (w.colour * n)) (sym (corner_colour w v l W g))
-            ∙ row_grow (colour_of w) w.colour (colour_wide w W.1) z.colours s.colours ks k n e H.colours R.roomy.colours;
-        textures = A.textures ∙ ap (sets s.textures (w.texture * n)) (sym (corner_texture w v l W g))
-            ∙ row_grow (texture_of w) w.texture (texture_wide w W.2) z.textures s.textures ks k n e H.textures R.roomy.textures;
+        positions = A.positions ∙ ap (spliced x (3 * n)) position ∙ row_grow (position_of (points_in t m)) 3 (position_wide (points_in t m)) x₀ x ks k n e H.positions;
+        normals = A.normals ∙ ap (spliced s.normals (w.normal * n)) (sym (corner_normal_lem w v l W g))
+            ∙ row_grow (normal_of w) w.normal (normal_wide w W.0) z.normals s.normals ks k n e H.normals;
+        colours = A.colours ∙ ap (spliced s.colours (w.colour * n)) (sym (corner_colour w v l W g))
+            ∙ row_grow (colour_of w) w.colour (colour_wide w W.1) z.colours s.colours ks k n e H.colours;
+        textures = A.textures ∙ ap (spliced s.textures (w.texture * n)) (sym (corner_texture w v l W g))
+            ∙ row_grow (texture_of w) w.texture (texture_wide w W.2) z.textures s.textures ks k n e H.textures;
         trim = All_append (λ (c : Key). trimmed w c ≡ c) ks (k ∷ []) H.trim (corner_trim w v l W g, tt);
         distinct = D;
       }

@@ -5,13 +5,15 @@ use Prim.Native.Nat.{ℕ, zero, suc, ◌+◌, ◌*◌, ◌≤◌, ◌<◌}
 use native.Mathlib.Nat.{not-suc-le-zero, le_of_suc-le-suc, mul-suc, mul-le-mul_left, le_trans}
 use native.Mathlib.Omega.{arith}
 use lib.ListN.{length, get_or, set, take, drop, length-append, length-drop, length-map}
-use lib.Seq.{sets, sets-eq, take_at, drop-cons, set_at, append_snoc, take-append_seam, take-length, length-take-le, get_or-take, get_or-drop}
+use lib.Seq.{drop-cons, set_at, append_snoc, take-append_seam, take-length, length-take-le, get_or-take, get_or-drop}
 use Rattle.lists.specs.Lists.{flat}
 use Rattle.mesh.specs.Words.{words2, words3, words4, point_words}
 use Rattle.mesh.specs.Vertices.{Key}
-use Rattle.lists.proofs.Lists.{All_of, All_of_map, middle, length_flat, in_flat, drop_filled, length_filled, three_at}
+use Rattle.lists.proofs.Lists.{All_of, All_of_map, middle, length_flat, in_flat, length_filled, three_at}
+use Rattle.lists.proofs.Splices.{grow}
 use Rattle.vertices.specs.declared.places.Widths.{Widths}
-use Rattle.lists.specs.Parts.{seg}
+use Rattle.lists.specs.Parts.{seg, spliced}
+use Rattle.vertices.specs.Places.{normal_words, colour_words, texture_words}
 use Rattle.vertices.specs.Hash.{normal_of, colour_of, texture_of}
 use Rattle.vertices.specs.Adding.{position_of}
 
@@ -42,18 +44,13 @@ module _ (g : Key → List ℕ) (n : ℕ) (wide : (k : Key) → length (g k) ≡
       ∙ in_flat g n wide ks i d h
 
   -- a row put after the rows
-  pub row_grow : (z l : List ℕ) (ks : List Key) (k : Key) (m : ℕ) → length ks ≡ m → l ≡ flat (map g ks) ++ drop (n * length ks) z → n * (m + 1) ≤ length l
-      → sets l (n * m) (g k) ≡ flat (map g (ks ++ (k ∷ []))) ++ drop (n * length (ks ++ (k ∷ []))) z
-  row_grow z l ks k m q e h =
+  pub row_grow : (z l : List ℕ) (ks : List Key) (k : Key) (m : ℕ) → length ks ≡ m → l ≡ flat (map g ks) ++ drop (n * length ks) z
+      → spliced l (n * m) (g k) ≡ flat (map g (ks ++ (k ∷ []))) ++ drop (n * length (ks ++ (k ∷ []))) z
+  row_grow z l ks k m q e =
       let p = flat (map g ks) in
       let a : length p ≡ n * m = rows_length ks ∙ ap (λ (j : ℕ). n * j) q in
       let b : length (ks ++ (k ∷ [])) ≡ suc m = length-append ks (k ∷ []) ∙ omega arith in
-      let u : n * suc m ≡ n * m + n = mul-suc n m in
-      let o : m + 1 ≡ suc m = omega arith in
-      let f : n * m + n ≤ length l = rw (o, u) at h in
-      let x : l ≡ p ++ drop (n * m) z = e ∙ ap (λ (j : ℕ). p ++ drop (n * j) z) q in
-      sets-eq (g k) l (n * m) (rw (wide k) (omega arith))
-      ∙ rw (wide k, x, b, u, rows_snoc ks k, take_at p (drop (n * m) z) (n * m) a) (ap (λ (y : List ℕ). p ++ g k ++ y) (drop_filled z p (n * m) n a))
+      grow p z l (g k) (n * m) (e ∙ ap (λ (j : ℕ). p ++ drop (n * j) z) q) a ∙ rw (wide k, b, mul-suc n m, rows_snoc ks k) refl
 
 -- ---- the points of the keys, one word each
 
@@ -87,15 +84,15 @@ pub position_wide : (pts : List ℕ) (k : Key) → length (position_of pts k) �
 unfolding position_of
 position_wide pts k = refl
 
-pub normal_wide : (w : Widths) → w.normal ≤ 3 → (k : Key) → length (normal_of w k) ≡ w.normal
+pub normal_wide : (w : Widths) → w.normal ≤ normal_words → (k : Key) → length (normal_of w k) ≡ w.normal
 unfolding normal_of
 normal_wide w h k = length-take-le w.normal (words3 k.normal) h
 
-pub colour_wide : (w : Widths) → w.colour ≤ 4 → (k : Key) → length (colour_of w k) ≡ w.colour
+pub colour_wide : (w : Widths) → w.colour ≤ colour_words → (k : Key) → length (colour_of w k) ≡ w.colour
 unfolding colour_of
 colour_wide w h k = length-take-le w.colour (words4 k.colour) h
 
-pub texture_wide : (w : Widths) → w.texture ≤ 2 → (k : Key) → length (texture_of w k) ≡ w.texture
+pub texture_wide : (w : Widths) → w.texture ≤ texture_words → (k : Key) → length (texture_of w k) ≡ w.texture
 unfolding texture_of
 texture_wide w h k = length-take-le w.texture (words2 k.texture) h
 

@@ -12,7 +12,7 @@ use Rattle.mesh.specs.Vertices.{Key}
 use Rattle.mesh.specs.Mesh.{mesh_of, slices_of}
 use Rattle.lists.proofs.Lists.{All_of, map_All}
 use Rattle.vertices.specs.declared.places.Widths.{Widths}
-use Rattle.vertices.specs.Places.{Store}
+use Rattle.vertices.specs.Places.{normal_words, colour_words, texture_words, Store}
 use Rattle.vertices.specs.Hash.{normal_of, colour_of, texture_of}
 use Rattle.vertices.specs.Adding.{position_of, Holds}
 
@@ -53,16 +53,16 @@ module _ {w : Widths} {pts : List ℕ} {z : Store} {x₀ : List ℕ} {s : Store}
         ∙ ap (λ (p : List ℕ). flat (map (λ (k : Key). words3 (point_words p k.point)) ks) ++ drop (3 * length ks) x₀) q
         ∙ ap (λ (r : List (List ℕ)). flat r ++ drop (3 * length ks) x₀) (sym (map-map words3 (λ (k : Key). point_words F.points k.point) ks))
 
-    pub colours_held : w.colour ≡ 4 → s.colours ≡ (slices_of (mesh_of F ks is)).colours ++ drop (4 * length ks) z.colours
+    pub colours_held : w.colour ≡ colour_words → s.colours ≡ (slices_of (mesh_of F ks is)).colours ++ drop (4 * length ks) z.colours
     unfolding slices_of mesh_of colour_of
     colours_held = made (λ (k : Key). k.colour) words4 w.colour ks z.colours H.colours 4 (λ a. refl)
 
-    pub textures_held : w.texture ≡ 2 → s.textures ≡ (slices_of (mesh_of F ks is)).textures ++ drop (2 * length ks) z.textures
+    pub textures_held : w.texture ≡ texture_words → s.textures ≡ (slices_of (mesh_of F ks is)).textures ++ drop (2 * length ks) z.textures
     unfolding slices_of mesh_of texture_of
     textures_held = made (λ (k : Key). k.texture) words2 w.texture ks z.textures H.textures 2 (λ a. refl)
 
   -- FORMAT 10.3: before they are mended
-  pub normals_held : w.normal ≡ 3 → s.normals ≡ flat (map words3 (map (λ (k : Key). k.normal) ks)) ++ drop (3 * length ks) z.normals
+  pub normals_held : w.normal ≡ normal_words → s.normals ≡ flat (map words3 (map (λ (k : Key). k.normal) ks)) ++ drop (3 * length ks) z.normals
   unfolding normal_of
   normals_held = made (λ (k : Key). k.normal) words3 w.normal ks z.normals H.normals 3 (λ a. refl)
 

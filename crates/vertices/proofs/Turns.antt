@@ -19,7 +19,7 @@ use Rattle.lists.proofs.Tests.{cases}
 use Rattle.vertices.specs.declared.places.Widths.{Widths}
 use Rattle.vertices.specs.declared.places.Chains.{Chains}
 use Rattle.lists.specs.Parts.{seg}
-use Rattle.vertices.specs.Places.{Store, Roomy, Laid}
+use Rattle.vertices.specs.Places.{key_words, Store, Roomy, Laid}
 use Rattle.vertices.specs.Search.{bucket_at, Chained}
 use Rattle.vertices.specs.Hash.{normal_of, colour_of, texture_of}
 use Rattle.vertices.specs.Adding.{position_of, Holds, made_of, points_in, count_after, Ready, Vertexed}
@@ -159,7 +159,7 @@ module _ (w : Widths) (t : Chains) (pts : List ℕ) (f : ℕ → Key) (z : Store
           }
 
       -- what `vertex` asks at a corner with point v and words l
-      pub made_ready : (v : ℕ) (l : List ℕ) → Roomy w z corners → 3 * corners ≤ length x₀ → c < corners → v < t.spots → 9 ≤ length l → Ready w t s x m n v l
+      pub made_ready : (v : ℕ) (l : List ℕ) → Roomy w z corners → 3 * corners ≤ length x₀ → c < corners → v < t.spots → key_words ≤ length l → Ready w t s x m n v l
       made_ready v l R px h hv hl =
           let E = made_lengths corners R px (omega arith) in
           let b : n + 1 ≤ corners = omega (arith, made_below) in

@@ -1,14 +1,13 @@
 -- FORMAT 5, 11: one vertex more in the slices, and what the slices hold of a list of keys.
 use Rattle.std.specs.Prelude.{◌≡◌, cond, List, [], ◌++◌, map, ℕ, suc, ◌+◌, ◌*◌, ◌≤◌, ◌<◌, eqb, length, get_or, set, take, drop}
-use Rattle.std.proofs.lemmas.List.Edits.{sets}
 use Rattle.lists.specs.Loops.{tab, All}
 use Rattle.lists.specs.Lists.{place, meet, firsts, flat}
 use Rattle.mesh.specs.Words.{words3, point_words}
 use Rattle.mesh.specs.Vertices.{Key, same_key}
 use Rattle.vertices.specs.declared.places.Widths.{Widths}
 use Rattle.vertices.specs.declared.places.Chains.{Chains}
-use Rattle.lists.specs.Parts.{seg}
-use Rattle.vertices.specs.Places.{Store, Room}
+use Rattle.lists.specs.Parts.{seg, spliced}
+use Rattle.vertices.specs.Places.{colour_start, texture_start, key_words, Store, Room}
 use Rattle.vertices.specs.Hash.{normal_of, colour_of, texture_of}
 use Rattle.vertices.specs.Search.{two, three, four, bucket_at, Chained}
 
@@ -16,13 +15,13 @@ use Rattle.vertices.specs.Search.{two, three, four, bucket_at, Chained}
 unfoldable pub linked : Chains → List ℕ → ℕ → ℕ → List ℕ
 linked t m n b = set (set m (t.nexts + n) (get_or m (t.heads + b) 0)) (t.heads + b) (n + 1)
 
--- one row more in each slice: vertex n, of point v, in bucket b, with the nine words l of a corner
+-- one row more in each slice: vertex n, of point v, in bucket b, with the words l of a corner's key
 pub record Appended (w : Widths) (t : Chains) (n v b : ℕ) (l : List ℕ) (s : Store) (x m : List ℕ) (s' : Store) (x' m' : List ℕ) : Type 0 where
   pub sources : s'.sources ≡ set s.sources n v
-  pub positions : x' ≡ sets x (3 * n) (seg m (t.points + 3 * v) 3)
-  pub normals : s'.normals ≡ sets s.normals (w.normal * n) (seg l 0 w.normal)
-  pub colours : s'.colours ≡ sets s.colours (w.colour * n) (seg l 3 w.colour)
-  pub textures : s'.textures ≡ sets s.textures (w.texture * n) (seg l 7 w.texture)
+  pub positions : x' ≡ spliced x (3 * n) (seg m (t.points + 3 * v) 3)
+  pub normals : s'.normals ≡ spliced s.normals (w.normal * n) (seg l 0 w.normal)
+  pub colours : s'.colours ≡ spliced s.colours (w.colour * n) (seg l colour_start w.colour)
+  pub textures : s'.textures ≡ spliced s.textures (w.texture * n) (seg l texture_start w.texture)
   pub table : m' ≡ linked t m n b
 
 -- FORMAT 5: the words of a vertex among the positions
@@ -63,13 +62,13 @@ pub record Held (w : Widths) (pts : List ℕ) (s : Store) (x : List ℕ) (n : �
   pub count : length keys ≡ n
   pub holds : Holds w pts beyond after s x keys
 
--- n vertices are held, with their chains, there is room for one more, and a corner is at point v with nine words l
+-- n vertices are held, with their chains, there is room for one more, and a corner is at point v with the words l of its key
 pub record Ready (w : Widths) (t : Chains) (s : Store) (x m : List ℕ) (n v : ℕ) (l : List ℕ) : Type 0 where
   pub room : Room w t s x m (n + 1)
   pub held : Held w (points_in t m) s x n
   pub chained : Chained t (bucket_at w t s) m n
   pub point : v < t.spots
-  pub words : 9 ≤ length l
+  pub words : key_words ≤ length l
 
 -- FORMAT 11, PolyMesh::build (or_insert_with): a corner's key k has number r. Whatever n vertices the slices held, they then hold these and k, if it is new.
 -- The words below the heads are as they were.

@@ -4,6 +4,25 @@ use Rattle.block.specs.Edition.{most}
 use Rattle.vertices.specs.declared.places.Widths.{Widths}
 use Rattle.vertices.specs.declared.places.Chains.{Chains}
 
+-- FORMAT 11: the words of a key: how many each attribute has, and where they start, one attribute after another; the normal's start at 0
+abbrev pub normal_words : ℕ
+normal_words = 3
+
+abbrev pub colour_words : ℕ
+colour_words = 4
+
+abbrev pub texture_words : ℕ
+texture_words = 2
+
+abbrev pub colour_start : ℕ
+colour_start = normal_words
+
+abbrev pub texture_start : ℕ
+texture_start = colour_start + colour_words
+
+abbrev pub key_words : ℕ
+key_words = texture_start + texture_words
+
 -- FORMAT 5: the slices that hold what tells two vertices apart
 pub record Store : Type 0 where
   pub sources : List ℕ
@@ -13,7 +32,7 @@ pub record Store : Type 0 where
 
 -- room for n vertices in these slices
 pub record Roomy (w : Widths) (s : Store) (n : ℕ) : Type 0 where
-  pub widths : (w.normal ≤ 3) × (w.colour ≤ 4) × (w.texture ≤ 2)
+  pub widths : (w.normal ≤ normal_words) × (w.colour ≤ colour_words) × (w.texture ≤ texture_words)
   pub few : n ≤ most
   pub sources : n ≤ length s.sources
   pub normals : w.normal * n ≤ length s.normals

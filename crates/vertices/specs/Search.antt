@@ -10,7 +10,7 @@ use Rattle.vertices.specs.declared.places.Widths.{Widths}
 use Rattle.vertices.specs.declared.places.Chains.{Chains}
 use Rattle.lists.specs.Parts.{seg}
 use Rattle.lists.specs.Named.{named_by}
-use Rattle.vertices.specs.Places.{Store}
+use Rattle.vertices.specs.Places.{colour_start, texture_start, Store}
 use Rattle.vertices.specs.Hash.{bucket_of}
 
 -- FORMAT 11, PolyMesh::build (key): the words of a row, and zeros where the row has none
@@ -33,10 +33,10 @@ key_at w s i =
       texture = two (seg s.textures (w.texture * i) w.texture);
     }
 
--- FORMAT 11, VertexKey: a corner at point v, by its nine words: the normal's first, from word 3 the colour's, from word 7 the texture's
+-- FORMAT 11, VertexKey: a corner at point v, by the words of its key
 unfoldable pub corner_key : Widths → ℕ → List ℕ → Key
 corner_key w v l =
-    record { point = v; normal = three (seg l 0 w.normal); colour = four (seg l 3 w.colour); texture = two (seg l 7 w.texture) }
+    record { point = v; normal = three (seg l 0 w.normal); colour = four (seg l colour_start w.colour); texture = two (seg l texture_start w.texture) }
 
 -- the vertex that a word of a chain names
 abbrev pub known_by : ℕ → Option VertexNumber

@@ -6,7 +6,7 @@ ghost use Rattle.vertices.specs.Search.{corner_key};
 ghost use Rattle.vertices.specs.Adding.{linked, Appended, Ready, Vertexed, count_after};
 
 use crate::parts::put_row;
-use crate::places::{Bucket, Chains, CornerKey, Widths};
+use crate::places::{Bucket, COLOUR_START, Chains, CornerKey, TEXTURE_START, Widths};
 use crate::search::Made;
 use block::{PointNumber, VertexNumber};
 use lists::word_of;
@@ -48,8 +48,8 @@ pub fn append(
     let at = t.points + 3 * key.point.0;
     put_row(positions, 3, i, work, at);
     put_row(normals, w.normal, i, key.words, 0);
-    put_row(colours, w.colour, i, key.words, 3);
-    put_row(textures, w.texture, i, key.words, 7);
+    put_row(colours, w.colour, i, key.words, COLOUR_START);
+    put_row(textures, w.texture, i, key.words, TEXTURE_START);
     sources[i] = narrow(key.point.0);
     link(work, t, n, bucket);
 }

@@ -2,10 +2,11 @@
 ghost use Rattle.std.specs.Prelude.{◌≡◌, ◌+◌, ◌*◌, ◌^◌, ◌≤◌, ◌<◌, length, get_or};
 ghost use Rattle.lists.specs.Parts.{seg};
 ghost use Rattle.block.specs.Edition.{most};
+ghost use Rattle.vertices.specs.Places.{colour_start, texture_start};
 ghost use Rattle.vertices.specs.Hash.{normal_sum, colour_sum, texture_sum, spread_of, bucket_of};
 ghost use Rattle.vertices.specs.Search.{two, three, four, corner_key};
 
-use crate::places::{Bucket, CornerKey, Widths};
+use crate::places::{Bucket, COLOUR_START, CornerKey, TEXTURE_START, Widths};
 use tables::wide;
 
 // Word k of the n of a key from a place on; 0 where it is not made.
@@ -43,21 +44,21 @@ impl<'a> CornerKey<'a> {
 
     #[tactic(auto, unfolding(crate::specs::Hash::colour_sum))]
     fn colour_sum(&self, n: usize) -> usize
-        ensures { (result ≡ colour_sum (four (seg self.now.words.now 3 n))) × (result < 4 * 2 ^ 60) }
+        ensures { (result ≡ colour_sum (four (seg self.now.words.now colour_start n))) × (result < 4 * 2 ^ 60) }
     {
-        let r = word_where(self.words, 3, n, 0);
-        let g = word_where(self.words, 3, n, 1);
-        let b = word_where(self.words, 3, n, 2);
-        let a = word_where(self.words, 3, n, 3);
+        let r = word_where(self.words, COLOUR_START, n, 0);
+        let g = word_where(self.words, COLOUR_START, n, 1);
+        let b = word_where(self.words, COLOUR_START, n, 2);
+        let a = word_where(self.words, COLOUR_START, n, 3);
         r * 0xd6e_8feb + g * 0xa13_6aaf + b * 0xe2d_0b4d + a * 0x8f1_bbcd
     }
 
     #[tactic(auto, unfolding(crate::specs::Hash::texture_sum))]
     fn texture_sum(&self, n: usize) -> usize
-        ensures { (result ≡ texture_sum (two (seg self.now.words.now 7 n))) × (result < 2 * 2 ^ 60) }
+        ensures { (result ≡ texture_sum (two (seg self.now.words.now texture_start n))) × (result < 2 * 2 ^ 60) }
     {
-        let s = word_where(self.words, 7, n, 0);
-        let t = word_where(self.words, 7, n, 1);
+        let s = word_where(self.words, TEXTURE_START, n, 0);
+        let t = word_where(self.words, TEXTURE_START, n, 1);
         s * 0xca6_2c1d + t * 0x94d_049b
     }
 

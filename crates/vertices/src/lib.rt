@@ -8,4 +8,4 @@ mod places;
 mod search;
 
 pub use adding::{count_after, vertex};
-pub use places::{Chains, Widths};
+pub use places::{COLOUR_WORDS, Chains, KEY_WORDS, NORMAL_WORDS, TEXTURE_WORDS, Widths};

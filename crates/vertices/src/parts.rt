@@ -1,8 +1,7 @@
 // Parts of slices of words, compared and copied.
 ghost use Rattle.std.specs.Prelude.{◌≡◌, ◌+◌, ◌*◌, ◌≤◌, length};
-ghost use Rattle.std.proofs.lemmas.List.Edits.{sets};
 ghost use Rattle.lists.specs.Lists.{same_words};
-ghost use Rattle.lists.specs.Parts.{seg};
+ghost use Rattle.lists.specs.Parts.{seg, spliced};
 
 use lists::put_all;
 
@@ -25,7 +24,7 @@ pub fn same_row(key: &[u32], j: usize, l: &[u32], w: usize, i: usize) -> bool
 // they take near twice as long (measured by themselves).
 pub fn put_words(dst: &mut [u32], at: usize, src: &[u32], j: usize, n: usize)
     requires { (at + n ≤ length dst.old) × (j + n ≤ length src.now) }
-    ensures { dst.new ≡ sets dst.old at (seg src.now j n) }
+    ensures { dst.new ≡ spliced dst.old at (seg src.now j n) }
 {
     if n == 3 {
         put_all(dst, at, &[src[j], src[j + 1], src[j + 2]]);
@@ -37,7 +36,7 @@ pub fn put_words(dst: &mut [u32], at: usize, src: &[u32], j: usize, n: usize)
 // Row i of dst, of w words, takes the words of src from j.
 pub fn put_row(dst: &mut [u32], w: usize, i: usize, src: &[u32], j: usize)
     requires { (w * i + w ≤ length dst.old) × (j + w ≤ length src.now) }
-    ensures { dst.new ≡ sets dst.old (w * i) (seg src.now j w) }
+    ensures { dst.new ≡ spliced dst.old (w * i) (seg src.now j w) }
 {
     put_words(dst, w * i, src, j, w);
 }

@@ -1,9 +1,24 @@
 // Where vertices are kept (FORMAT 5) and the tables for the search among them.
 ghost use Rattle.std.specs.Prelude.{◌≤◌, length};
+ghost use Rattle.vertices.specs.Places.{key_words};
 
 use block::PointNumber;
 
-// How many words of a vertex each slice holds: 3, 4 and 2, or 0 for an attribute that is not made. Numbers, not Options: a row's place is a multiple of them.
+// The words of a key (FORMAT 11): how many each attribute has, and where they start, one attribute after another. The normal's start at 0.
+pub const NORMAL_WORDS: usize = 3;
+
+pub const COLOUR_WORDS: usize = 4;
+
+pub const TEXTURE_WORDS: usize = 2;
+
+pub const COLOUR_START: usize = NORMAL_WORDS;
+
+pub const TEXTURE_START: usize = COLOUR_START + COLOUR_WORDS;
+
+pub const KEY_WORDS: usize = TEXTURE_START + TEXTURE_WORDS;
+
+// How many words of a vertex each slice holds: as many as the key, or 0 for an attribute that is not made. Numbers, not Options: a row's place is a multiple
+// of them.
 #[derive(Clone, Copy)]
 pub struct Widths {
     pub normal: usize,
@@ -28,11 +43,11 @@ pub struct Chains {
 #[derive(Clone, Copy)]
 pub struct Bucket(pub usize);
 
-// What the key of a corner is made of: its point, and nine words. A slice, and no array of nine: `vertex` takes any nine words or more, and may not ask for
-// less.
+// What the key of a corner is made of: its point, and the words of its attributes. A slice, and no array: `vertex` takes any `KEY_WORDS` words or more, and
+// may not ask for less.
 #[derive(Clone, Copy)]
 pub struct CornerKey<'a> {
     pub point: PointNumber,
     pub words: &'a [u32],
-    ghost nine: { 9 ≤ length words.now },
+    ghost full: { key_words ≤ length words.now },
 }

@@ -7,7 +7,7 @@ ghost use Rattle.vertices.specs.Hash.{bucket_of};
 ghost use Rattle.vertices.specs.Search.{known_by, key_at, corner_key, place_of, bucket_at, Chained};
 
 use crate::parts::same_row;
-use crate::places::{Bucket, Chains, CornerKey, Widths};
+use crate::places::{Bucket, COLOUR_START, Chains, CornerKey, TEXTURE_START, Widths};
 use block::VertexNumber;
 use lists::named_by;
 use std::marker::Model;
@@ -62,8 +62,8 @@ impl<'a> Made<'a> {
         let k = i.0;
         key.point.0 == wide(self.sources[k])
             && same_row(key.words, 0, self.normals, w.normal, k)
-            && same_row(key.words, 3, self.colours, w.colour, k)
-            && same_row(key.words, 7, self.textures, w.texture, k)
+            && same_row(key.words, COLOUR_START, self.colours, w.colour, k)
+            && same_row(key.words, TEXTURE_START, self.textures, w.texture, k)
     }
 
     // The vertex, if there is one, among the first n that has the point and the words of a corner. Only the chain of the vertices in the key's bucket is

@@ -7,4 +7,4 @@ loop-i-preserved c =
     renaming_go _ _ _ _ _ _ _ _ _ c.loop-i-test.true refl c.requires (tri_put _ _ _ _ _ _ refl c.name_tri.ensures) c.loop-i.invariant
 
 pub returns : goal.returns
-returns c = renaming_end _ _ _ _ _ _ _ c.loop-i-test.false c.requires c.loop-i.invariant
+returns c = renaming_end _ _ _ _ _ _ _ c.loop-i-test.false c.loop-i.invariant

@@ -1,7 +1,5 @@
 use mathlib.Core.Path.{◌≡◌, sym, ap, ◌∙◌}
 use mathlib.Core.List.{[]}
-use native.Mathlib.Omega.{arith}
-use Rattle.lists.proofs.Splices.{sets_spliced}
 use Rattle.math.specs.Vector.{unit_of}
 use Rattle.mesh.specs.Words.{floats, bits}
 use Rattle.mesh.specs.Mend.{first_normal, mend_by}
@@ -26,7 +24,7 @@ loop-v-preserved c =
       | in-Some s ↦ rw (s.made-is, s.table-is) c.loop-v.invariant.1
       | in-None s ↦ rw (s.made-is, s.table-is) s.replaced-u.ensures.1
     ] in
-    (mending_go _ _ _ _ _ _ _ _ _ c.loop-v-test.true c.words_at-w.ensures made c.put_words.auto.out (c.put_words.ensures ∙ sym (sets_spliced _ _ _ (omega (arith, c.loop-v.invariant.0.long)))) c.loop-v.invariant.0, served)
+    (mending_go _ _ _ _ _ _ _ _ _ c.requires.3 c.loop-v-test.true c.words_at-w.ensures made c.put_words.auto.out c.put_words.ensures c.loop-v.invariant.0, served)
 
 pub returns : goal.returns
-returns c = mending_end _ _ _ _ _ _ c.loop-v-test.false (omega arith) c.loop-v.invariant.0
+returns c = mending_end _ _ _ _ _ _ c.loop-v-test.false c.loop-v.invariant.0

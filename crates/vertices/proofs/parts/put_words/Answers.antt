@@ -1,20 +1,18 @@
 use mathlib.Core.Path.{◌≡◌, refl, sym, ◌∙◌}
 use Prim.Native.Nat.{◌+◌, ◌-◌}
 use native.Mathlib.Omega.{arith}
-use Rattle.lists.specs.Parts.{seg}
 use Rattle.lists.proofs.Keep.{length_seg, part_seg}
-use Rattle.lists.proofs.Splices.{mid_spliced, sets_spliced}
+use Rattle.lists.proofs.Splices.{mid_spliced}
 use Rattle.lists.proofs.Words.{seg_three}
 use Rattle.vertices.proofs.parts.put_words.Goals as goal
 
 pub returns-then-n-eq3 : goal.returns-then-n-eq3
 returns-then-n-eq3 c =
     rw (c.if-n-eq3.true, seg_three c.args.src.now c.args.j (omega (arith, c.requires.1, c.if-n-eq3.true)))
-    (c.put_all.ensures ∙ sym (sets_spliced _ _ _ (omega (arith, c.requires.0, c.if-n-eq3.true))))
+    c.put_all.ensures
 
 pub returns : goal.returns
 returns c =
     let k : c.args.at + c.args.n - c.args.at ≡ c.args.n = omega arith in
     let s = length_seg c.args.src.now c.args.j c.args.n c.requires.1 in
     mid_spliced _ _ _ (c.copy_from_slice.ensures.after ∙ part_seg _ _ _ c.args.n refl) (s ∙ sym k)
-    ∙ sym (sets_spliced c.args.dst.now c.args.at (seg c.args.src.now c.args.j c.args.n) (omega arith))
