@@ -20,11 +20,6 @@ use Rattle.corners.specs.Laid.{chains_of}
 use Rattle.corners.specs.Corner.{Lent, key_in}
 use Rattle.corners.specs.Cornered as cornered
 use Rattle.lent.specs.declared.Counts.{Counts}
-use Rattle.lent.specs.declared.buffers.Buffers.{Buffers}
-
--- FORMAT 5: of the lent slices, those that tell two vertices apart
-abbrev pub store_in : Buffers → Store
-store_in b = record { sources = b.sources.now; normals = b.normals.now; colours = b.colours.now; textures = b.textures.now }
 
 -- the words w hold the corners of the line set of R and coordIndex, over p points: their keys and the points' words
 pub record Told (missing : Words4) (R : Rest) (L : Lent) (a : Attributes) (widths : Widths) (w : List ℕ) (t : CornerTables) (p : ℕ) : Type 0 where
@@ -32,9 +27,9 @@ pub record Told (missing : Words4) (R : Rest) (L : Lent) (a : Attributes) (width
   pub points : points_in (chains_of t) w ≡ R.points
   pub count : point_count R.head ≡ p
 
--- the words hold a line set; no normals and no texture are made; there is room in the slices s and x for a vertex for each corner, and in o for the lines
-pub record Ready (L : Lent) (a : Attributes) (widths : Widths) (w : List ℕ) (t : CornerTables) (p : ℕ) (s : Store) (x o : List ℕ) : Type 0 where
-  pub corners : cornered.Ready L widths w t s x
+-- the words hold a line set; no normals and no texture are made; there is room in the slices s for a vertex for each corner, and in o for the lines
+pub record Ready (L : Lent) (a : Attributes) (widths : Widths) (w : List ℕ) (t : CornerTables) (p : ℕ) (s : Store) (o : List ℕ) : Type 0 where
+  pub corners : cornered.Ready L widths w t s
   pub normal : widths.normal ≡ 0
   pub texture : widths.texture ≡ 0
   pub colour : (widths.colour ≡ 0) ⊎ (widths.colour ≡ colour_words)
@@ -43,10 +38,10 @@ pub record Ready (L : Lent) (a : Attributes) (widths : Widths) (w : List ℕ) (t
   pub rest : Rest
   pub told : Told missing rest L a widths w t p
 
--- FORMAT 5: the slices s, x and o, which were z, x₀ and o₀, hold the line set's mesh S, and beyond it what they held
-pub record Lined (S : Slices) (widths : Widths) (z : Store) (x₀ o₀ : List ℕ) (s : Store) (x o : List ℕ) (r : Counts) : Type 0 where
+-- FORMAT 5: the slices s and o, which were z and o₀, hold the line set's mesh S, and beyond it what they held
+pub record Lined (S : Slices) (widths : Widths) (z : Store) (o₀ : List ℕ) (s : Store) (o : List ℕ) (r : Counts) : Type 0 where
   pub sources : s.sources ≡ S.sources ++ drop (length S.sources) z.sources
-  pub positions : x ≡ S.positions ++ drop (length S.positions) x₀
+  pub positions : s.positions ≡ S.positions ++ drop (length S.positions) z.positions
   pub normals : s.normals ≡ z.normals
   pub colours : widths.colour ≡ colour_words → s.colours ≡ S.colours ++ drop (length S.colours) z.colours
   pub uncoloured : widths.colour ≡ 0 → s.colours ≡ z.colours
@@ -56,7 +51,7 @@ pub record Lined (S : Slices) (widths : Widths) (z : Store) (x₀ o₀ : List �
   pub count : r.indices ≡ length S.indices
 
 -- FORMAT 5, 8.2: the mesh of the line set that the words held, whichever it was; the working slices, now w' and f, are zeros
-pub record Done (L : Lent) (a : Attributes) (widths : Widths) (w : List ℕ) (t : CornerTables) (p : ℕ) (z : Store) (x₀ o₀ : List ℕ) (s : Store) (x o w' : List ℕ) (f : List Float) (r : Counts) : Type 0 where
-  pub lined : (missing : Words4) (R : Rest) → Told missing R L a widths w t p → Lined (slices_of (lines_of missing R L.coord)) widths z x₀ o₀ s x o r
+pub record Done (L : Lent) (a : Attributes) (widths : Widths) (w : List ℕ) (t : CornerTables) (p : ℕ) (z : Store) (o₀ : List ℕ) (s : Store) (o w' : List ℕ) (f : List Float) (r : Counts) : Type 0 where
+  pub lined : (missing : Words4) (R : Rest) → Told missing R L a widths w t p → Lined (slices_of (lines_of missing R L.coord)) widths z o₀ s o r
   pub words : w' ≡ replicate (length w) 0
   pub floats : f ≡ replicate (length L.floats) (of_bits binary32 0)
