@@ -13,7 +13,7 @@ use Rattle.block.specs.Runs.{runs, sum_over}
 use Rattle.lists.specs.Lists.{join_n, place, firsts}
 use Rattle.mesh.specs.Words.{words3, words4, point_words}
 use Rattle.mesh.specs.Vertices.{Key, same_key}
-use Rattle.mesh.specs.Mesh.{mesh_of, slices_of}
+use Rattle.mesh.specs.Mesh.{mesh_of, Slices, slices_of}
 use Rattle.mesh.specs.FaceSet.{Rest}
 use Rattle.mesh.specs.Lines.{line_keys, line_vertices, line_indices, lines_of, line_frame}
 use Rattle.mesh.specs.Sizes.{named}
@@ -35,12 +35,16 @@ use Rattle.lines.specs.Made.{Told, Lined, Done}
 use Rattle.lines.proofs.UseKeys.{keys_count}
 use Rattle.lines.proofs.Indices.{indices_runs}
 
+abbrev with_indices : Store → List ℕ → Slices
+with_indices s is =
+    record { sources = s.sources; positions = s.positions; normals = s.normals; colours = s.colours; textures = s.textures; indices = is }
+
 -- what is lent on is the caller's
-pub done_as : {L : Lent} {a : Attributes} {widths : Widths} {w : List ℕ} {t : CornerTables} {p : ℕ} {z : Store} {o₀ : List ℕ} (s : Store) {o w' : List ℕ} {f : List Float}
-    {r : Counts} {k l m n q : List ℕ} → Done L a widths w t p z o₀ s o w' f r → k ≡ s.sources → l ≡ s.positions → m ≡ s.normals → n ≡ s.colours → q ≡ s.textures
-    → Done L a widths w t p z o₀ (record { sources = k; positions = l; normals = m; colours = n; textures = q }) o w' f r
-done_as {L} {a} {widths} {w} {t} {p} {z} {o₀} s {o} {w'} {f} {r} D ek el em en eq =
-    subst (λ (s : Store). Done L a widths w t p z o₀ s o w' f r) (sym (store_as s ek el em en eq)) D
+pub done_as : {L : Lent} {a : Attributes} {widths : Widths} {w : List ℕ} {t : CornerTables} {p : ℕ} {o : Slices} (s : Store) {is w' : List ℕ} {f : List Float}
+    {r : Counts} {k l m n q : List ℕ} → Done L a widths w t p o (with_indices s is) w' f r → k ≡ s.sources → l ≡ s.positions → m ≡ s.normals → n ≡ s.colours → q ≡ s.textures
+    → Done L a widths w t p o (record { sources = k; positions = l; normals = m; colours = n; textures = q; indices = is }) w' f r
+done_as {L} {a} {widths} {w} {t} {p} {o} s {is} {w'} {f} {r} D ek el em en eq =
+    subst (λ (s : Store). Done L a widths w t p o (with_indices s is) w' f r) (sym (store_as s ek el em en eq)) D
 
 module _ {missing : Words4} {R : Rest} {L : Lent} {a : Attributes} {widths : Widths} {w : List ℕ} {t : CornerTables} {p : ℕ}
     (T : Told missing R L a widths w t p) where
@@ -80,13 +84,13 @@ module _ {missing : Words4} {R : Rest} {L : Lent} {a : Attributes} {widths : Wid
     unfolding vs
     holds = rw (T.points, vertices_are) at C.holds
 
-    pub lined_all : widths.normal ≡ 0 → widths.texture ≡ 0 → (o o' : List ℕ) (r : ℕ) → Put (run_pairs p (seg w' t.named t.count) 0 (runs (entries L.coord))) r o o'
-        → Lined (slices_of (lines_of missing R L.coord)) widths z o s o' (record { vertices = n; indices = r })
+    pub lined_all : widths.normal ≡ 0 → widths.texture ≡ 0 → (o is : List ℕ) (r : ℕ) → Put (run_pairs p (seg w' t.named t.count) 0 (runs (entries L.coord))) r o is
+        → Lined (slices_of (lines_of missing R L.coord)) widths (with_indices z o) (with_indices s is) (record { vertices = n; indices = r })
     unfolding slices_of mesh_of lines_of line_frame vs
-    lined_all e f o o' r P =
+    lined_all e f o is r P =
         let F = line_frame R in
         let S = slices_of (lines_of missing R L.coord) in
-        let P' : Put S.indices r o o' = rw indices_are at P in
+        let P' : Put S.indices r o is = rw indices_are at P in
         record {
           sources = beyond S.sources z.sources (length vs) (length-map vs (λ (k : Key). k.point)) (sources_held holds F []);
           positions =

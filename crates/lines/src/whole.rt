@@ -1,6 +1,5 @@
 // FORMAT 5, 8.2, indexed_line_set: the mesh of a line set, from its corners' tables.
 ghost use Rattle.lent.specs.Buffers.{slices_in, Same};
-ghost use Rattle.vertices.specs.Places.{store_of};
 ghost use Rattle.lines.specs.Made.{Ready, Done};
 
 use crate::pairing::put_lines;
@@ -21,10 +20,10 @@ pub fn make_lines<'a>(
     b: &mut Buffers<'_>,
 ) -> Counts
     requires { Ready (record { block = block.now; coord = coord.now; floats = b.old.floats.now }) a w b.old.words.now t points
-        (store_of (slices_in b.old)) b.old.indices.now }
+        (slices_in b.old) }
     ensures same { Same b.old b.new }
     ensures done { Done (record { block = block.now; coord = coord.now; floats = b.old.floats.now }) a w b.old.words.now t points
-        (store_of (slices_in b.old)) b.old.indices.now (store_of (slices_in b.new)) b.new.indices.now b.new.words.now b.new.floats.now result }
+        (slices_in b.old) (slices_in b.new) b.new.words.now b.new.floats.now result }
 {
     let words = &mut *b.words;
     let floats = &mut *b.floats;

@@ -106,7 +106,7 @@ module _ (missing : Words4) (d : List Float) {bs : List ℕ} {h : Header} {s : S
         textures = omega arith;
       })
 
-  pub ready : Ready (record { block = bs; coord = coord; floats = d }) a widths w₁ t (point_count h) (store_of o) o.indices
+  pub ready : Ready (record { block = bs; coord = coord; floats = d }) a widths w₁ t (point_count h) o
   unfolding read line_widths
   ready =
       let N = enough A c in
@@ -129,13 +129,13 @@ module _ (missing : Words4) (d : List Float) {bs : List ℕ} {h : Header} {s : S
 
   -- FORMAT 5, 8.2: the slices then hold the line set's mesh
   pub shaped : {m : Slices} {w₂ : List ℕ} {d₂ : List Float} {r : Counts}
-      → Done (record { block = bs; coord = coord; floats = d }) a widths w₁ t (point_count h) (store_of o) o.indices (store_of m) m.indices w₂ d₂ r
+      → Done (record { block = bs; coord = coord; floats = d }) a widths w₁ t (point_count h) o m w₂ d₂ r
       → Shaped h (line_set_mesh missing bs) o m r × Cleared w w₂ d d₂
   unfolding read line_set_mesh made_of slices_of line_widths
   shaped {m} {w₂} {d₂} {r} D =
       let M = line_set_mesh missing bs in
-      let B : Lined (slices_of M) widths (store_of o) o.indices (store_of m) m.indices r
-      = subst (λ (x : List ℕ). Lined (slices_of (lines_of missing (rest_of bs) x)) widths (store_of o) o.indices (store_of m) m.indices r)
+      let B : Lined (slices_of M) widths o m r
+      = subst (λ (x : List ℕ). Lined (slices_of (lines_of missing (rest_of bs) x)) widths o m r)
       coord_is (D.lined missing (rest_of bs) told) in (
         record {
           vertices = B.vertices;
