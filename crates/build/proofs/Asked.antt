@@ -15,8 +15,8 @@ use Rattle.lists.specs.Parts.{Kept}
 use Rattle.tables.specs.Soups.{point_in, start_in, Sound}
 use Rattle.tables.proofs.Stays.{start_kept, sound_kept}
 use Rattle.vertices.specs.declared.places.Widths.{Widths}
-use Rattle.vertices.specs.Places.{colour_words, texture_words, Store}
-use Rattle.vertices.proofs.Turns.{made_few}
+use Rattle.vertices.specs.Places.{colour_words, texture_words, Store, store_of}
+use Rattle.vertices.proofs.Turns.{made_few, holds_lengths}
 use Rattle.corners.specs.declared.attributes.Attributes.{Attributes}
 use Rattle.corners.specs.declared.laid.CornerTables.{CornerTables}
 use Rattle.corners.specs.Laid.{tables_of}
@@ -29,27 +29,23 @@ use Rattle.build.specs.declared.shared.Shared.{Shared}
 use Rattle.build.specs.Built.{Wide, Ready}
 use Rattle.build.proofs.Indices.{all_sized}
 
--- the slices that tell vertices apart
-abbrev pub store_of : Slices → Store
-store_of o = record { sources = o.sources; normals = o.normals; colours = o.colours; textures = o.textures }
-
 wide_le : (n v : ℕ) → Wide n v → v ≤ n
 wide_le n v = ⊎_elim (λ e. omega arith) (λ e. omega arith)
 
 -- the tables as the code has them
 module _ (t : Plan) {T : CornerTables} (e : T ≡ tables_of t) where
-  pub ready_at : {L : Lent} {v : Widths} {w : List ℕ} {z : Store} {x : List ℕ} → cornered.Ready L v w (tables_of t) z x → cornered.Ready L v w T z x
-  ready_at {L} {v} {w} {z} {x} = subst (λ (u : CornerTables). cornered.Ready L v w u z x) (sym e)
+  pub ready_at : {L : Lent} {v : Widths} {w : List ℕ} {z : Store} → cornered.Ready L v w (tables_of t) z → cornered.Ready L v w T z
+  ready_at {L} {v} {w} {z} = subst (λ (u : CornerTables). cornered.Ready L v w u z) (sym e)
 
-  pub cornered_at : {L : Lent} {a : Attributes} {v : Widths} {z : Store} {x₀ w : List ℕ} {st : Store} {x w₁ : List ℕ} {n : ℕ}
-      → Cornered L a v T z x₀ w st x w₁ n → Cornered L a v (tables_of t) z x₀ w st x w₁ n
-  cornered_at {L} {a} {v} {z} {x₀} {w} {st} {x} {w₁} {n} = subst (λ (u : CornerTables). Cornered L a v u z x₀ w st x w₁ n) e
+  pub cornered_at : {L : Lent} {a : Attributes} {v : Widths} {z : Store} {w : List ℕ} {st : Store} {w₁ : List ℕ} {n : ℕ}
+      → Cornered L a v T z w st w₁ n → Cornered L a v (tables_of t) z w st w₁ n
+  cornered_at {L} {a} {v} {z} {w} {st} {w₁} {n} = subst (λ (u : CornerTables). Cornered L a v u z w st w₁ n) e
 
 module _ {L : Lent} {s : Shared} {t : Plan} {w : List ℕ} {o : Slices} (R : Ready L s t w o) where
   sound : Sound w t
   sound = R.soup.told.holds.sound
 
-  pub corners_ready : cornered.Ready L s.widths w (tables_of t) (store_of o) o.positions
+  pub corners_ready : cornered.Ready L s.widths w (tables_of t) (store_of o)
   unfolding tables_of point_at point_in
   corners_ready =
       let e = R.normal in
@@ -61,15 +57,21 @@ module _ {L : Lent} {s : Shared} {t : Plan} {w : List ℕ} {o : Slices} (R : Rea
           widths = (omega arith, wide_le colour_words s.widths.colour R.colour, wide_le texture_words s.widths.texture R.texture);
           few = sound.room.few;
           sources = R.sources;
+          positions = R.positions;
           normals = subst (λ (v : ℕ). v * t.count ≤ length o.normals) (sym e) R.normals;
           colours = R.colours;
           textures = R.textures;
         };
-        positions = R.positions;
       }
 
-  module _ {z : Store} {x₀ : List ℕ} {st : Store} {x w₁ : List ℕ} {n : ℕ}
-      (C : Cornered L s.attributes s.widths (tables_of t) z x₀ w st x w₁ n) where
+  -- there are as many words of normals as there were
+  pub normals_stay : {st : Store} {w₁ : List ℕ} {n : ℕ} → Cornered L s.attributes s.widths (tables_of t) (store_of o) w st w₁ n → length st.normals ≡ length o.normals
+  unfolding vertices_in tables_of
+  normals_stay C =
+      (holds_lengths C.holds (made_few (key_in L s.attributes s.widths w (tables_of t)) t.count) corners_ready.roomy).normals
+
+  module _ {z : Store} {st : Store} {w₁ : List ℕ} {n : ℕ}
+      (C : Cornered L s.attributes s.widths (tables_of t) z w st w₁ n) where
     few_vertices : n ≤ t.count
     unfolding vertices_in tables_of
     few_vertices = omega (arith, C.count, made_few (key_in L s.attributes s.widths w (tables_of t)) t.count)
@@ -105,13 +107,13 @@ module _ {L : Lent} {s : Shared} {t : Plan} {w : List ℕ} {o : Slices} (R : Rea
           let xs : List ℕ = all_faces w₁ t s.ccw s.convex in
           omega (arith, M.count, ap length M.made, length-append xs (drop (length xs) o.indices))
 
-      pub mending_ready : length st.normals ≡ length o.normals
-          → (n ≤ most) × (length (take (k - 0) (drop 0 o₁)) ≤ 3 * most) × (n ≤ length w₂) × (3 * n ≤ length st.normals)
+      pub mending_ready : {normals : List ℕ} → length st.normals ≡ length o.normals → normals ≡ st.normals
+          → (n ≤ most) × (length (take (k - 0) (drop 0 o₁)) ≤ 3 * most) × (n ≤ length w₂) × (3 * n ≤ length normals)
       unfolding tables_of
-      mending_ready e =
+      mending_ready e q' =
           let q = sound.room in
           let few : n ≤ t.count = few_vertices in
           let all : k ≡ 3 * (t.count - 2 * t.faces) = M.count ∙ count_indices in
           let lent : length (take (k - 0) (drop 0 o₁)) ≡ k - 0 = length-take-le (k - 0) (drop 0 o₁) (omega (arith, indices_there)) in
           let long : length w₂ ≡ length w = M.kept.len ∙ tables_kept.len in
-          (omega (arith, few, q.few), omega (arith, lent, all, q.few), omega (arith, long, few, q.nexts), omega (arith, few, e, R.normals))
+          (omega (arith, few, q.few), omega (arith, lent, all, q.few), omega (arith, long, few, q.nexts), omega (arith, few, ap length q', e, R.normals))

@@ -21,7 +21,7 @@ use Rattle.tables.specs.declared.layout.Plan.{Plan}
 use Rattle.tables.specs.Soups.{start_in, named_in, points_in, Holds}
 use Rattle.tables.proofs.Stays.{start_le, start_kept}
 use Rattle.tables.proofs.Held.{faces_held, start_held, starts_held, holds_kept}
-use Rattle.vertices.specs.Places.{Store}
+use Rattle.vertices.specs.Places.{Store, store_of}
 use Rattle.vertices.specs.Adding as adding
 use Rattle.vertices.specs.Adding.{made_of}
 use Rattle.vertices.proofs.Sliced.{sources_held, positions_held, normals_held, colours_held, textures_held, colours_left, textures_left}
@@ -32,9 +32,10 @@ use Rattle.faces.specs.Indices.{all_faces, Named, Made}
 use Rattle.faces.proofs.Joined.{made_joined}
 use Rattle.mending.specs.Mend.{mended_words}
 use Rattle.mending.proofs.MendedWords.{mended_slice}
+use Rattle.lent.specs.declared.Counts.{Counts}
 use Rattle.build.specs.declared.shared.Shared.{Shared}
 use Rattle.build.specs.Built.{Told, Wide, part, made_by, Ready, Meshed, Built}
-use Rattle.build.proofs.Asked.{store_of, tables_kept}
+use Rattle.build.proofs.Asked.{tables_kept}
 
 -- an attribute that is made, or not
 part_over : (n v m : ℕ) (made l z : List ℕ) → Wide (suc n) v → length made ≡ m → (v ≡ 0 → l ≡ z) → (v ≡ suc n → l ≡ made ++ drop m z)
@@ -75,8 +76,8 @@ module _ {L : Lent} {s : Shared} {t : Plan} {w : List ℕ} {F : Frame} {fs : Lis
       ∙ ap (λ (m : ℕ). get_or (keys_of F fs m f) i no_key) (zero-add j)
       ∙ get_or_keys F fs j f i b
 
-  module _ {o : Slices} (R : Ready L s t w o) {st : Store} {x w₁ : List ℕ} {n : ℕ}
-      (C : Cornered L s.attributes s.widths (tables_of t) (store_of o) o.positions w st x w₁ n) where
+  module _ {o : Slices} (R : Ready L s t w o) {st : Store} {w₁ : List ℕ} {n : ℕ}
+      (C : Cornered L s.attributes s.widths (tables_of t) (store_of o) w st w₁ n) where
     holds_after : Holds w₁ t F fs
     holds_after = holds_kept (tables_kept R C) (le_refl t.named) T.holds
 
@@ -94,11 +95,11 @@ module _ {L : Lent} {s : Shared} {t : Plan} {w : List ℕ} {F : Frame} {fs : Lis
     }
 
     -- FORMAT 5: the slices hold the soup's vertices, with normals still to be mended
-    vertices_held : adding.Holds s.widths F.points (store_of o) o.positions st x (vertices F fs)
+    vertices_held : adding.Holds s.widths F.points (store_of o) st (vertices F fs)
     unfolding tables_of adding.points_in points_in
     vertices_held =
-        subst (adding.Holds s.widths F.points (store_of o) o.positions st x) vertices_told
-        (subst (λ (p : List ℕ). adding.Holds s.widths p (store_of o) o.positions st x (vertices_in L s.attributes s.widths w (tables_of t))) T.holds.points C.holds)
+        subst (adding.Holds s.widths F.points (store_of o) st) vertices_told
+        (subst (λ (p : List ℕ). adding.Holds s.widths p (store_of o) st (vertices_in L s.attributes s.widths w (tables_of t))) T.holds.points C.holds)
 
     module _ {f₁ f₂ : List Float} {o₁ w₂ : List ℕ} {k : ℕ} (M : Made t (all_faces w₁ t s.ccw s.convex) f₁ k o.indices o₁ w₁ w₂ f₂) where
       -- FORMAT 12.1
@@ -116,19 +117,19 @@ module _ {L : Lent} {s : Shared} {t : Plan} {w : List ℕ} {F : Frame} {fs : Lis
           ap (take (k - 0)) indices_made.made ∙ take_at is (drop (length is) o.indices) (k - 0) (sym e)
 
       -- FORMAT 10.3
-      normals_made : (out : List ℕ) → out ≡ mended_words x (take (k - 0) (drop 0 o₁)) st.normals n ++ drop (3 * n) st.normals
+      normals_made : (out : List ℕ) → out ≡ mended_words st.positions (take (k - 0) (drop 0 o₁)) st.normals n ++ drop (3 * n) st.normals
           → out ≡ (slices_of (mesh F fs)).normals ++ drop (3 * length (vertices F fs)) o.normals
       unfolding mesh slices_of mesh_of
       normals_made out e =
           let vs : List Key = vertices F fs in
           let is : List ℕ = indices_of F fs vs in
-          mended_slice F vs is x st.normals (drop (3 * length vs) o.positions) (drop (3 * length vs) o.normals) (positions_held vertices_held F is refl)
+          mended_slice F vs is st.positions st.normals (drop (3 * length vs) o.positions) (drop (3 * length vs) o.normals) (positions_held vertices_held F is refl)
           (normals_held vertices_held R.normal) (indices_within F fs) n out (C.count ∙ ap length vertices_told)
-          (e ∙ ap (λ (l : List ℕ). mended_words x l st.normals n ++ drop (3 * n) st.normals) indices_lent)
+          (e ∙ ap (λ (l : List ℕ). mended_words st.positions l st.normals n ++ drop (3 * n) st.normals) indices_lent)
 
-      meshed : (out : List ℕ) → out ≡ mended_words x (take (k - 0) (drop 0 o₁)) st.normals n ++ drop (3 * n) st.normals
+      meshed : (out : List ℕ) → out ≡ mended_words st.positions (take (k - 0) (drop 0 o₁)) st.normals n ++ drop (3 * n) st.normals
           → Meshed s.widths (mesh F fs) o
-          (record { sources = st.sources; positions = x; normals = out; colours = st.colours; textures = st.textures; indices = o₁ })
+          (record { sources = st.sources; positions = st.positions; normals = out; colours = st.colours; textures = st.textures; indices = o₁ })
           (record { vertices = n; indices = k })
       unfolding mesh slices_of mesh_of made_by
       meshed out e =
@@ -151,12 +152,12 @@ module _ {L : Lent} {s : Shared} {t : Plan} {w : List ℕ} {F : Frame} {fs : Lis
           }
 
 -- FORMAT 5, 10.3, 11, 12: what the five calls leave, one after another
-module _ {L : Lent} {s : Shared} {t : Plan} {w : List ℕ} {o : Slices} (R : Ready L s t w o) {st : Store} {x w₁ : List ℕ} {n : ℕ}
-    (C : Cornered L s.attributes s.widths (tables_of t) (store_of o) o.positions w st x w₁ n) {f₁ f₂ : List Float} {o₁ w₂ : List ℕ} {k : ℕ}
+module _ {L : Lent} {s : Shared} {t : Plan} {w : List ℕ} {o : Slices} (R : Ready L s t w o) {st : Store} {w₁ : List ℕ} {n : ℕ}
+    (C : Cornered L s.attributes s.widths (tables_of t) (store_of o) w st w₁ n) {f₁ f₂ : List Float} {o₁ w₂ : List ℕ} {k : ℕ}
     (M : Made t (all_faces w₁ t s.ccw s.convex) f₁ k o.indices o₁ w₁ w₂ f₂) where
-  pub built : (out : List ℕ) → out ≡ mended_words x (take (k - 0) (drop 0 o₁)) st.normals n ++ drop (3 * n) st.normals
+  pub built : (out : List ℕ) → out ≡ mended_words st.positions (take (k - 0) (drop 0 o₁)) st.normals n ++ drop (3 * n) st.normals
       → {m : ℕ} → m ≡ length w → (w₃ : List ℕ) → w₃ ≡ replicate m 0 → {l : ℕ} → l ≡ length L.floats → (f : List Float) → f ≡ replicate l (of_bits binary32 0)
-      → Built L s t w o (record { sources = st.sources; positions = x; normals = out; colours = st.colours; textures = st.textures; indices = o₁ })
+      → Built L s t w o (record { sources = st.sources; positions = st.positions; normals = out; colours = st.colours; textures = st.textures; indices = o₁ })
       w₃ f (record { vertices = n; indices = k })
   built out e lw w₃ ew lf f ef =
       record {
@@ -164,3 +165,17 @@ module _ {L : Lent} {s : Shared} {t : Plan} {w : List ℕ} {o : Slices} (R : Rea
         work = ew ∙ ap (λ (i : ℕ). replicate i 0) lw;
         floats = ef ∙ ap (λ (i : ℕ). replicate i (of_bits binary32 0)) lf;
       }
+
+-- what is lent on is the caller's
+pub mended_as : (st : Store) (is : List ℕ) (n : ℕ) {x y out : List ℕ} → out ≡ mended_words x is y n ++ drop (3 * n) y → x ≡ st.positions → y ≡ st.normals
+    → out ≡ mended_words st.positions is st.normals n ++ drop (3 * n) st.normals
+mended_as st is n e p q = e ∙ (λ i. mended_words (p i) is (q i) n ++ drop (3 * n) (q i))
+
+pub built_as : {L : Lent} {s : Shared} {t : Plan} {w : List ℕ} {o : Slices} (st : Store) {out is w' : List ℕ} {f : List Float} {r : Counts} {k l n p q : List ℕ}
+    → Built L s t w o (record { sources = st.sources; positions = st.positions; normals = out; colours = st.colours; textures = st.textures; indices = is }) w' f r
+    → k ≡ st.sources → l ≡ st.positions → n ≡ out → p ≡ st.colours → q ≡ st.textures
+    → Built L s t w o (record { sources = k; positions = l; normals = n; colours = p; textures = q; indices = is }) w' f r
+built_as {L} {s} {t} {w} {o} st {out} {is} {w'} {f} {r} B ek el en ep eq =
+    subst (λ (x : Slices). Built L s t w o x w' f r)
+    (λ i. record { sources = sym ek i; positions = sym el i; normals = sym en i; colours = sym ep i; textures = sym eq i; indices = is })
+    B

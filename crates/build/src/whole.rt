@@ -8,6 +8,7 @@ use faces::all_faces;
 use lent::{Buffers, Counts};
 use mending::fix_zero_normals;
 use tables::{Plan, clear_floats, clear_words};
+use vertices::VertexSlices;
 
 // The mesh of the soup that the tables hold, into the six slices; the working slices are left with zeros. Block and coordIndex come by themselves, and not in a
 // `Given`, whose floats are only read: those of b are written once the vertices are made.
@@ -37,9 +38,14 @@ pub fn build<'a>(
         attributes: s.attributes,
         floats: &*floats,
     };
-    let n = all_vertices(
-        &given, b.sources, positions, b.normals, b.colours, b.textures, words, w, tables,
-    );
+    let mut slices = VertexSlices {
+        sources: &mut *b.sources,
+        positions: &mut *positions,
+        normals: &mut *b.normals,
+        colours: &mut *b.colours,
+        textures: &mut *b.textures,
+    };
+    let n = all_vertices(&given, &mut slices, words, w, tables);
     let vertices = n.0;
     let k = all_faces(words, t, s.ccw, s.convex, floats, indices);
     let triangles = &*indices;

@@ -40,12 +40,12 @@ met_few : (ks : List Key) (k : Key) → length (meet same_key ks k) ≤ length k
 unfolding firsts
 met_few ks k = length_firsts same_key ks (k ∷ [])
 
-pub number_few : {widths : Widths} {t : Chains} {s : Store} {x m : List ℕ} {n v : ℕ} {l : List ℕ} {k : Key} {s' : Store} {x' m' : List ℕ} {r : ℕ}
-    → adding.Ready widths t s x m n v l → Vertexed widths t n k s x m s' x' m' r → r ≤ n
+pub number_few : {widths : Widths} {t : Chains} {s : Store} {m : List ℕ} {n v : ℕ} {l : List ℕ} {k : Key} {s' : Store} {m' : List ℕ} {r : ℕ}
+    → adding.Ready widths t s m n v l → Vertexed widths t n k s m s' m' r → r ≤ n
 number_few {n = n} {k = k} {r = r} R N =
     let H = R.held in
     let ks = H.keys in
-    let q : r ≡ place same_key k (meet same_key ks k) = N.number H.beyond H.after ks H.holds H.count in
+    let q : r ≡ place same_key k (meet same_key ks k) = N.number H.beyond ks H.holds H.count in
     omega (arith, place_lt same_key k (meet same_key ks k) (met_has ks k), met_few ks k, H.count)
 
 -- ---- a corner's words
@@ -109,17 +109,17 @@ module _ {t : CornerTables} {w m : List ℕ} (Q : Laid t (length w)) (S : Same t
 
 -- ---- the loop
 
--- c corners are done since the slices were z and x₀ and the words w: n vertices are made, and the first c vertex numbers are written
-pub record Turned (L : Lent) (a : Attributes) (widths : Widths) (t : CornerTables) (z : Store) (x₀ w : List ℕ) (c n : ℕ) (s : Store) (x m : List ℕ) : Type 0 where
-  pub ready : Ready L widths w t z x₀
+-- c corners are done since the slices were z and the words w: n vertices are made, and the first c vertex numbers are written
+pub record Turned (L : Lent) (a : Attributes) (widths : Widths) (t : CornerTables) (z : Store) (w : List ℕ) (c n : ℕ) (s : Store) (m : List ℕ) : Type 0 where
+  pub ready : Ready L widths w t z
   pub upto : c ≤ t.count
-  pub made : Made widths (chains_of t) (points_in (chains_of t) w) (key_in L a widths w t) z x₀ (length w) c n s x m
+  pub made : Made widths (chains_of t) (points_in (chains_of t) w) (key_in L a widths w t) z (length w) c n s m
   pub same : Same t w m
   pub named : TableOf m t.named c (λ j. place same_key (key_in L a widths w t j) (vertices_in L a widths w t))
 
 -- the same of whatever words w were w₁ once their heads were cleared
-abbrev pub Turning : Lent → Attributes → Widths → CornerTables → Store → List ℕ → List ℕ → ℕ → ℕ → Store → List ℕ → List ℕ → Type 0
-Turning L a widths t z x₀ w₁ c n s x m = (w : List ℕ) → w₁ ≡ spliced w t.heads (replicate t.buckets 0) → Ready L widths w t z x₀ → Turned L a widths t z x₀ w c n s x m
+abbrev pub Turning : Lent → Attributes → Widths → CornerTables → Store → List ℕ → ℕ → ℕ → Store → List ℕ → Type 0
+Turning L a widths t z w₁ c n s m = (w : List ℕ) → w₁ ≡ spliced w t.heads (replicate t.buckets 0) → Ready L widths w t z → Turned L a widths t z w c n s m
 
 module _ {t : CornerTables} {len : ℕ} (Q : Laid t len) where
   order : t.named ≤ t.heads
@@ -128,9 +128,9 @@ module _ {t : CornerTables} {len : ℕ} (Q : Laid t len) where
   chains_laid : places.Laid (chains_of t) len t.count
   chains_laid = record { some = Q.some; points = omega arith; buckets = Q.buckets; heads = Q.heads; nexts = Q.nexts }
 
-module _ {L : Lent} {a : Attributes} {widths : Widths} {t : CornerTables} {z : Store} {x₀ : List ℕ} where
+module _ {L : Lent} {a : Attributes} {widths : Widths} {t : CornerTables} {z : Store} where
   -- the heads are cleared
-  pub turned_start : {w₁ : List ℕ} → Turning L a widths t z x₀ w₁ 0 0 z x₀ w₁
+  pub turned_start : {w₁ : List ℕ} → Turning L a widths t z w₁ 0 0 z w₁
   unfolding points_in
   turned_start {w₁} w f R =
       let Q = R.laid in
@@ -140,53 +140,53 @@ module _ {L : Lent} {a : Attributes} {widths : Widths} {t : CornerTables} {z : S
       record {
         ready = R;
         upto = omega arith;
-        made = made_start widths (chains_of t) _ _ z x₀ (length w) w₁ e K.len (put_same w 0 h f).at;
+        made = made_start widths (chains_of t) _ _ z (length w) w₁ e K.len (put_same w 0 h f).at;
         same = same_front (order Q) K;
         named = table_none;
       }
 
-  module _ {w : List ℕ} {c n : ℕ} {s : Store} {x m : List ℕ} (U : Turned L a widths t z x₀ w c n s x m) where
-    R : Ready L widths w t z x₀
+  module _ {w : List ℕ} {c n : ℕ} {s : Store} {m : List ℕ} (U : Turned L a widths t z w c n s m) where
+    R : Ready L widths w t z
     R = U.ready
 
     pub turned_laid : Laid t (length m)
     turned_laid = rw U.made.len R.laid
 
     -- all corners are done
-    pub turned_all : t.count ≤ c → Cornered L a widths t z x₀ w s x m n
+    pub turned_all : t.count ≤ c → Cornered L a widths t z w s m n
     unfolding vertices_in
     turned_all h =
         let e : c ≡ t.count = omega (arith, U.upto) in
-        let E : Turned L a widths t z x₀ w t.count n s x m = rw e at U in
+        let E : Turned L a widths t z w t.count n s m = rw e at U in
         record { count = sym E.made.count; holds = E.made.holds; named = E.named.at; kept = E.same.kept }
 
     module _ (h : c < t.count) where
       -- what is asked for corner c
-      pub turned_ready : (l : List ℕ) → key_words ≤ length l → adding.Ready widths (chains_of t) s x m n (point_at m t c) l
+      pub turned_ready : (l : List ℕ) → key_words ≤ length l → adding.Ready widths (chains_of t) s m n (point_at m t c) l
       turned_ready l g =
-          made_ready _ _ _ _ _ _ _ c n s x m U.made t.count (chains_laid R.laid) (point_at m t c) l R.roomy R.positions h
+          made_ready _ _ _ _ _ _ c n s m U.made t.count (chains_laid R.laid) (point_at m t c) l R.roomy h
           (rw (point_same R.laid U.same c h) (R.points c h)) g
 
       -- one corner more
-      module _ {s' : Store} {x' m' : List ℕ} {n' : ℕ} (N : Numbered widths t n c (words_at L a m t c) s x m s' x' m' n') where
+      module _ {s' : Store} {m' : List ℕ} {n' : ℕ} (N : Numbered widths t n c (words_at L a m t c) s m s' m' n') where
         front : Kept t.heads m N.table
         front = record { len = N.vertexed.len; front = N.vertexed.front }
 
         is : corner_key widths (point_at m t c) (words_at L a m t c) ≡ key_in L a widths w t c
         is = key_same R.laid U.same c h L a widths
 
-        pub turned_next : Turned L a widths t z x₀ w (c + 1) n' s' x' m'
+        pub turned_next : Turned L a widths t z w (c + 1) n' s' m'
         unfolding vertices_in
         turned_next =
             let Q = R.laid in
             let C = chains_laid Q in
-            let M = vertex_turn _ _ _ _ _ _ _ c n s x m U.made t.count C _ s' x' N.table N.number N.vertexed is in
-            let q = vertex_number _ _ _ _ _ _ _ c n s x m U.made t.count C _ s' x' N.table N.number N.vertexed is t.count h in
+            let M = vertex_turn _ _ _ _ _ _ c n s m U.made t.count C _ s' N.table N.number N.vertexed is in
+            let q = vertex_number _ _ _ _ _ _ c n s m U.made t.count C _ s' N.table N.number N.vertexed is t.count h in
             rw (N.written, N.count)
             (record {
               ready = R;
               upto = omega arith;
-              made = made_set _ _ _ _ _ _ _ (c + 1) _ s' x' N.table M t.count C (t.named + c) N.number (omega arith) (omega arith);
+              made = made_set _ _ _ _ _ _ (c + 1) _ s' N.table M t.count C (t.named + c) N.number (omega arith) (omega arith);
               same = same_set c N.number h (same_then (order Q) U.same front);
               named = table_more N.table t.named c N.number (omega (arith, front.len, U.made.len)) q
                   (table_kept t.named c front (omega arith) U.named);

@@ -10,9 +10,9 @@ use Rattle.corners.specs.Corner.{point_at}
 
 -- FORMAT 11, PolyMesh::build (local.push): with n vertices made, the key of corner c, of the words l, gets a number, which leaves the words `table`; the number
 -- is then written among the vertex numbers, and there are n' vertices
-pub record Numbered (widths : Widths) (t : CornerTables) (n c : ℕ) (l : List ℕ) (s : Store) (x m : List ℕ) (s' : Store) (x' m' : List ℕ) (n' : ℕ) : Type 0 where
+pub record Numbered (widths : Widths) (t : CornerTables) (n c : ℕ) (l : List ℕ) (s : Store) (m : List ℕ) (s' : Store) (m' : List ℕ) (n' : ℕ) : Type 0 where
   pub number : ℕ
   pub table : List ℕ
-  pub vertexed : Vertexed widths (chains_of t) n (corner_key widths (point_at m t c) l) s x m s' x' table number
+  pub vertexed : Vertexed widths (chains_of t) n (corner_key widths (point_at m t c) l) s m s' table number
   pub written : m' ≡ set table (t.named + c) number
   pub count : n' ≡ count_after n number

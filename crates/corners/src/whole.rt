@@ -1,5 +1,6 @@
 // The vertices of all corners (FORMAT 11; PolyMesh::build, dedup).
 ghost use Rattle.std.specs.Prelude.{◌<◌, length};
+ghost use Rattle.vertices.specs.Places.{store_in, SameSlices};
 ghost use Rattle.vertices.specs.Adding as adding;
 ghost use Rattle.corners.specs.Laid.{Laid, chains_of};
 ghost use Rattle.corners.specs.Corner.{point_at};
@@ -12,16 +13,11 @@ use crate::key::Corner;
 use crate::laid::CornerTables;
 use block::{CornerNumber, VertexNumber};
 use tables::{fill, narrow};
-use vertices::{Chains, Widths, count_after, vertex};
+use vertices::{Chains, VertexSlices, Widths, count_after, vertex};
 
 // Corner c, with the words of its key, gets its vertex number, where n vertices are made. How many there are then.
-// Over slices, as `all_vertices` below.
 fn number_corner(
-    sources: &mut [u32],
-    positions: &mut [u32],
-    normals: &mut [u32],
-    colours: &mut [u32],
-    textures: &mut [u32],
+    slices: &mut VertexSlices<'_>,
     work: &mut [u32],
     w: Widths,
     t: CornerTables,
@@ -29,11 +25,10 @@ fn number_corner(
     c: CornerNumber,
     key: &[u32],
 ) -> VertexNumber
-    requires { adding.Ready w (chains_of t) (record { sources = sources.old; normals = normals.old; colours = colours.old; textures = textures.old }) positions.old work.old n.0 (point_at work.old t c.0) key.now
+    requires { adding.Ready w (chains_of t) (store_in slices.old) work.old n.0 (point_at work.old t c.0) key.now
         × Laid t (length work.old) × (c.0 < t.count) }
-    ensures { Numbered w t n.0 c.0 key.now
-        (record { sources = sources.old; normals = normals.old; colours = colours.old; textures = textures.old }) positions.old work.old
-        (record { sources = sources.new; normals = normals.new; colours = colours.new; textures = textures.new }) positions.new work.new result.0 }
+    ensures same { SameSlices slices.old slices.new }
+    ensures numbered { Numbered w t n.0 c.0 key.now (store_in slices.old) work.old (store_in slices.new) work.new result.0 }
 {
     // By hand: here alone chains are made of the tables.
     let chains = Chains {
@@ -49,32 +44,24 @@ fn number_corner(
         c,
     };
     let point = corner.point();
-    let r = vertex(
-        sources, positions, normals, colours, textures, work, w, chains, n, point, key,
-    );
+    let r = vertex(slices, work, w, chains, n, point, key);
     let at = t.named + c.0;
     work[at] = narrow(r.0);
     count_after(n, r)
 }
 
 // All corners in order. How many vertices there are.
-// Not over `lent::Buffers`: this writes six of its eight slices one by one at each corner, and would have to promise that floats and indices stay.
+// Not over `lent::Buffers`: this writes six of its eight slices, and would have to promise that floats and indices stay.
 pub fn all_vertices(
     g: &Given<'_>,
-    sources: &mut [u32],
-    positions: &mut [u32],
-    normals: &mut [u32],
-    colours: &mut [u32],
-    textures: &mut [u32],
+    slices: &mut VertexSlices<'_>,
     work: &mut [u32],
     w: Widths,
     t: CornerTables,
 ) -> VertexNumber
-    requires { Ready (lent_in g.now) w work.old t
-        (record { sources = sources.old; normals = normals.old; colours = colours.old; textures = textures.old }) positions.old }
-    ensures { Cornered (lent_in g.now) g.now.attributes w t
-        (record { sources = sources.old; normals = normals.old; colours = colours.old; textures = textures.old }) positions.old work.old
-        (record { sources = sources.new; normals = normals.new; colours = colours.new; textures = textures.new }) positions.new work.new result.0 }
+    requires { Ready (lent_in g.now) w work.old t (store_in slices.old) }
+    ensures same { SameSlices slices.old slices.new }
+    ensures cornered { Cornered (lent_in g.now) g.now.attributes w t (store_in slices.old) work.old (store_in slices.new) work.new result.0 }
 {
     fill(work, t.heads, t.buckets, 0);
     let mut n = VertexNumber(0);
@@ -86,9 +73,7 @@ pub fn all_vertices(
             c,
         };
         let key = corner.key(g);
-        n = number_corner(
-            sources, positions, normals, colours, textures, work, w, t, n, c, &key,
-        );
+        n = number_corner(slices, work, w, t, n, c, &key);
     }
     n
 }

@@ -1,12 +1,12 @@
 // FORMAT 5, 8.2, indexed_line_set: the mesh of a line set, from its corners' tables.
-ghost use Rattle.lent.specs.Buffers.{Same};
-ghost use Rattle.lines.specs.Made.{store_in, Ready, Done};
+ghost use Rattle.lent.specs.Buffers.{slices_in, Same};
+ghost use Rattle.lines.specs.Made.{Ready, Done};
 
 use crate::pairing::put_lines;
 use corners::{Attributes, CornerTables, Given, all_vertices};
 use lent::{Buffers, Counts};
 use tables::{clear_floats, clear_words};
-use vertices::Widths;
+use vertices::{VertexSlices, Widths};
 
 // The vertices, then the lines. The working slices are cleared. Block and coordIndex come by themselves, as in `build::build`: the floats of a `Given` are only
 // read, and those of b are cleared.
@@ -20,11 +20,10 @@ pub fn make_lines<'a>(
     b: &mut Buffers<'_>,
 ) -> Counts
     requires { Ready (record { block = block.now; coord = coord.now; floats = b.old.floats.now }) a w b.old.words.now t points
-        (store_in b.old) b.old.positions.now b.old.indices.now }
+        (slices_in b.old) }
     ensures same { Same b.old b.new }
     ensures done { Done (record { block = block.now; coord = coord.now; floats = b.old.floats.now }) a w b.old.words.now t points
-        (store_in b.old) b.old.positions.now b.old.indices.now (store_in b.new) b.new.positions.now b.new.indices.now
-        b.new.words.now b.new.floats.now result }
+        (slices_in b.old) (slices_in b.new) b.new.words.now b.new.floats.now result }
 {
     let words = &mut *b.words;
     let floats = &mut *b.floats;
@@ -34,17 +33,14 @@ pub fn make_lines<'a>(
         attributes: a,
         floats: &*floats,
     };
-    let n = all_vertices(
-        &given,
-        b.sources,
-        b.positions,
-        b.normals,
-        b.colours,
-        b.textures,
-        words,
-        w,
-        t,
-    );
+    let mut slices = VertexSlices {
+        sources: &mut *b.sources,
+        positions: &mut *b.positions,
+        normals: &mut *b.normals,
+        colours: &mut *b.colours,
+        textures: &mut *b.textures,
+    };
+    let n = all_vertices(&given, &mut slices, words, w, t);
     let to = t.named + t.count;
     let made = put_lines(coord, points, &words[t.named..to], b.indices);
     clear_words(words);

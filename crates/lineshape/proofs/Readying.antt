@@ -19,7 +19,7 @@ use Rattle.mesh.specs.FaceSet.{rest_of, coord_in, point_count}
 use Rattle.mesh.specs.Lines.{lines_of, line_set_mesh}
 use Rattle.mesh.specs.Result.{makes_normals, makes_colours, makes_textures, made_of}
 use Rattle.vertices.specs.declared.places.Widths.{Widths}
-use Rattle.vertices.specs.Places.{colour_words, Store, Roomy}
+use Rattle.vertices.specs.Places.{colour_words, store_of, Roomy}
 use Rattle.corners.specs.declared.attributes.Attributes.{Attributes}
 use Rattle.corners.specs.declared.laid.CornerTables.{CornerTables}
 use Rattle.corners.specs.Laid.{Laid}
@@ -41,10 +41,6 @@ unmade b made held e h = h ∙ ap (λ (b : Bool). over (cond b made []) held) (s
 made_where : (b : Bool) (u : ℕ) (made held : List ℕ) {l : List ℕ} → u ≡ cond b colour_words 0 → (u ≡ colour_words → l ≡ over made held) → (u ≡ 0 → l ≡ held) → l ≡ over (cond b made []) held
 made_where true u made held e f g = f e
 made_where false u made held e f g = g e
-
--- the slices that tell vertices apart
-abbrev pub store_of : Slices → Store
-store_of o = record { sources = o.sources; normals = o.normals; colours = o.colours; textures = o.textures }
 
 -- the words w lent, then w₁ with the tables; the floats d; the lists, tables, attributes and widths as the code has them
 module _ (missing : Words4) (d : List Float) {bs : List ℕ} {h : Header} {s : Settings} {o : Slices} {w w₁ : List ℕ} (A : Asked LineSet bs h s o (length w) (length d))
@@ -104,12 +100,13 @@ module _ (missing : Words4) (d : List Float) {bs : List ℕ} {h : Header} {s : S
         widths = (omega arith, wide_most h.colors colour_words, omega arith);
         few = omega (arith, n, corners_low A c);
         sources = omega (arith, n, N.sources);
+        positions = omega (arith, n, N.positions);
         normals = omega arith;
         colours = wide_few h.colors colour_words t.count (length o.colours) (omega (arith, n, N.colours));
         textures = omega arith;
       })
 
-  pub ready : Ready (record { block = bs; coord = coord; floats = d }) a widths w₁ t (point_count h) (store_of o) o.positions o.indices
+  pub ready : Ready (record { block = bs; coord = coord; floats = d }) a widths w₁ t (point_count h) o
   unfolding read line_widths
   ready =
       let N = enough A c in
@@ -120,7 +117,6 @@ module _ (missing : Words4) (d : List Float) {bs : List ℕ} {h : Header} {s : S
           points = T.listed.within;
           floats = omega (arith, n, N.floats);
           roomy = roomy;
-          positions = omega (arith, n, N.positions);
         };
         normal = coloured.normal;
         texture = coloured.texture;
@@ -133,13 +129,13 @@ module _ (missing : Words4) (d : List Float) {bs : List ℕ} {h : Header} {s : S
 
   -- FORMAT 5, 8.2: the slices then hold the line set's mesh
   pub shaped : {m : Slices} {w₂ : List ℕ} {d₂ : List Float} {r : Counts}
-      → Done (record { block = bs; coord = coord; floats = d }) a widths w₁ t (point_count h) (store_of o) o.positions o.indices (store_of m) m.positions m.indices w₂ d₂ r
+      → Done (record { block = bs; coord = coord; floats = d }) a widths w₁ t (point_count h) o m w₂ d₂ r
       → Shaped h (line_set_mesh missing bs) o m r × Cleared w w₂ d d₂
   unfolding read line_set_mesh made_of slices_of line_widths
   shaped {m} {w₂} {d₂} {r} D =
       let M = line_set_mesh missing bs in
-      let B : Lined (slices_of M) widths (store_of o) o.positions o.indices (store_of m) m.positions m.indices r
-      = subst (λ (x : List ℕ). Lined (slices_of (lines_of missing (rest_of bs) x)) widths (store_of o) o.positions o.indices (store_of m) m.positions m.indices r)
+      let B : Lined (slices_of M) widths o m r
+      = subst (λ (x : List ℕ). Lined (slices_of (lines_of missing (rest_of bs) x)) widths o m r)
       coord_is (D.lined missing (rest_of bs) told) in (
         record {
           vertices = B.vertices;

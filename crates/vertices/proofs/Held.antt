@@ -42,7 +42,7 @@ place_below : (w : Widths) (s : Store) (n : ℕ) (k : Key) (i : VertexNumber) �
 unfolding place_of up_to
 place_below w s n k i f = subst (λ (x : Option VertexNumber). up_to x ≤ n) f (seek_le (λ i. same_key k (key_at w s i)) n)
 
-module _ (w : Widths) (pts : List ℕ) (z : Store) (x₀ : List ℕ) (s : Store) (x : List ℕ) (ks : List Key) (H : Holds w pts z x₀ s x ks)
+module _ (w : Widths) (pts : List ℕ) (z : Store) (s : Store) (ks : List Key) (H : Holds w pts z s ks)
     (W : (w.normal ≤ normal_words) × (w.colour ≤ colour_words) × (w.texture ≤ texture_words)) where
   held_key : (i : ℕ) (d : Key) → i < length ks → key_at w s i ≡ get_or ks i d
   unfolding key_at trimmed
@@ -115,21 +115,21 @@ linked_length t m n b =
 pub laid_le : {t : Chains} {len n : ℕ} (m : ℕ) → Laid t len n → m ≤ n → Laid t len m
 laid_le {t} {len} {n} m L h = record { some = L.some; points = L.points; buckets = L.buckets; heads = L.heads; nexts = omega (arith, L.nexts) }
 
-pub vertexed_old : (w : Widths) (t : Chains) (n : ℕ) (k : Key) (s : Store) (x m : List ℕ) (i : VertexNumber) → Roomy w s (n + 1)
-    → Chained t (bucket_at w t s) m n → place_of w s n k ≡ Some i → Vertexed w t n k s x m s x m i.0
-vertexed_old w t n k s x m i R C f =
+pub vertexed_old : (w : Widths) (t : Chains) (n : ℕ) (k : Key) (s : Store) (m : List ℕ) (i : VertexNumber) → Roomy w s (n + 1)
+    → Chained t (bucket_at w t s) m n → place_of w s n k ≡ Some i → Vertexed w t n k s m s m i.0
+vertexed_old w t n k s m i R C f =
     record {
-      number = λ z x₀ ks H e. let a = held_old w (points_in t m) z x₀ s x ks H R.widths k n e i f in
+      number = λ z ks H e. let a = held_old w (points_in t m) z s ks H R.widths k n e i f in
           sym (ap (place same_key k) (meet_old same_key k ks a.0) ∙ a.1);
-      holds = λ z x₀ ks H e. let a = held_old w (points_in t m) z x₀ s x ks H R.widths k n e i f in
-          subst (Holds w (points_in t m) z x₀ s x) (sym (meet_old same_key k ks a.0)) H;
+      holds = λ z ks H e. let a = held_old w (points_in t m) z s ks H R.widths k n e i f in
+          subst (Holds w (points_in t m) z s) (sym (meet_old same_key k ks a.0)) H;
       chained = subst (Chained t (bucket_at w t s) m) (count_same n i.0 (place_below w s n k i f)) C;
       front = refl;
       len = refl;
     }
 
-module _ (w : Widths) (t : Chains) (n v b : ℕ) (l : List ℕ) (s : Store) (x m : List ℕ) (s' : Store) (x' m' : List ℕ) (R : Room w t s x m (n + 1)) (p : v < t.spots) (g : key_words ≤ length l)
-    (A : Appended w t n v b l s x m s' x' m') where
+module _ (w : Widths) (t : Chains) (n v b : ℕ) (l : List ℕ) (s : Store) (m : List ℕ) (s' : Store) (m' : List ℕ) (R : Room w t s m (n + 1)) (p : v < t.spots) (g : key_words ≤ length l)
+    (A : Appended w t n v b l s m s' m') where
   k : Key
   k = corner_key w v l
 
@@ -140,13 +140,13 @@ module _ (w : Widths) (t : Chains) (n v b : ℕ) (l : List ℕ) (s : Store) (x m
   unfolding position_of points_in k corner_key
   position = let L = R.laid in point_words_lem m t.points t.spots v p (omega arith)
 
-  held_grow : (z : Store) (x₀ : List ℕ) (ks : List Key) → Holds w (points_in t m) z x₀ s x ks → length ks ≡ n → Own (ks ++ (k ∷ []))
-      → Holds w (points_in t m) z x₀ s' x' (ks ++ (k ∷ []))
+  held_grow : (z : Store) (ks : List Key) → Holds w (points_in t m) z s ks → length ks ≡ n → Own (ks ++ (k ∷ []))
+      → Holds w (points_in t m) z s' (ks ++ (k ∷ []))
   unfolding k
-  held_grow z x₀ ks H e D =
+  held_grow z ks H e D =
       record {
         sources = A.sources ∙ ap (set s.sources n) (sym (corner_point_lem w v l)) ∙ source_grow z.sources s.sources ks k n e H.sources (omega (arith, R.roomy.sources));
-        positions = A.positions ∙ ap (spliced x (3 * n)) position ∙ row_grow (position_of (points_in t m)) 3 (position_wide (points_in t m)) x₀ x ks k n e H.positions;
+        positions = A.positions ∙ ap (spliced s.positions (3 * n)) position ∙ row_grow (position_of (points_in t m)) 3 (position_wide (points_in t m)) z.positions s.positions ks k n e H.positions;
         normals = A.normals ∙ ap (spliced s.normals (w.normal * n)) (sym (corner_normal_lem w v l W g))
             ∙ row_grow (normal_of w) w.normal (normal_wide w W.0) z.normals s.normals ks k n e H.normals;
         colours = A.colours ∙ ap (spliced s.colours (w.colour * n)) (sym (corner_colour w v l W g))
@@ -159,18 +159,18 @@ module _ (w : Widths) (t : Chains) (n v b : ℕ) (l : List ℕ) (s : Store) (x m
 
   -- where the key is new
   module _ (f : place_of w s n (corner_key w v l) ≡ None) where
-    met_new : (z : Store) (x₀ : List ℕ) (ks : List Key) → Holds w (points_in t m) z x₀ s x ks → length ks ≡ n → meet same_key ks k ≡ ks ++ (k ∷ [])
+    met_new : (z : Store) (ks : List Key) → Holds w (points_in t m) z s ks → length ks ≡ n → meet same_key ks k ≡ ks ++ (k ∷ [])
     unfolding k
-    met_new z x₀ ks H e = meet_new same_key k ks (held_new w (points_in t m) z x₀ s x ks H W k n e f)
+    met_new z ks H e = meet_new same_key k ks (held_new w (points_in t m) z s ks H W k n e f)
 
-    grown : (z : Store) (x₀ : List ℕ) (ks : List Key) → Holds w (points_in t m) z x₀ s x ks → length ks ≡ n → Holds w (points_in t m) z x₀ s' x' (ks ++ (k ∷ []))
-    grown z x₀ ks H e = held_grow z x₀ ks H e (subst Own (met_new z x₀ ks H e) (own_meet ks k H.distinct))
+    grown : (z : Store) (ks : List Key) → Holds w (points_in t m) z s ks → length ks ≡ n → Holds w (points_in t m) z s' (ks ++ (k ∷ []))
+    grown z ks H e = held_grow z ks H e (subst Own (met_new z ks H e) (own_meet ks k H.distinct))
 
     -- the new vertex has the key, and those before it have theirs
-    module _ (H : Held w (points_in t m) s x n) where
+    module _ (H : Held w (points_in t m) s n) where
       key_grown : (i : ℕ) → i < n + 1 → key_at w s' i ≡ get_or (H.keys ++ (k ∷ [])) i k
       key_grown i h =
-          held_key w (points_in t m) H.beyond H.after s' x' (H.keys ++ (k ∷ [])) (grown H.beyond H.after H.keys H.holds H.count) W i k
+          held_key w (points_in t m) H.beyond s' (H.keys ++ (k ∷ [])) (grown H.beyond H.keys H.holds H.count) W i k
           (omega (arith, length-append H.keys (k ∷ []), H.count))
 
       bucket_old : (i : ℕ) → i < n → bucket_at w t s' i ≡ bucket_at w t s i
@@ -178,7 +178,7 @@ module _ (w : Widths) (t : Chains) (n v b : ℕ) (l : List ℕ) (s : Store) (x m
       bucket_old i h =
           let a : i < length H.keys = omega (arith, H.count) in
           ap (bucket_of t.buckets) (key_grown i (omega arith) ∙ get_or-append H.keys (k ∷ []) k i a
-          ∙ sym (held_key w (points_in t m) H.beyond H.after s x H.keys H.holds W i k a))
+          ∙ sym (held_key w (points_in t m) H.beyond s H.keys H.holds W i k a))
 
       bucket_new : b ≡ bucket_of t.buckets (corner_key w v l) → bucket_at w t s' n ≡ b
       unfolding bucket_at k
@@ -186,13 +186,13 @@ module _ (w : Widths) (t : Chains) (n v b : ℕ) (l : List ℕ) (s : Store) (x m
           ap (bucket_of t.buckets) (key_grown n (omega arith) ∙ ap (λ (i : ℕ). get_or (H.keys ++ (k ∷ [])) i k) (sym H.count) ∙ get_or-append_seam H.keys k [] k) ∙ sym q
 
       pub vertexed_new : Chained t (bucket_at w t s) m n → b ≡ bucket_of t.buckets (corner_key w v l) → b < t.buckets
-          → Vertexed w t n (corner_key w v l) s x m s' x' m' n
+          → Vertexed w t n (corner_key w v l) s m s' m' n
       unfolding k
       vertexed_new C q h =
           let L = R.laid in
           record {
-            number = λ z x₀ ks H e. sym (place_new ks k H.distinct (held_new w (points_in t m) z x₀ s x ks H W k n e f) ∙ e);
-            holds = λ z x₀ ks H e. subst (Holds w (points_in t m) z x₀ s' x') (sym (met_new z x₀ ks H e)) (grown z x₀ ks H e);
+            number = λ z ks H e. sym (place_new ks k H.distinct (held_new w (points_in t m) z s ks H W k n e f) ∙ e);
+            holds = λ z ks H e. subst (Holds w (points_in t m) z s') (sym (met_new z ks H e)) (grown z ks H e);
             chained = rw (A.table, ← count_more n) (chain_grow (bucket_at w t s) (bucket_at w t s') n b bucket_old (bucket_new q) t m C L h);
             front = ap (take t.heads) A.table ∙ linked_front t m n b (omega arith);
             len = ap length A.table ∙ linked_length t m n b;

@@ -30,6 +30,7 @@ roomy_le {w} {s} {n} m r h =
       widths = r.widths;
       few = omega (arith, r.few);
       sources = omega (arith, r.sources);
+      positions = omega (arith, r.positions);
       normals = le_trans (mul-le-mul_left w.normal h) r.normals;
       colours = le_trans (mul-le-mul_left w.colour h) r.colours;
       textures = le_trans (mul-le-mul_left w.texture h) r.textures;

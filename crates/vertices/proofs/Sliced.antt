@@ -39,19 +39,19 @@ module _ {A : Type 0} (at : Key → A) (words : A → List ℕ) (v : ℕ) (ks : 
       let start : v * length ks ≡ 0 = ap (λ (m : ℕ). m * length ks) q ∙ zero-mul (length ks) in
       e ∙ (λ i. flat_none ks (λ (k : Key). take v (words (at k))) none i ++ drop (start i) z)
 
--- the slices s and x hold the vertices ks of a mesh
-module _ {w : Widths} {pts : List ℕ} {z : Store} {x₀ : List ℕ} {s : Store} {x : List ℕ} {ks : List Key} (H : Holds w pts z x₀ s x ks) where
+-- the slices s hold the vertices ks of a mesh
+module _ {w : Widths} {pts : List ℕ} {z : Store} {s : Store} {ks : List Key} (H : Holds w pts z s ks) where
   module _ (F : Frame) (is : List ℕ) where
     pub sources_held : s.sources ≡ (slices_of (mesh_of F ks is)).sources ++ drop (length ks) z.sources
     unfolding slices_of mesh_of
     sources_held = H.sources
 
-    pub positions_held : pts ≡ F.points → x ≡ (slices_of (mesh_of F ks is)).positions ++ drop (3 * length ks) x₀
+    pub positions_held : pts ≡ F.points → s.positions ≡ (slices_of (mesh_of F ks is)).positions ++ drop (3 * length ks) z.positions
     unfolding slices_of mesh_of position_of
     positions_held q =
         H.positions
-        ∙ ap (λ (p : List ℕ). flat (map (λ (k : Key). words3 (point_words p k.point)) ks) ++ drop (3 * length ks) x₀) q
-        ∙ ap (λ (r : List (List ℕ)). flat r ++ drop (3 * length ks) x₀) (sym (map-map words3 (λ (k : Key). point_words F.points k.point) ks))
+        ∙ ap (λ (p : List ℕ). flat (map (λ (k : Key). words3 (point_words p k.point)) ks) ++ drop (3 * length ks) z.positions) q
+        ∙ ap (λ (r : List (List ℕ)). flat r ++ drop (3 * length ks) z.positions) (sym (map-map words3 (λ (k : Key). point_words F.points k.point) ks))
 
     pub colours_held : w.colour ≡ colour_words → s.colours ≡ (slices_of (mesh_of F ks is)).colours ++ drop (4 * length ks) z.colours
     unfolding slices_of mesh_of colour_of

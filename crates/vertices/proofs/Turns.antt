@@ -3,7 +3,7 @@ use mathlib.Core.Path.{◌≡◌, refl, sym, ap, ap₂, ◌∙◌, subst}
 use mathlib.Core.Logic.{⊎_elim}
 use mathlib.Core.List.{List, [], ◌∷◌, ◌++◌, map}
 use Prim.Native.Nat.{ℕ, ◌+◌, ◌*◌, ◌-◌, ◌≤◌, ◌<◌}
-use native.Mathlib.Nat.{not-suc-le-zero, mul-zero, mul-le-mul_left, le_trans, zero-add}
+use native.Mathlib.Nat.{not-suc-le-zero, mul-zero, zero-add}
 use native.Mathlib.Omega.{arith}
 use lib.Dec.{T}
 use lib.ListN.{length, get_or, set, length-append, length-map, length-set}
@@ -19,7 +19,8 @@ use Rattle.lists.proofs.Tests.{cases}
 use Rattle.vertices.specs.declared.places.Widths.{Widths}
 use Rattle.vertices.specs.declared.places.Chains.{Chains}
 use Rattle.lists.specs.Parts.{seg}
-use Rattle.vertices.specs.Places.{key_words, Store, Roomy, Laid}
+use Rattle.vertices.specs.declared.places.VertexSlices.{VertexSlices}
+use Rattle.vertices.specs.Places.{key_words, Store, SameSlices, Roomy, Laid}
 use Rattle.vertices.specs.Search.{bucket_at, Chained}
 use Rattle.vertices.specs.Hash.{normal_of, colour_of, texture_of}
 use Rattle.vertices.specs.Adding.{position_of, Holds, made_of, points_in, count_after, Ready, Vertexed}
@@ -80,27 +81,59 @@ meet_count ks k D =
     ap length m ∙ length-append ks (k ∷ []) ∙ count_more (length ks) ∙ ap (count_after (length ks)) (sym (place_new ks k D e)))
     (cases (has same_key k ks))
 
+-- ---- what is lent stays lent
+
+pub slices_same : {r : VertexSlices} → SameSlices r r
+slices_same = record { sources = refl; positions = refl; normals = refl; colours = refl; textures = refl }
+
+pub slices_then : {r s t : VertexSlices} → SameSlices r s → SameSlices s t → SameSlices r t
+slices_then a b =
+    record {
+      sources = b.sources ∙ a.sources;
+      positions = b.positions ∙ a.positions;
+      normals = b.normals ∙ a.normals;
+      colours = b.colours ∙ a.colours;
+      textures = b.textures ∙ a.textures;
+    }
+
+-- slice by slice
+pub store_as : (s : Store) {a b c d e : List ℕ} → a ≡ s.sources → b ≡ s.positions → c ≡ s.normals → d ≡ s.colours → e ≡ s.textures
+    → record { sources = a; positions = b; normals = c; colours = d; textures = e } ≡ s
+store_as s p q r t u = λ i. record { sources = p i; positions = q i; normals = r i; colours = t i; textures = u i }
+
 -- ---- the loop
 
--- c corners are done, with keys f 0 .. f (c - 1): n vertices are made, the slices s and x hold them, and beyond them what z and x₀ held, and the table m has
+-- c corners are done, with keys f 0 .. f (c - 1): n vertices are made, the slices s hold them, and beyond them what z held, and the table m has
 -- their chains and, below the heads, the points' words pts
-pub record Made (w : Widths) (t : Chains) (pts : List ℕ) (f : ℕ → Key) (z : Store) (x₀ : List ℕ) (size c n : ℕ) (s : Store) (x m : List ℕ) : Type 0 where
+pub record Made (w : Widths) (t : Chains) (pts : List ℕ) (f : ℕ → Key) (z : Store) (size c n : ℕ) (s : Store) (m : List ℕ) : Type 0 where
   pub count : length (made_of f c) ≡ n
-  pub holds : Holds w pts z x₀ s x (made_of f c)
+  pub holds : Holds w pts z s (made_of f c)
   pub chained : Chained t (bucket_at w t s) m n
   pub points : points_in t m ≡ pts
   pub len : length m ≡ size
 
--- the slices s and x are as long as z and x₀
-pub record Lengths (z : Store) (x₀ : List ℕ) (s : Store) (x : List ℕ) : Type 0 where
+-- the slices s are as long as z
+pub record Lengths (z : Store) (s : Store) : Type 0 where
   pub sources : length s.sources ≡ length z.sources
-  pub positions : length x ≡ length x₀
+  pub positions : length s.positions ≡ length z.positions
   pub normals : length s.normals ≡ length z.normals
   pub colours : length s.colours ≡ length z.colours
   pub textures : length s.textures ≡ length z.textures
 
-module _ (w : Widths) (t : Chains) (pts : List ℕ) (f : ℕ → Key) (z : Store) (x₀ : List ℕ) (size : ℕ) where
-  holds_none : Holds w pts z x₀ z x₀ []
+-- where there was room for n vertices, slices that hold no more are as long as they were
+pub holds_lengths : {w : Widths} {pts : List ℕ} {z s : Store} {ks : List Key} {n : ℕ} → Holds w pts z s ks → length ks ≤ n → Roomy w z n → Lengths z s
+holds_lengths {w} {pts} {z} {s} {ks} {n} H b R =
+    record {
+      sources = ap length H.sources
+          ∙ length_filled z.sources (map (λ (k : Key). k.point) ks) (length ks) (length-map ks (λ (k : Key). k.point)) (omega (arith, R.sources));
+      positions = rows_stay (position_of pts) 3 (position_wide pts) z.positions s.positions ks n H.positions b R.positions;
+      normals = rows_stay (normal_of w) w.normal (normal_wide w R.widths.0) z.normals s.normals ks n H.normals b R.normals;
+      colours = rows_stay (colour_of w) w.colour (colour_wide w R.widths.1) z.colours s.colours ks n H.colours b R.colours;
+      textures = rows_stay (texture_of w) w.texture (texture_wide w R.widths.2) z.textures s.textures ks n H.textures b R.textures;
+    }
+
+module _ (w : Widths) (t : Chains) (pts : List ℕ) (f : ℕ → Key) (z : Store) (size : ℕ) where
+  holds_none : Holds w pts z z []
   unfolding flat
   holds_none =
       record {
@@ -115,39 +148,28 @@ module _ (w : Widths) (t : Chains) (pts : List ℕ) (f : ℕ → Key) (z : Store
 
   -- before the first corner the heads are zeros
   pub made_start : (m : List ℕ) → points_in t m ≡ pts → length m ≡ size → ((b : ℕ) → b < t.buckets → get_or m (t.heads + b) 0 ≡ 0)
-      → Made w t pts f z x₀ size 0 0 z x₀ m
+      → Made w t pts f z size 0 0 z m
   made_start m p q h =
       record {
         count = ap length (made_none f);
-        holds = subst (Holds w pts z x₀ z x₀) (sym (made_none f)) holds_none;
+        holds = subst (Holds w pts z z) (sym (made_none f)) holds_none;
         chained = chained_none t (bucket_at w t z) m h;
         points = p;
         len = q;
       }
 
-  module _ (c n : ℕ) (s : Store) (x m : List ℕ) (M : Made w t pts f z x₀ size c n s x m) where
+  module _ (c n : ℕ) (s : Store) (m : List ℕ) (M : Made w t pts f z size c n s m) where
     pub made_below : n ≤ c
     made_below = omega (arith, made_few f c, M.count)
 
     -- the slices keep their lengths
-    pub made_lengths : (corners : ℕ) → Roomy w z corners → 3 * corners ≤ length x₀ → c ≤ corners → Lengths z x₀ s x
-    made_lengths corners R px h =
-        let ks = made_of f c in
-        let H = M.holds in
-        let b : length ks ≤ corners = omega (arith, made_few f c) in
-        record {
-          sources = ap length H.sources
-              ∙ length_filled z.sources (map (λ (k : Key). k.point) ks) (length ks) (length-map ks (λ (k : Key). k.point)) (omega (arith, R.sources));
-          positions = rows_stay (position_of pts) 3 (position_wide pts) x₀ x ks corners H.positions b px;
-          normals = rows_stay (normal_of w) w.normal (normal_wide w R.widths.0) z.normals s.normals ks corners H.normals b R.normals;
-          colours = rows_stay (colour_of w) w.colour (colour_wide w R.widths.1) z.colours s.colours ks corners H.colours b R.colours;
-          textures = rows_stay (texture_of w) w.texture (texture_wide w R.widths.2) z.textures s.textures ks corners H.textures b R.textures;
-        }
+    pub made_lengths : (corners : ℕ) → Roomy w z corners → c ≤ corners → Lengths z s
+    made_lengths corners R h = holds_lengths M.holds (omega (arith, made_few f c)) R
 
     -- where there is room for the vertices of all corners
     module _ (corners : ℕ) (L : Laid t size corners) where
       -- words between the points' and the heads may be written
-      pub made_set : (i a : ℕ) → t.points + 3 * t.spots ≤ i → i < t.heads → Made w t pts f z x₀ size c n s x (set m i a)
+      pub made_set : (i a : ℕ) → t.points + 3 * t.spots ≤ i → i < t.heads → Made w t pts f z size c n s (set m i a)
       unfolding points_in seg
       made_set i a p h =
           record {
@@ -159,9 +181,9 @@ module _ (w : Widths) (t : Chains) (pts : List ℕ) (f : ℕ → Key) (z : Store
           }
 
       -- what `vertex` asks at a corner with point v and words l
-      pub made_ready : (v : ℕ) (l : List ℕ) → Roomy w z corners → 3 * corners ≤ length x₀ → c < corners → v < t.spots → key_words ≤ length l → Ready w t s x m n v l
-      made_ready v l R px h hv hl =
-          let E = made_lengths corners R px (omega arith) in
+      pub made_ready : (v : ℕ) (l : List ℕ) → Roomy w z corners → c < corners → v < t.spots → key_words ≤ length l → Ready w t s m n v l
+      made_ready v l R h hv hl =
+          let E = made_lengths corners R (omega arith) in
           let b : n + 1 ≤ corners = omega (arith, made_below) in
           let Q = roomy_le (n + 1) R b in
           record {
@@ -170,43 +192,43 @@ module _ (w : Widths) (t : Chains) (pts : List ℕ) (f : ℕ → Key) (z : Store
                 widths = R.widths;
                 few = Q.few;
                 sources = rw E.sources Q.sources;
+                positions = rw E.positions Q.positions;
                 normals = rw E.normals Q.normals;
                 colours = rw E.colours Q.colours;
                 textures = rw E.textures Q.textures;
               };
-              positions = rw E.positions (le_trans (mul-le-mul_left 3 b) px);
               laid = rw M.len (laid_le (n + 1) L b);
             };
-            held = record { beyond = z; after = x₀; keys = made_of f c; count = M.count; holds = rw M.points M.holds };
+            held = record { beyond = z; keys = made_of f c; count = M.count; holds = rw M.points M.holds };
             chained = M.chained;
             point = hv;
             words = hl;
           }
 
-      module _ (k : Key) (s' : Store) (x' m' : List ℕ) (r : ℕ) (N : Vertexed w t n k s x m s' x' m' r) (is : k ≡ f c) where
+      module _ (k : Key) (s' : Store) (m' : List ℕ) (r : ℕ) (N : Vertexed w t n k s m s' m' r) (is : k ≡ f c) where
         -- the keys held before it
-        before : Holds w (points_in t m) z x₀ s x (made_of f c)
-        before = subst (λ (p : List ℕ). Holds w p z x₀ s x (made_of f c)) (sym M.points) M.holds
+        before : Holds w (points_in t m) z s (made_of f c)
+        before = subst (λ (p : List ℕ). Holds w p z s (made_of f c)) (sym M.points) M.holds
 
         met : meet same_key (made_of f c) k ≡ made_of f (c + 1)
         met = ap (meet same_key (made_of f c)) is ∙ sym (made_more f c)
 
         number : r ≡ place same_key (f c) (made_of f (c + 1))
-        number = N.number z x₀ (made_of f c) before M.count ∙ ap₂ (place same_key) is met
+        number = N.number z (made_of f c) before M.count ∙ ap₂ (place same_key) is met
 
         -- the number that corner c gets is that of its key among the vertices of all corners
         pub vertex_number : (all : ℕ) → c < all → r ≡ place same_key (f c) (made_of f all)
         vertex_number all h = number ∙ sym (made_stays f c all h)
 
         -- one corner more
-        pub vertex_turn : Made w t pts f z x₀ size (c + 1) (count_after n r) s' x' m'
+        pub vertex_turn : Made w t pts f z size (c + 1) (count_after n r) s' m'
         unfolding points_in seg
         vertex_turn =
             record {
               count = ap length (made_more f c) ∙ meet_count (made_of f c) (f c) M.holds.distinct
                   ∙ ap₂ count_after M.count (ap (place same_key (f c)) (sym (made_more f c)) ∙ sym number);
-              holds = subst (λ (p : List ℕ). Holds w p z x₀ s' x' (made_of f (c + 1))) M.points
-                  (subst (Holds w (points_in t m) z x₀ s' x') met (N.holds z x₀ (made_of f c) before M.count));
+              holds = subst (λ (p : List ℕ). Holds w p z s' (made_of f (c + 1))) M.points
+                  (subst (Holds w (points_in t m) z s') met (N.holds z (made_of f c) before M.count));
               chained = N.chained;
               points = middle t.points (3 * t.spots) t.heads m' m L.points N.front ∙ M.points;
               len = N.len ∙ M.len;

@@ -16,9 +16,9 @@ unfoldable pub linked : Chains → List ℕ → ℕ → ℕ → List ℕ
 linked t m n b = set (set m (t.nexts + n) (get_or m (t.heads + b) 0)) (t.heads + b) (n + 1)
 
 -- one row more in each slice: vertex n, of point v, in bucket b, with the words l of a corner's key
-pub record Appended (w : Widths) (t : Chains) (n v b : ℕ) (l : List ℕ) (s : Store) (x m : List ℕ) (s' : Store) (x' m' : List ℕ) : Type 0 where
+pub record Appended (w : Widths) (t : Chains) (n v b : ℕ) (l : List ℕ) (s : Store) (m : List ℕ) (s' : Store) (m' : List ℕ) : Type 0 where
   pub sources : s'.sources ≡ set s.sources n v
-  pub positions : x' ≡ spliced x (3 * n) (seg m (t.points + 3 * v) 3)
+  pub positions : s'.positions ≡ spliced s.positions (3 * n) (seg m (t.points + 3 * v) 3)
   pub normals : s'.normals ≡ spliced s.normals (w.normal * n) (seg l 0 w.normal)
   pub colours : s'.colours ≡ spliced s.colours (w.colour * n) (seg l colour_start w.colour)
   pub textures : s'.textures ≡ spliced s.textures (w.texture * n) (seg l texture_start w.texture)
@@ -32,10 +32,10 @@ position_of pts k = words3 (point_words pts k.point)
 unfoldable pub trimmed : Widths → Key → Key
 trimmed w k = record { point = k.point; normal = three (normal_of w k); colour = four (colour_of w k); texture = two (texture_of w k) }
 
--- FORMAT 5: the slices s and x hold the vertices ks, and beyond them what z and x₀ hold; each vertex has its own number
-pub record Holds (w : Widths) (pts : List ℕ) (z : Store) (x₀ : List ℕ) (s : Store) (x : List ℕ) (ks : List Key) : Type 0 where
+-- FORMAT 5: the slices s hold the vertices ks, and beyond them what z holds; each vertex has its own number
+pub record Holds (w : Widths) (pts : List ℕ) (z : Store) (s : Store) (ks : List Key) : Type 0 where
   pub sources : s.sources ≡ map (λ (k : Key). k.point) ks ++ drop (length ks) z.sources
-  pub positions : x ≡ flat (map (position_of pts) ks) ++ drop (3 * length ks) x₀
+  pub positions : s.positions ≡ flat (map (position_of pts) ks) ++ drop (3 * length ks) z.positions
   pub normals : s.normals ≡ flat (map (normal_of w) ks) ++ drop (w.normal * length ks) z.normals
   pub colours : s.colours ≡ flat (map (colour_of w) ks) ++ drop (w.colour * length ks) z.colours
   pub textures : s.textures ≡ flat (map (texture_of w) ks) ++ drop (w.texture * length ks) z.textures
@@ -54,28 +54,27 @@ points_in t m = seg m t.points (3 * t.spots)
 unfoldable pub count_after : ℕ → ℕ → ℕ
 count_after n r = cond (eqb r n) (suc n) n
 
--- the slices s and x hold n vertices
-pub record Held (w : Widths) (pts : List ℕ) (s : Store) (x : List ℕ) (n : ℕ) : Type 0 where
+-- the slices s hold n vertices
+pub record Held (w : Widths) (pts : List ℕ) (s : Store) (n : ℕ) : Type 0 where
   pub beyond : Store
-  pub after : List ℕ
   pub keys : List Key
   pub count : length keys ≡ n
-  pub holds : Holds w pts beyond after s x keys
+  pub holds : Holds w pts beyond s keys
 
 -- n vertices are held, with their chains, there is room for one more, and a corner is at point v with the words l of its key
-pub record Ready (w : Widths) (t : Chains) (s : Store) (x m : List ℕ) (n v : ℕ) (l : List ℕ) : Type 0 where
-  pub room : Room w t s x m (n + 1)
-  pub held : Held w (points_in t m) s x n
+pub record Ready (w : Widths) (t : Chains) (s : Store) (m : List ℕ) (n v : ℕ) (l : List ℕ) : Type 0 where
+  pub room : Room w t s m (n + 1)
+  pub held : Held w (points_in t m) s n
   pub chained : Chained t (bucket_at w t s) m n
   pub point : v < t.spots
   pub words : key_words ≤ length l
 
 -- FORMAT 11, PolyMesh::build (or_insert_with): a corner's key k has number r. Whatever n vertices the slices held, they then hold these and k, if it is new.
 -- The words below the heads are as they were.
-pub record Vertexed (w : Widths) (t : Chains) (n : ℕ) (k : Key) (s : Store) (x m : List ℕ) (s' : Store) (x' m' : List ℕ) (r : ℕ) : Type 0 where
-  pub number : (z : Store) (x₀ : List ℕ) (ks : List Key) → Holds w (points_in t m) z x₀ s x ks → length ks ≡ n → r ≡ place same_key k (meet same_key ks k)
-  pub holds : (z : Store) (x₀ : List ℕ) (ks : List Key) → Holds w (points_in t m) z x₀ s x ks → length ks ≡ n
-      → Holds w (points_in t m) z x₀ s' x' (meet same_key ks k)
+pub record Vertexed (w : Widths) (t : Chains) (n : ℕ) (k : Key) (s : Store) (m : List ℕ) (s' : Store) (m' : List ℕ) (r : ℕ) : Type 0 where
+  pub number : (z : Store) (ks : List Key) → Holds w (points_in t m) z s ks → length ks ≡ n → r ≡ place same_key k (meet same_key ks k)
+  pub holds : (z : Store) (ks : List Key) → Holds w (points_in t m) z s ks → length ks ≡ n
+      → Holds w (points_in t m) z s' (meet same_key ks k)
   pub chained : Chained t (bucket_at w t s') m' (count_after n r)
   pub front : take t.heads m' ≡ take t.heads m
   pub len : length m' ≡ length m

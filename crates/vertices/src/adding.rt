@@ -1,13 +1,12 @@
 // One vertex more, and the vertex of a corner (FORMAT 11).
 ghost use Rattle.std.specs.Prelude.{◌≡◌, ◌+◌, ◌≤◌, ◌<◌, length};
-ghost use Rattle.vertices.specs.Places.{Laid, Room};
+ghost use Rattle.vertices.specs.Places.{store_in, SameSlices, Laid, Room};
 ghost use Rattle.block.specs.Edition.{most};
 ghost use Rattle.vertices.specs.Search.{corner_key};
 ghost use Rattle.vertices.specs.Adding.{linked, Appended, Ready, Vertexed, count_after};
 
 use crate::parts::put_row;
-use crate::places::{Bucket, COLOUR_START, Chains, CornerKey, TEXTURE_START, Widths};
-use crate::search::Made;
+use crate::places::{Bucket, COLOUR_START, Chains, CornerKey, TEXTURE_START, VertexSlices, Widths};
 use block::{PointNumber, VertexNumber};
 use lists::word_of;
 use tables::narrow;
@@ -24,13 +23,9 @@ pub fn link(work: &mut [u32], t: Chains, n: VertexNumber, bucket: Bucket)
     work[head] = word_of(n.0);
 }
 
-// Vertex n is made: of the point and the words of a corner, in a bucket. Over slices, as `vertex` below.
+// Vertex n is made: of the point and the words of a corner, in a bucket.
 pub fn append(
-    sources: &mut [u32],
-    positions: &mut [u32],
-    normals: &mut [u32],
-    colours: &mut [u32],
-    textures: &mut [u32],
+    slices: &mut VertexSlices<'_>,
     work: &mut [u32],
     w: Widths,
     t: Chains,
@@ -38,31 +33,23 @@ pub fn append(
     bucket: Bucket,
     key: &CornerKey<'_>,
 )
-    requires { Room w t (record { sources = sources.old; normals = normals.old; colours = colours.old; textures = textures.old }) positions.old work.old (n.0 + 1)
-        × (key.now.point.0 < t.spots) × (bucket.0 < t.buckets) }
-    ensures { Appended w t n.0 key.now.point.0 bucket.0 key.now.words.now
-        (record { sources = sources.old; normals = normals.old; colours = colours.old; textures = textures.old }) positions.old work.old
-        (record { sources = sources.new; normals = normals.new; colours = colours.new; textures = textures.new }) positions.new work.new }
+    requires { Room w t (store_in slices.old) work.old (n.0 + 1) × (key.now.point.0 < t.spots) × (bucket.0 < t.buckets) }
+    ensures same { SameSlices slices.old slices.new }
+    ensures appended { Appended w t n.0 key.now.point.0 bucket.0 key.now.words.now (store_in slices.old) work.old (store_in slices.new) work.new }
 {
     let i = n.0;
     let at = t.points + 3 * key.point.0;
-    put_row(positions, 3, i, work, at);
-    put_row(normals, w.normal, i, key.words, 0);
-    put_row(colours, w.colour, i, key.words, COLOUR_START);
-    put_row(textures, w.texture, i, key.words, TEXTURE_START);
-    sources[i] = narrow(key.point.0);
+    put_row(slices.positions, 3, i, work, at);
+    put_row(slices.normals, w.normal, i, key.words, 0);
+    put_row(slices.colours, w.colour, i, key.words, COLOUR_START);
+    put_row(slices.textures, w.texture, i, key.words, TEXTURE_START);
+    slices.sources[i] = narrow(key.point.0);
     link(work, t, n, bucket);
 }
 
 // The number of the vertex of a corner: the one made before with its point and words, or a new one, the n-th (PolyMesh::build, or_insert_with).
-// The slices one by one, as `corners::all_vertices` has them: each is read or written at every corner, and a struct of `&mut` would have to promise that each
-// stays the caller's (`lent::Buffers` has two more).
 pub fn vertex(
-    sources: &mut [u32],
-    positions: &mut [u32],
-    normals: &mut [u32],
-    colours: &mut [u32],
-    textures: &mut [u32],
+    slices: &mut VertexSlices<'_>,
     work: &mut [u32],
     w: Widths,
     t: Chains,
@@ -70,20 +57,16 @@ pub fn vertex(
     point: PointNumber,
     key: &[u32],
 ) -> VertexNumber
-    requires { Ready w t (record { sources = sources.old; normals = normals.old; colours = colours.old; textures = textures.old }) positions.old work.old n.0 point.0 key.now }
-    ensures { Vertexed w t n.0 (corner_key w point.0 key.now)
-        (record { sources = sources.old; normals = normals.old; colours = colours.old; textures = textures.old }) positions.old work.old
-        (record { sources = sources.new; normals = normals.new; colours = colours.new; textures = textures.new }) positions.new work.new result.0 }
+    requires { Ready w t (store_in slices.old) work.old n.0 point.0 key.now }
+    ensures same { SameSlices slices.old slices.new }
+    ensures vertexed { Vertexed w t n.0 (corner_key w point.0 key.now) (store_in slices.old) work.old (store_in slices.new) work.new result.0 }
 {
     let asked = CornerKey { point, words: key };
     let bucket = asked.bucket_of(w, t.buckets);
-    let made = Made::of(sources, normals, colours, textures);
-    if let Some(i) = made.find(w, n, bucket, &asked, work, t) {
+    if let Some(i) = slices.find(w, n, bucket, &asked, work, t) {
         return i;
     }
-    append(
-        sources, positions, normals, colours, textures, work, w, t, n, bucket, &asked,
-    );
+    append(slices, work, w, t, n, bucket, &asked);
     n
 }
 

@@ -8,4 +8,6 @@ mod places;
 mod search;
 
 pub use adding::{count_after, vertex};
-pub use places::{COLOUR_WORDS, Chains, KEY_WORDS, NORMAL_WORDS, TEXTURE_WORDS, Widths};
+pub use places::{
+    COLOUR_WORDS, Chains, KEY_WORDS, NORMAL_WORDS, TEXTURE_WORDS, VertexSlices, Widths,
+};

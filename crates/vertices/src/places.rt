@@ -26,6 +26,16 @@ pub struct Widths {
     pub texture: usize,
 }
 
+// The slices that a vertex is written to (FORMAT 5), of the caller: what is read and written at every corner.
+#[derive(Drop)]
+pub struct VertexSlices<'a> {
+    pub sources: &'a mut [u32],
+    pub positions: &'a mut [u32],
+    pub normals: &'a mut [u32],
+    pub colours: &'a mut [u32],
+    pub textures: &'a mut [u32],
+}
+
 // In the working slice: where the words of the points stand, how many points there are, into how many buckets vertices are put,
 // and where the chains' heads stand, one for each bucket, and the nexts, one for each vertex. Chains of numbers, since the words are lent and there is no heap.
 // One function reads them, and the others write them and take the words, `&mut`, beside them, for the reason at `tables::Plan`.

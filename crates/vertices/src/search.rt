@@ -2,15 +2,14 @@
 ghost use Rattle.std.specs.Prelude.{◌≡◌, ◌+◌, ◌≤◌, ◌<◌, length};
 ghost use Rattle.mesh.specs.Vertices.{same_key};
 ghost use Rattle.block.specs.Edition.{most};
-ghost use Rattle.vertices.specs.Places.{Store, Roomy, Laid};
+ghost use Rattle.vertices.specs.Places.{store_in, Roomy, Laid};
 ghost use Rattle.vertices.specs.Hash.{bucket_of};
 ghost use Rattle.vertices.specs.Search.{known_by, key_at, corner_key, place_of, bucket_at, Chained};
 
 use crate::parts::same_row;
-use crate::places::{Bucket, COLOUR_START, Chains, CornerKey, TEXTURE_START, Widths};
+use crate::places::{Bucket, COLOUR_START, Chains, CornerKey, TEXTURE_START, VertexSlices, Widths};
 use block::VertexNumber;
 use lists::named_by;
-use std::marker::Model;
 use tables::wide;
 
 // The vertex that a word of a chain names.
@@ -22,42 +21,11 @@ fn known_by(word: u32) -> Option<VertexNumber>
     named_by(word).map(VertexNumber)
 }
 
-// The vertices made so far, in the slices that hold them; a clause sees the four lists.
-#[derive(Drop)]
-pub struct Made<'a> {
-    sources: &'a [u32],
-    normals: &'a [u32],
-    colours: &'a [u32],
-    textures: &'a [u32],
-}
-
-impl<'a> Model for Made<'a> {
-    ghost Value = { Store };
-
-    ghost view = { λ m. record { sources = m.sources.now; normals = m.normals.now; colours = m.colours.now; textures = m.textures.now } };
-}
-
-impl<'a> Made<'a> {
-    pub fn of(
-        sources: &'a [u32],
-        normals: &'a [u32],
-        colours: &'a [u32],
-        textures: &'a [u32],
-    ) -> Made<'a>
-        ensures { result ≡ record { sources = sources.now; normals = normals.now; colours = colours.now; textures = textures.now } }
-    {
-        Made {
-            sources,
-            normals,
-            colours,
-            textures,
-        }
-    }
-
+impl VertexSlices<'_> {
     // Whether vertex i has the point and the words of a corner (VertexKey).
-    pub fn same_vertex(&self, w: Widths, i: VertexNumber, key: &CornerKey<'_>) -> bool
-        requires { Roomy w self.now (i.0 + 1) }
-        ensures { result ≡ same_key (corner_key w key.now.point.0 key.now.words.now) (key_at w self.now i.0) }
+    fn same_vertex(&self, w: Widths, i: VertexNumber, key: &CornerKey<'_>) -> bool
+        requires { Roomy w (store_in self.now) (i.0 + 1) }
+        ensures { result ≡ same_key (corner_key w key.now.point.0 key.now.words.now) (key_at w (store_in self.now) i.0) }
     {
         let k = i.0;
         key.point.0 == wide(self.sources[k])
@@ -68,7 +36,7 @@ impl<'a> Made<'a> {
 
     // The vertex, if there is one, among the first n that has the point and the words of a corner. Only the chain of the vertices in the key's bucket is
     // looked at: the last of them is in its head, the one before vertex i in the next of i.
-    pub fn find(
+    pub(crate) fn find(
         &self,
         w: Widths,
         n: VertexNumber,
@@ -77,9 +45,9 @@ impl<'a> Made<'a> {
         work: &[u32],
         t: Chains,
     ) -> Option<VertexNumber>
-        requires { Roomy w self.now n.0 × Laid t (length work.now) n.0 × Chained t (bucket_at w t self.now) work.now n.0
+        requires { Roomy w (store_in self.now) n.0 × Laid t (length work.now) n.0 × Chained t (bucket_at w t (store_in self.now)) work.now n.0
             × (bucket.0 ≡ bucket_of t.buckets (corner_key w key.now.point.0 key.now.words.now)) × (bucket.0 < t.buckets) }
-        ensures { result ≡ place_of w self.now n.0 (corner_key w key.now.point.0 key.now.words.now) }
+        ensures { result ≡ place_of w (store_in self.now) n.0 (corner_key w key.now.point.0 key.now.words.now) }
     {
         let mut x = known_by(work[t.heads + bucket.0]);
         // A while: the next vertex is where the chain leads, so no range counts it.

@@ -2,7 +2,7 @@ use mathlib.Core.Path.{sym, ◌∙◌}
 use native.Mathlib.Omega.{arith}
 use Rattle.vertices.proofs.Keys.{roomy_le}
 use Rattle.vertices.proofs.ChainLaws.{met_start, met_step, met_below, met_found, met_end}
-use Rattle.vertices.proofs.search.Made.find.Goals as goal
+use Rattle.vertices.proofs.places.VertexSlices.find.Goals as goal
 
 pub loop-x-init : goal.loop-x-init
 loop-x-init c =
