@@ -4,7 +4,6 @@ use mathlib.Core.List.{List}
 use Prim.Native.Nat.{ℕ, ◌+◌, ◌*◌, ◌≤◌}
 use native.Mathlib.Omega.{arith}
 use lib.ListN.{take, length}
-use Rattle.block.specs.Edition.{most}
 use Rattle.block.specs.Runs.{runs, sum_over}
 use Rattle.mesh.specs.Sizes.{named}
 use Rattle.tables.specs.Layout.{plan_of}
