@@ -71,7 +71,9 @@ fn rows() -> Vec<(&'static str, Made)> {
         ("faces of 3 corners", Box::new(blocks::triangles)),
         ("faces of 4 corners over heights", Box::new(blocks::quads)),
         ("strip set", Box::new(blocks::strip)),
-        ("fan set, faces within the crease angle", Box::new(blocks::fan)),
+        ("fan set, own face", Box::new(|maker, n| blocks::fan(maker, blocks::OWN, n))),
+        ("fan set, faces within the crease angle", Box::new(|maker, n| blocks::fan(maker, blocks::CREASE, n))),
+        ("fan set, every face", Box::new(|maker, n| blocks::fan(maker, blocks::EVERY, n))),
         ("triangle set", Box::new(blocks::triangle_set)),
         ("quad set", Box::new(blocks::quad_set)),
         ("concave faces of 127 corners", Box::new(|_, n| blocks::stars(n))),
@@ -84,12 +86,22 @@ fn rows() -> Vec<(&'static str, Made)> {
         ("one point with other colours, every face", Box::new(|_, n| blocks::one_point(FACES, blocks::EVERY, n))),
         ("one point with other colours, line set", Box::new(|_, n| blocks::one_point(LINES, blocks::OWN, n))),
         ("one point, colours made against the hash", Box::new(blocks::against_the_hash)),
+        ("one point, texture made against the hash", Box::new(|_, n| blocks::against_the_hash_at_the_end(n))),
         ("three points, the worst found", Box::new(blocks::three_points)),
         ("soup with every attribute", Box::new(blocks::soup)),
+        ("soup as a triangle set with every attribute", Box::new(blocks::soup_set)),
         ("comb", Box::new(|_, n| blocks::plates(&[outlines::comb(n / 2)]))),
         ("combs in each other", Box::new(|_, n| blocks::plates(&[outlines::zipper(n / 2)]))),
         ("spiral", Box::new(|_, n| blocks::plates(&[outlines::spiral(n / 2)]))),
     ]
+}
+
+/// The sizes of the growth, up to what a block may list.
+const SIZES: [usize; 4] = [LIMIT / 8, LIMIT / 4, LIMIT / 2, LIMIT];
+
+/// A number with a comma before each three digits.
+fn grouped(n: usize) -> String {
+    if n < 1000 { n.to_string() } else { format!("{},{:03}", grouped(n / 1000), n % 1000) }
 }
 
 /// Prints the tables of the rows whose names have the part; the answer is whether all agreed.
@@ -106,7 +118,7 @@ pub fn bench(part: &str) -> bool {
     println!("|---|---|---|---|---|");
     for (name, make) in rows {
         let mut cells = Vec::new();
-        for size in [LIMIT, LIMIT / 2, LIMIT / 4, LIMIT / 8] {
+        for size in SIZES.into_iter().rev() {
             let shape = make(&mut maker, size);
             let t = timed(&shape, &maker, &mut slices, Duration::from_secs(1)).expect("a mesh");
             if size == LIMIT {
@@ -121,8 +133,8 @@ pub fn bench(part: &str) -> bool {
         }
         grown.push(format!("| {name} | {} |", cells.join(" | ")));
     }
-    println!("\n| block | 1,024 | 2,048 | 4,096 | 8,192 |");
-    println!("|---|---|---|---|---|");
+    println!("\n| block | {} |", SIZES.map(grouped).join(" | "));
+    println!("|---{}|", "|---".repeat(SIZES.len()));
     grown.iter().for_each(|row| println!("{row}"));
     agreed
 }

@@ -94,12 +94,12 @@ pub fn strip(maker: &mut Maker, corners: usize) -> Shape {
 }
 
 /// One fan of a ring of heights round its first point, of no more than so many corners.
-pub fn fan(maker: &mut Maker, corners: usize) -> Shape {
+pub fn fan(maker: &mut Maker, crease: f32, corners: usize) -> Shape {
     let entries = corners / 3 + 2;
     let heights = maker.values(entries, Taste::Real);
     let ring = outlines::circle(entries);
     let points: Vec<f32> = (0..entries).flat_map(|k| [ring[k][0], heights[k], ring[k][1]]).collect();
-    let mut shape = faces(CREASE, &points, &(0..entries as i32).collect::<Vec<_>>());
+    let mut shape = faces(crease, &points, &(0..entries as i32).collect::<Vec<_>>());
     shape.kind = FANS;
     shape
 }
@@ -177,24 +177,54 @@ pub fn one_point(kind: u32, crease: f32, entries: usize) -> Shape {
     shape
 }
 
-/// The converter's hash of a line's vertex at point 0, of the words of its colour (vertices/specs/Hash.antt).
-fn hash_of(colour: [u32; 4]) -> u32 {
-    let weights = [0xd6e_8feb_u64, 0xa13_6aaf, 0xe2d_0b4d, 0x8f1_bbcd];
-    let sum: u64 = colour.iter().zip(weights).map(|(&word, weight)| word as u64 * weight).sum();
+/// The converter's hash of a vertex at point 0, of the words of its normal, colour and texture, 0 where none is made
+/// (vertices/specs/Hash.antt).
+fn hash_of(normal: [u32; 3], colour: [u32; 4], texture: [u32; 2]) -> u32 {
+    let normals = [0xb52_97a5, 0x85e_bca7, 0xc2b_2ae3];
+    let colours = [0xd6e_8feb, 0xa13_6aaf, 0xe2d_0b4d, 0x8f1_bbcd];
+    let textures = [0xca6_2c1d, 0x94d_049b];
+    let words = normal.into_iter().chain(colour).chain(texture);
+    let weights = normals.into_iter().chain(colours).chain(textures);
+    let sum: u64 = words.zip(weights).map(|(word, weight): (u32, u64)| word as u64 * weight).sum();
     (sum as u32 ^ (sum >> 32) as u32).wrapping_mul(0xb529_7a4d)
 }
 
-/// The line set of one point, made against the hash: the keys of all vertices are in the first bucket.
+/// Whether the hash is one of the first bucket, of those for so many corners at one point.
+fn is_first(hash: u32, corners: usize) -> bool {
+    let buckets = corners as u64 / 3 + 2 + 1;
+    hash as u64 * buckets >> 32 == 0
+}
+
+/// The line set of one point, made against the hash: the keys of all vertices are in the first bucket. They differ in the
+/// first word that is held against another.
 pub fn against_the_hash(maker: &mut Maker, entries: usize) -> Shape {
-    let buckets = entries as u64 / 3 + 2 + 1;
     let first = |colour: &[f32; 3]| {
         let words = [colour[0], colour[1], colour[2], 1.0].map(f32::to_bits);
-        hash_of(words) as u64 * buckets >> 32 == 0
+        is_first(hash_of([0; 3], words, [0; 2]), entries)
     };
     let any = || Some(std::array::from_fn(|_| maker.rng.real()));
     let colours: Vec<f32> = std::iter::from_fn(any).filter(first).take(entries).flatten().collect();
     let mut shape = one_point(LINES, OWN, entries);
     shape.set_floats(2, &colours);
+    shape
+}
+
+/// The face set of one point with every attribute, made against the hash as well. Its keys differ in the last word alone.
+pub fn against_the_hash_at_the_end(entries: usize) -> Shape {
+    let (normal, colour, s) = ([0.0, 1.0, 0.0], [0.5, 0.25, 0.75, 1.0], 0.5_f32);
+    let first = |t: &u32| is_first(hash_of(normal.map(f32::to_bits), colour.map(f32::to_bits), [s.to_bits(), *t]), entries);
+    let ends = (0.5_f32.to_bits()..).filter(first).take(entries);
+    // The vertex has 1 - t, which is exact from 0.5 on.
+    let textures: Vec<f32> = ends.flat_map(|t| [s, 1.0 - f32::from_bits(t)]).collect();
+    let mut shape = faces(OWN, &[0.0; 3], &vec![0; entries]);
+    shape.flags[flag::ALPHA] = true;
+    for present in [flag::COLOURS, flag::NORMALS, flag::TEXTURE] {
+        shape.flags[present] = true;
+    }
+    shape.set_floats(2, &colour);
+    shape.set_floats(4, &normal);
+    shape.set_floats(6, &textures);
+    shape.set_entries(7, &(0..entries as i32).collect::<Vec<_>>());
     shape
 }
 
@@ -218,6 +248,20 @@ pub fn soup(maker: &mut Maker, entries: usize) -> Shape {
         shape.flags[present] = true;
         shape.set_floats(k, &values[..if k == 6 { 2 * count } else { 3 * count }]);
         shape.set_entries(k + 1, &lists[k / 2]);
+    }
+    shape
+}
+
+/// The same as a triangle set, which has its attributes by the point's number.
+pub fn soup_set(maker: &mut Maker, entries: usize) -> Shape {
+    let count = entries / 3;
+    let values = maker.values(3 * count, Taste::Real);
+    let index: Vec<i32> = (0..3 * count).map(|_| maker.rng.below(count) as i32).collect();
+    let mut shape = faces(CREASE, &values, &index);
+    shape.kind = TRIANGLES;
+    for (k, present) in [(2, flag::COLOURS), (4, flag::NORMALS), (6, flag::TEXTURE)] {
+        shape.flags[present] = true;
+        shape.set_floats(k, &values[..if k == 6 { 2 * count } else { 3 * count }]);
     }
     shape
 }

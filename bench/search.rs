@@ -5,7 +5,7 @@ use std::time::{Duration, Instant};
 
 use crate::bench::{Timed, ms, timed};
 use crate::blocks::{CREASE, EVERY, OWN};
-use crate::format::{FACES, LIMIT, LINES, flag};
+use crate::format::{EXTRUSION, FACES, FANS, GRID, LIMIT, LINES, QUADS, STRIPS, TRIANGLES, flag};
 use crate::maker::{Maker, Taste};
 use crate::ours::Slices;
 use crate::rng::Rng;
@@ -16,15 +16,18 @@ const FLOOR: Duration = Duration::from_micros(20);
 /// How many blocks the search goes on from.
 const KEPT: usize = 8;
 
+/// The kinds, some of them more often than others.
+const KINDS: [u32; 12] = [FACES, FACES, FACES, FACES, LINES, LINES, GRID, EXTRUSION, TRIANGLES, FANS, STRIPS, QUADS];
+
 /// How a block is made.
 #[derive(Clone, Debug)]
 struct Recipe {
-    /// 0 and 1 as the kinds; 2 a grid, 3 an extrusion, made as the comparison makes them.
+    /// A grid and an extrusion are made as the comparison makes them.
     kind: u32,
     seed: u64,
     entries: usize,
     points: usize,
-    /// Corners of a face or entries of a line; every other one is shorter where `uneven`.
+    /// Corners of a face or entries of a line, a fan or a strip; every other one is shorter where `uneven`.
     run: usize,
     uneven: bool,
     /// One of so many entries names point 0 and no other.
@@ -32,7 +35,8 @@ struct Recipe {
     crease: f32,
     convex: bool,
     taste: Taste,
-    /// For colours, normals and texture: 0 none, 1 by vertex, 2 by face, 3 each corner its own.
+    /// For colours, normals and texture: 0 none, 1 by vertex, 2 by face, 3 each corner its own. Of primitive sets all but
+    /// 0 are by vertex, as they have no other.
     attributes: [u8; 3],
     /// How many different values an attribute has.
     values: usize,
@@ -47,7 +51,7 @@ fn scaled(rng: &mut Rng, most: usize) -> usize {
 impl Recipe {
     fn any(rng: &mut Rng) -> Self {
         let mut recipe = Self {
-            kind: 0,
+            kind: FACES,
             seed: 0,
             entries: LIMIT,
             points: 1,
@@ -67,7 +71,7 @@ impl Recipe {
     /// Part k made anew.
     fn change(&mut self, rng: &mut Rng, k: usize) {
         match k {
-            0 => self.kind = rng.pick(&[0, 0, 0, 0, 1, 1, 2, 3]),
+            0 => self.kind = rng.pick(&KINDS),
             1 => self.seed = rng.bits() as u64,
             2 => self.entries = if rng.coin() { LIMIT } else { scaled(rng, LIMIT) },
             3 => self.points = scaled(rng, LIMIT),
@@ -83,8 +87,14 @@ impl Recipe {
     }
 
     fn index(&self, rng: &mut Rng, below: usize) -> Vec<i32> {
-        // The reference takes minutes for long faces with convex off.
-        let run = if self.convex { self.run } else { self.run.min(300) };
+        let (entries, run) = match self.kind {
+            // Nothing ends a primitive.
+            TRIANGLES | QUADS => (self.entries, usize::MAX),
+            // Each entry of a run but two makes three corners.
+            FANS | STRIPS => (self.entries / 3 + 2, self.run),
+            // The reference takes minutes for long faces with convex off.
+            _ => (self.entries, if self.convex { self.run } else { self.run.min(300) }),
+        };
         let mut left = run;
         let mut short = false;
         let mut one = || {
@@ -96,11 +106,14 @@ impl Recipe {
             left -= 1;
             if rng.one_in(self.hub) { 0 } else { rng.below(below) as i32 }
         };
-        (0..self.entries).map(|_| one()).collect()
+        (0..entries).map(|_| one()).collect()
     }
 
     fn attribute(&self, maker: &mut Maker, shape: &mut Shape, k: usize, index: &[i32]) {
-        let how = self.attributes[k];
+        let mut how = self.attributes[k];
+        if self.kind >= TRIANGLES {
+            how = how.min(1);
+        }
         if how == 0 {
             return;
         }
@@ -120,7 +133,9 @@ impl Recipe {
     fn shape(&self, maker: &mut Maker) -> Shape {
         maker.rng = Rng::new(self.seed, 0);
         let mut shape = match self.kind {
-            FACES | LINES => {
+            GRID => maker.grid(self.points.clamp(3, 90)),
+            EXTRUSION => maker.extrusion(self.points.clamp(3, 90)),
+            _ => {
                 let mut shape = Shape::new(self.kind);
                 let points = maker.values(3 * self.points, self.taste);
                 shape.set_floats(0, &points);
@@ -129,8 +144,6 @@ impl Recipe {
                 (0..3).for_each(|k| self.attribute(maker, &mut shape, k, &index));
                 shape
             }
-            2 => maker.grid(self.points.clamp(3, 90)),
-            _ => maker.extrusion(self.points.clamp(3, 90)),
         };
         shape.flags[flag::CONVEX] = self.convex;
         shape.crease(self.crease);

@@ -18,7 +18,7 @@ use Rattle.vertices.specs.Places.{colour_words, texture_words, Store, store_of}
 use Rattle.vertices.proofs.Turns.{made_few, holds_lengths}
 use Rattle.corners.specs.declared.attributes.Attributes.{Attributes}
 use Rattle.corners.specs.declared.laid.CornerTables.{CornerTables}
-use Rattle.corners.specs.Laid.{tables_at, tables_of}
+use Rattle.corners.specs.Laid.{tables_of}
 use Rattle.corners.specs.Corner.{Lent, point_at, key_in}
 use Rattle.corners.specs.Cornered as cornered
 use Rattle.corners.specs.Cornered.{vertices_in, Cornered}
@@ -26,7 +26,7 @@ use Rattle.faces.specs.Indices as indices
 use Rattle.faces.specs.Indices.{all_faces, Made}
 use Rattle.build.specs.declared.shared.Shared.{Shared}
 use Rattle.build.specs.Built.{Wide, Ready}
-use Rattle.build.proofs.Rooms.{all_sized}
+use Rattle.build.proofs.Indices.{all_sized}
 
 wide_le : (n v : ℕ) → Wide n v → v ≤ n
 wide_le n v = ⊎_elim (λ e. omega arith) (λ e. omega arith)
@@ -45,7 +45,7 @@ module _ {L : Lent} {s : Shared} {t : Plan} {w : List ℕ} {o : Slices} (R : Rea
   sound = R.soup.told.holds.sound
 
   pub corners_ready : cornered.Ready L s.widths w (tables_of t) (store_of o)
-  unfolding tables_of tables_at point_at point_in
+  unfolding tables_of point_at point_in
   corners_ready =
       let e = R.normal in
       record {
@@ -65,18 +65,18 @@ module _ {L : Lent} {s : Shared} {t : Plan} {w : List ℕ} {o : Slices} (R : Rea
 
   -- there are as many words of normals as there were
   pub normals_stay : {st : Store} {w₁ : List ℕ} {n : ℕ} → Cornered L s.attributes s.widths (tables_of t) (store_of o) w st w₁ n → length st.normals ≡ length o.normals
-  unfolding vertices_in tables_of tables_at
+  unfolding vertices_in tables_of
   normals_stay C =
       (holds_lengths C.holds (made_few (key_in L s.attributes s.widths w (tables_of t)) t.count) corners_ready.roomy).normals
 
   module _ {z : Store} {st : Store} {w₁ : List ℕ} {n : ℕ}
       (C : Cornered L s.attributes s.widths (tables_of t) z w st w₁ n) where
     few_vertices : n ≤ t.count
-    unfolding vertices_in tables_of tables_at
+    unfolding vertices_in tables_of
     few_vertices = omega (arith, C.count, made_few (key_in L s.attributes s.widths w (tables_of t)) t.count)
 
     pub tables_kept : Kept t.named w w₁
-    unfolding tables_of tables_at
+    unfolding tables_of
     tables_kept = C.kept
 
     sound_after : Sound w₁ t
@@ -108,7 +108,7 @@ module _ {L : Lent} {s : Shared} {t : Plan} {w : List ℕ} {o : Slices} (R : Rea
 
       pub mending_ready : {normals : List ℕ} → length st.normals ≡ length o.normals → normals ≡ st.normals
           → (n ≤ 2 ^ 18) × (length (take (k - 0) (drop 0 o₁)) ≤ 3 * 2 ^ 18) × (n ≤ length w₂) × (3 * n ≤ length normals)
-      unfolding tables_of tables_at
+      unfolding tables_of
       mending_ready e q' =
           let q = sound.room in
           let few : n ≤ t.count = few_vertices in

@@ -25,7 +25,7 @@ use Rattle.vertices.specs.Places.{Store, store_of}
 use Rattle.vertices.specs.Adding as adding
 use Rattle.vertices.specs.Adding.{made_of}
 use Rattle.vertices.proofs.Sliced.{sources_held, positions_held, normals_held, colours_held, textures_held, colours_left, textures_left}
-use Rattle.corners.specs.Laid.{tables_at, tables_of}
+use Rattle.corners.specs.Laid.{tables_of}
 use Rattle.corners.specs.Corner.{Lent, key_in}
 use Rattle.corners.specs.Cornered.{vertices_in, Cornered}
 use Rattle.faces.specs.Indices.{all_faces, Named, Made}
@@ -53,7 +53,7 @@ module _ {L : Lent} {s : Shared} {t : Plan} {w : List ℕ} {F : Frame} {fs : Lis
 
   -- FORMAT 11: the vertices of all corners are the soup's
   vertices_told : vertices_in L s.attributes s.widths w (tables_of t) ≡ vertices F fs
-  unfolding vertices_in made_of vertices tables_of tables_at
+  unfolding vertices_in made_of vertices tables_of
   vertices_told = ap (firsts same_key []) T.keys
 
   -- corner i of kept face j, among all corners; its key
@@ -82,7 +82,7 @@ module _ {L : Lent} {s : Shared} {t : Plan} {w : List ℕ} {F : Frame} {fs : Lis
     holds_after = holds_kept (tables_kept R C) (le_refl t.named) T.holds
 
     named_told : (c : ℕ) → c < t.count → named_in w₁ t c ≡ place same_key (key_at c) (vertices F fs)
-    unfolding named_in tables_of tables_at
+    unfolding named_in tables_of
     named_told c h = C.named c h ∙ ap (place same_key (key_at c)) vertices_told
 
     named_after : Named w₁ t F fs (vertices F fs)
@@ -96,7 +96,7 @@ module _ {L : Lent} {s : Shared} {t : Plan} {w : List ℕ} {F : Frame} {fs : Lis
 
     -- FORMAT 5: the slices hold the soup's vertices, with normals still to be mended
     vertices_held : adding.Holds s.widths F.points (store_of o) st (vertices F fs)
-    unfolding tables_of tables_at adding.points_in points_in
+    unfolding tables_of adding.points_in points_in
     vertices_held =
         subst (adding.Holds s.widths F.points (store_of o) st) vertices_told
         (subst (λ (p : List ℕ). adding.Holds s.widths p (store_of o) st (vertices_in L s.attributes s.widths w (tables_of t))) T.holds.points C.holds)

@@ -1,5 +1,5 @@
--- The room for the tables, what is made by a block's header, what the calls ask, the join to the mesh's definition, and a worked case.
-pub mod Rooms
+-- How many indices are made, what is made by a block's header, what the calls ask, the join to the mesh's definition, and a worked case.
+pub mod Indices
 pub mod Shaping
 mod Asked
 mod Joined

@@ -23,11 +23,11 @@ use Rattle.lists.specs.Parts.{seg}
 use Rattle.tables.specs.Soups.{point_in, gather_in, start_in, points_in, plain, corner_in, face_in, soup_in}
 use Rattle.tables.proofs.Room.{plan_fits}
 use Rattle.vertices.specs.Search.{corner_key}
-use Rattle.corners.specs.Laid.{tables_at, tables_of}
+use Rattle.corners.specs.Laid.{tables_of}
 use Rattle.corners.specs.Corner.{Lent, point_at, texture_at, generated_at, normal_at, words_at, key_in}
 use Rattle.build.specs.declared.shared.Shared.{Shared}
 use Rattle.build.specs.Built.{Told, Ready}
-use Rattle.build.proofs.Rooms.{plan_laid, plan_low}
+use Rattle.corners.proofs.Rooms.{plan_laid, plan_low}
 
 -- (0, 0, 0), (1, 0, 0), (0, 1, 0)
 abbrev points : List ℕ
@@ -77,7 +77,7 @@ rising zero h = omega arith
 rising (suc g) h = let z : ⊥ = omega arith in absurd z
 
 told : Told lent shared plan words frame faces
-unfolding plan_of tables_of tables_at point_in gathered gather_in start_in points_in seg corner_in face_in soup_in tab dense join_n keys_of key_of corner_normal key_in corner_key point_at words_at normal_at generated_at texture_at of_bits to_bits
+unfolding plan_of tables_of point_in gathered gather_in start_in points_in seg corner_in face_in soup_in tab dense join_n keys_of key_of corner_normal key_in corner_key point_at words_at normal_at generated_at texture_at of_bits to_bits
 told = record {
   holds = record {
     sound = record {

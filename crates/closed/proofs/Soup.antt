@@ -1,7 +1,7 @@
 -- FORMAT 11, 12.1: the edges of the triangles of a soup, by the points of its corners: face by face the outline's, but for those that have their way back.
 use mathlib.Core.Path.{◌≡◌, refl, sym, ap, ◌∙◌}
 use mathlib.Core.Bool.{Bool, true, false, cond}
-use mathlib.Core.List.{List, [], ◌∷◌, ◌++◌, map, map-append, map-map}
+use mathlib.Core.List.{List, [], ◌∷◌, map, map-map}
 use Prim.Native.Nat.{ℕ, suc, ◌+◌, ◌<◌}
 use native.Mathlib.Nat.{zero-add}
 use native.Mathlib.Omega.{arith}
@@ -9,8 +9,9 @@ use lib.Dec.{eqb}
 use lib.ListN.{length, get_or, length-map}
 use Rattle.lists.specs.Loops.{pick}
 use Rattle.lists.specs.Lists.{join_n, total}
-use Rattle.lists.proofs.Lists.{join_n_same}
+use Rattle.lists.proofs.Lists.{join_n_same, map_join_n}
 use Rattle.lists.proofs.Tabs.{map_tab, tab_list}
+use Rattle.lists.proofs.Totals.{total_map, total_both}
 use Rattle.lists.proofs.Tests.{and_comm}
 use Rattle.polygon.specs.Ears.{Tri, outline as numbers}
 use Rattle.polygon.specs.Edges.{back, edge, named, tris, around}
@@ -24,28 +25,6 @@ use Rattle.mesh.specs.Mesh.{mesh_of, mesh, slices_of, Slices, Shown, shown_at, p
 use Rattle.mesh.proofs.Corners.{part_is, corner_shown, face_shown, part_shown}
 use Rattle.closed.specs.Edges.{triangles_of, edges_in, steps_in}
 use Rattle.closed.proofs.Edges.{tris_named, around_named, tris_append, wound_append, wound_on, wound_off}
-
--- ---- sums
-
-module _ {A B : Type 0} where
-  pub total_map : (size : B → ℕ) (f : A → B) (l : List A) → total size (map f l) ≡ total (λ (x : A). size (f x)) l
-  unfolding total
-  total_map size f [] = refl
-  total_map size f (x ∷ l) = ap (λ (n : ℕ). size (f x) + n) (total_map size f l)
-
-  map_join_n : {C : Type 0} (f : B → C) (g : ℕ → A → List B) (n : ℕ) (l : List A) → map f (join_n g n l) ≡ join_n (λ (n : ℕ) (x : A). map f (g n x)) n l
-  unfolding join_n
-  map_join_n f g n [] = refl
-  map_join_n {C} f g n (x ∷ l) = map-append f (g n x) (join_n g (suc n) l) ∙ ap (λ (r : List C). map f (g n x) ++ r) (map_join_n f g (suc n) l)
-
--- what is equal of each is equal of all
-total_both : {A : Type 0} (a b c d : A → ℕ) → ((x : A) → a x + b x ≡ c x + d x) → (l : List A) → total a l + total b l ≡ total c l + total d l
-unfolding total
-total_both a b c d h [] = refl
-total_both a b c d h (x ∷ l) =
-    let e : total a l + total b l ≡ total c l + total d l = total_both a b c d h l in
-    let f : a x + b x ≡ c x + d x = h x in
-    omega arith
 
 edge_back : (p q : ℕ) → back (edge p q) ≡ edge q p
 edge_back p q = λ i a b. pick (and_comm (eqb b p) (eqb a q) i) 1 0

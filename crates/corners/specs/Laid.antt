@@ -5,29 +5,26 @@ use Rattle.tables.specs.declared.layout.Plan.{Plan}
 use Rattle.vertices.specs.declared.places.Chains.{Chains}
 use Rattle.corners.specs.declared.laid.CornerTables.{CornerTables}
 
--- vertex numbers, places, face numbers, texture, heads and nexts, one after another; `numbers` is where the face numbers start; a bucket for each three corners and two for each point
-unfoldable pub tables_at : ℕ → ℕ → ℕ → ℕ → ℕ → ℕ → ℕ → CornerTables
-tables_at count points spots corners named places numbers =
-    let textures = numbers + count in
-    let buckets = count / 3 + 2 * spots + 1 in
-    let heads = textures + 2 * count in
+-- points, corners, vertex numbers and places where a plan has them; the face numbers where the owners stood, and texture, heads and nexts one after another behind
+-- them; a bucket for each three corners and two for each point
+unfoldable pub tables_of : Plan → CornerTables
+tables_of t =
+    let textures = t.owners + t.count in
+    let buckets = t.count / 3 + 2 * t.spots + 1 in
+    let heads = textures + 2 * t.count in
     record {
-      count = count;
-      points = points;
-      spots = spots;
-      corners = corners;
-      named = named;
-      places = places;
-      numbers = numbers;
+      count = t.count;
+      points = t.points;
+      spots = t.spots;
+      corners = t.corners;
+      named = t.named;
+      places = t.places;
+      numbers = t.owners;
       textures = textures;
       buckets = buckets;
       heads = heads;
       nexts = heads + buckets;
     }
-
--- where a plan has them; the face numbers stand where the owners stood
-unfoldable pub tables_of : Plan → CornerTables
-tables_of t = tables_at t.count t.points t.spots t.corners t.named t.places t.owners
 
 -- in len words: points and corners below the vertex numbers; then places, face numbers, texture, heads and nexts
 pub record Laid (t : CornerTables) (len : ℕ) : Type 0 where

@@ -1,7 +1,7 @@
 // Where the tables of the corners stand in the working slice while vertices are made (FORMAT 4).
 ghost use Rattle.std.specs.Prelude.{◌≡◌, ◌≤◌, ◌^◌};
 ghost use Rattle.tables.specs.Layout.{most};
-ghost use Rattle.corners.specs.Laid.{tables_at, tables_of};
+ghost use Rattle.corners.specs.Laid.{tables_of};
 
 use tables::Plan;
 
@@ -22,49 +22,30 @@ pub struct CornerTables {
     pub nexts: usize,
 }
 
-// The tables from the face numbers on stand one after another; those before are where a shape has put them. There is a
-// bucket for each three corners and two for each point: the words that are lent (FORMAT 4) have room for that many, however
-// many faces there are.
-#[tactic(auto, unfolding(crate::specs::Laid::tables_at))]
-pub fn corner_tables(
-    count: usize,
-    points: usize,
-    spots: usize,
-    corners: usize,
-    named: usize,
-    places: usize,
-    numbers: usize,
-) -> CornerTables
-    requires { (count ≤ most) × (spots ≤ most) × (numbers ≤ 2 ^ 32) }
-    ensures { result ≡ tables_at count points spots corners named places numbers }
-{
-    let textures = numbers + count;
-    let buckets = count / 3 + 2 * spots + 1;
-    let heads = textures + 2 * count;
-    CornerTables {
-        count,
-        points,
-        spots,
-        corners,
-        named,
-        places,
-        numbers,
-        textures,
-        buckets,
-        heads,
-        nexts: heads + buckets,
-    }
-}
-
 impl CornerTables {
-    // Where a plan has them; the face numbers stand where the owners stood.
+    // Those before the face numbers are where the plan has them; the face numbers stand where the owners stood, and the others one after another behind them.
+    // There is a bucket for each three corners and two for each point: the words that are lent (FORMAT 4) have room for that many, however many faces there
+    // are.
     #[tactic(auto, unfolding(crate::specs::Laid::tables_of))]
     pub fn of_plan(t: Plan) -> CornerTables
         requires { (t.count ≤ most) × (t.spots ≤ most) × (t.owners ≤ 2 ^ 32) }
         ensures { result ≡ tables_of t }
     {
-        corner_tables(
-            t.count, t.points, t.spots, t.corners, t.named, t.places, t.owners,
-        )
+        let textures = t.owners + t.count;
+        let buckets = t.count / 3 + 2 * t.spots + 1;
+        let heads = textures + 2 * t.count;
+        CornerTables {
+            count: t.count,
+            points: t.points,
+            spots: t.spots,
+            corners: t.corners,
+            named: t.named,
+            places: t.places,
+            numbers: t.owners,
+            textures,
+            buckets,
+            heads,
+            nexts: heads + buckets,
+        }
     }
 }

@@ -7,5 +7,5 @@ mod laid;
 mod whole;
 
 pub use attributes::{Attributes, Given};
-pub use laid::{CornerTables, corner_tables};
+pub use laid::CornerTables;
 pub use whole::all_vertices;

@@ -15,7 +15,7 @@ use Rattle.block.specs.Extents.{extrusion_widths, list_bytes}
 use Rattle.block.proofs.EditionLaws.{count_narrow}
 use Rattle.block.proofs.ExtentLaws.{widths_of, size_by, list_length}
 use Rattle.lists.specs.Loops.{tab}
-use Rattle.lists.proofs.Tabs.{tab_same}
+use Rattle.lists.proofs.Tabs.{tab_same, count_is}
 use Rattle.lists.specs.Lists.{flat}
 use Rattle.math.specs.declared.vector.V3.{V3}
 use Rattle.math.specs.declared.quaternion.Quat.{Quat}
@@ -27,7 +27,6 @@ use Rattle.lists.specs.Parts.{spliced}
 use Rattle.lists.proofs.Tests.{or_none}
 use Rattle.extrusion.specs.Given.{scale_count, turn_count, Given}
 use Rattle.extrusion.specs.Rows.{row_by, rows_by}
-use Rattle.extrusion.proofs.Values.{count_is}
 
 module _ {bs : List ℕ} {h : Header} (G : Given bs h) where
   pub list_size_lem : (k : ℕ) → length (list_bytes bs h k) ≡ 4 * (get_or extrusion_widths k 0 * get_or h.counts k 0)

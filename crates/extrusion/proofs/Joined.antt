@@ -14,7 +14,7 @@ use Rattle.lists.proofs.Tabs.{length_tab, tab_same, map_tab}
 use Rattle.lists.specs.Lists.{map_n}
 use Rattle.mesh.specs.Soup.{Corner, Face}
 use Rattle.mesh.specs.Quads.{quad}
-use Rattle.mesh.specs.Sizes.{side_count, cap_count, extrusion_sizes}
+use Rattle.mesh.specs.Sizes.{quad_count, cap_count, extrusion_sizes}
 use Rattle.mesh.specs.Extrusion.{Extrusion, spine_count, section_count, section_of, extrusion_of, has_cap, closes, cap_length, side_corner, cap_corner, sides, cap_face, face_if, caps, extrusion_faces, point_number}
 use Rattle.lists.proofs.Totals.{tab_reverse, map_n_tab}
 use Rattle.lists.proofs.Lists.{map_n_append}
@@ -159,7 +159,7 @@ module _ {bs : List ℕ} {h : Header} (G : Given bs h) where
 
   -- FORMAT 4: the tables' plan, from the sizes
   pub planned : {len : ℕ} {t : Plan} → Room len t → t.spots ≡ (extrusion_sizes bs h).points → t.count ≡ (extrusion_sizes bs h).corners
-      → t.faces ≡ side_count h + cap_count h (cap_length (section_of bs h)) → Planned h (cap_length (section_of bs h)) len t
+      → t.faces ≡ quad_count h + cap_count h (cap_length (section_of bs h)) → Planned h (cap_length (section_of bs h)) len t
   unfolding extrusion_sizes
   planned R s c f = record {
     room = R;

@@ -5,7 +5,7 @@ use Rattle.lists.specs.Loops.{tab}
 use Rattle.lists.specs.Lists.{map_n}
 use Rattle.mesh.specs.Quads.{tabs, quad}
 use Rattle.mesh.specs.Extrusion.{spine_count, section_count, point_number, has_cap}
-use Rattle.mesh.specs.Sizes.{side_count, cap_count}
+use Rattle.mesh.specs.Sizes.{quad_count, cap_count}
 use Rattle.tables.specs.declared.layout.Plan.{Plan}
 use Rattle.tables.specs.Layout.{Room}
 use Rattle.tables.specs.Listed.{Use, Listing}
@@ -53,5 +53,5 @@ pub record Planned (h : Header) (cap : ℕ) (len : ℕ) (t : Plan) : Type 0 wher
   pub section : 2 ≤ section_count h
   pub fewer : cap ≤ section_count h
   pub spots : t.spots ≡ spine_count h * section_count h
-  pub count : t.count ≡ 4 * side_count h + cap_count h cap * cap
-  pub faces : t.faces ≡ side_count h + cap_count h cap
+  pub count : t.count ≡ 4 * quad_count h + cap_count h cap * cap
+  pub faces : t.faces ≡ quad_count h + cap_count h cap

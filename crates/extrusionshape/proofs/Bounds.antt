@@ -10,7 +10,7 @@ use Rattle.block.specs.declared.settings.Settings.{Settings}
 use Rattle.block.proofs.Table.{count_low}
 use Rattle.mesh.specs.Mesh.{Slices}
 use Rattle.mesh.specs.Extrusion.{spine_count, section_count, section_of, ring_of, cap_length, has_cap}
-use Rattle.mesh.specs.Sizes.{one, side_count, cap_count, extrusion_sizes, sizes_of}
+use Rattle.mesh.specs.Sizes.{one, quad_count, cap_count, extrusion_sizes, sizes_of}
 use Rattle.tables.specs.declared.layout.Plan.{Plan}
 use Rattle.tables.specs.Layout.{most, plan_of}
 use Rattle.lent.specs.Lent.{Asked}
@@ -27,8 +27,8 @@ use Rattle.sizes.specs.declared.kinds.Sizes.{Sizes}
 use Rattle.sizes.specs.Known.{Sides, Are}
 
 -- each face of n corners makes 3 (n - 2) indices
-indices_fit : (h : Header) (cap : ℕ) → 3 * (4 * side_count h + cap_count h cap * cap - 2 * (side_count h + cap_count h cap)) ≤ 6 * side_count h + cap_count h cap * (3 * (cap - 2))
-indices_fit h cap = go (side_count h) (has_cap h.begin_cap cap) (has_cap h.end_cap cap)
+indices_fit : (h : Header) (cap : ℕ) → 3 * (4 * quad_count h + cap_count h cap * cap - 2 * (quad_count h + cap_count h cap)) ≤ 6 * quad_count h + cap_count h cap * (3 * (cap - 2))
+indices_fit h cap = go (quad_count h) (has_cap h.begin_cap cap) (has_cap h.end_cap cap)
   where
     go : (k : ℕ) (s t : Bool) → 3 * (4 * k + (one s + one t) * cap - 2 * (k + (one s + one t))) ≤ 6 * k + (one s + one t) * (3 * (cap - 2))
     go k true true = omega arith
@@ -54,12 +54,12 @@ module _ {bs : List ℕ} {h : Header} {s : Settings} {o : Slices} {w f : ℕ} (A
       }
 
   abbrev faces_in : ℕ
-  faces_in = side_count h + cap_count h (cap_length (section_of bs h))
+  faces_in = quad_count h + cap_count h (cap_length (section_of bs h))
 
   -- with the corners of a cap as the code has them
   module _ {cap : ℕ} (e : cap ≡ cap_length (section_of bs h)) where
     -- and the sizes z, q sides and n caps as it counts them
-    module _ {z : Sizes} (C : Are (extrusion_sizes bs h) 0 z) {q n : ℕ} (eq : q ≡ side_count h) (en : n ≡ cap_count h cap) where
+    module _ {z : Sizes} (C : Are (extrusion_sizes bs h) 0 z) {q n : ℕ} (eq : q ≡ quad_count h) (en : n ≡ cap_count h cap) where
       faces_are : q + n ≡ faces_in
       faces_are = let d : n ≡ cap_count h (cap_length (section_of bs h)) = en ∙ ap (cap_count h) e in λ i. eq i + d i
 

@@ -5,7 +5,7 @@ use mathlib.Core.List.{List, [], ◌∷◌, ◌++◌}
 use Prim.Native.Nat.{ℕ, suc, ◌+◌, ◌-◌, ◌*◌, ◌≤◌, ◌<◌, zero}
 use native.Mathlib.Omega.{arith}
 use borrow.Rule.Slice.PartMut.{put_mid}
-use lib.ListN.{length, get_or, set, take, drop, take-append-drop}
+use lib.ListN.{length, get_or, take, drop, take-append-drop}
 use lib.Seq.{get_or-take, get_or-drop}
 use Rattle.lists.proofs.Lists.{drop_three}
 use Rattle.lists.proofs.Splices.{splice_start, splice_join, splice_over, mid_spliced, put_size, put_part, put_above}
@@ -27,14 +27,6 @@ length_threes (suc n) [] = omega arith
 length_threes (suc n) (a ∷ []) = omega arith
 length_threes (suc n) (a ∷ b ∷ []) = omega arith
 length_threes (suc n) (a ∷ b ∷ c ∷ l) = omega (arith, length_threes n l)
-
--- three words written, and no others
-pub three_set : (l : List ℕ) (a b c : ℕ) → length l ≡ 3 → set (set (set l 0 a) 1 b) 2 c ≡ a ∷ b ∷ c ∷ []
-three_set [] a b c h = cc
-three_set (x ∷ []) a b c h = cc
-three_set (x ∷ y ∷ []) a b c h = cc
-three_set (x ∷ y ∷ z ∷ []) a b c h = refl
-three_set (x ∷ y ∷ z ∷ u ∷ l) a b c h = let e : ⊥ = omega arith in absurd e
 
 -- ---- the loop that renames
 

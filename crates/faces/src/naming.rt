@@ -18,7 +18,7 @@ fn vertex_of(named: &[u32], word: u32) -> VertexNumber
 }
 
 // One triangle. Its three words by hand, and no `put_all`: the whole of it is written, and no place is asked for.
-#[tactic(auto, using(crate::proofs::Threes::three_set))]
+#[tactic(auto, using(lists::proofs::Stores::three_set))]
 fn put_three(tri: &mut [u32], a: VertexNumber, b: VertexNumber, c: VertexNumber)
     requires { (length tri.old ≡ 3) × (a.0 < 2 ^ 32) × (b.0 < 2 ^ 32) × (c.0 < 2 ^ 32) }
     ensures { tri.new ≡ a.0 ∷ b.0 ∷ c.0 ∷ [] }

@@ -1,8 +1,6 @@
-// The tables of a face set (FORMAT 6.1, 6.2, 8.1; split_runs, indexed_face_set): its points, and its kept faces.
+// The kept faces of a face set, as tables (FORMAT 6.1, 6.2, 8.1; split_runs, indexed_face_set).
 #![tactic(auto)]
 
 mod listing;
-mod points;
 
 pub use listing::{Progress, START, list_faces, put_face, put_row};
-pub use points::put_points;

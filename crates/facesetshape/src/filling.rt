@@ -12,10 +12,10 @@ ghost use Rattle.facesetshape.specs.Shape.{face_set_listings, face_set_texture, 
 use crate::listed::SetBlock;
 use block::list_part;
 use build::Shared;
-use faceset::{list_faces, put_points};
+use faceset::list_faces;
 use mesh::Fit;
 use soups::prepare;
-use tables::{Plan, points_of};
+use tables::{Plan, points_of, put_points};
 use texture::fit_of;
 
 // All tables but that of texture. Not one with primitiveshape's, for the reason that stands there.

@@ -18,7 +18,12 @@ use tables::plan_of;
 use texture::Source;
 
 // The mesh of an accepted face set of the sizes z, into the six slices; the working slices are left with zeros.
-pub fn make_face_set(a: &AcceptedBlock<'_>, z: Sizes, missing: Words4, b: &mut Buffers<'_>) -> Counts
+pub fn make_face_set(
+    a: &AcceptedBlock<'_>,
+    z: Sizes,
+    missing: Words4,
+    b: &mut Buffers<'_>,
+) -> Counts
     requires { Called FaceSet a.now b.old × Counted a.now.block.now a.now.header z }
     ensures same { Same b.old b.new }
     ensures made { Shaped a.now.header (face_set_mesh missing a.now.block.now) (slices_in b.old) (slices_in b.new) result

@@ -2,7 +2,7 @@
 use mathlib.Core.Path.{◌≡◌, refl, sym, ap, ◌∙◌}
 use mathlib.Core.List.{List, map}
 use Prim.Native.Nat.{ℕ, suc, ◌+◌, ◌-◌, ◌*◌, ◌/◌, ◌%◌, ◌≤◌, ◌<◌}
-use native.Mathlib.Nat.{one-mul}
+use native.Mathlib.Nat.{one-mul, mul_comm}
 use native.Mathlib.Omega.{arith}
 use lib.ListN.{length, get_or}
 use Rattle.lists.specs.Loops.{tab}
@@ -52,7 +52,7 @@ tables_held h w t S P T =
     let xd = x_dimension h in
     let zd = z_dimension h in
     let ls = grid_listings xd zd in
-    let q : t.faces ≡ (zd - 1) * (xd - 1) = P.faces in
+    let q : t.faces ≡ (zd - 1) * (xd - 1) = P.faces ∙ mul_comm (xd - 1) (zd - 1) in
     let n : t.count ≡ 4 * t.faces = omega (arith, P.count) in
     let at : (j : ℕ) → j < t.faces → get_or ls j no_listing ≡ grid_listing xd j = λ j l. listing_at xd zd j (omega arith) in
     let four : (j : ℕ) → j < t.faces → length (uses_at ls j) ≡ 4 = λ j l. ap (λ (x : Listing). length x.uses) (at j l) in
@@ -68,7 +68,7 @@ tables_held h w t S P T =
       first = start 0 (omega arith);
       starts = λ j l. omega (arith, start (suc j) (omega arith), start j (omega arith), four j l);
       last = start t.faces (omega arith) ∙ sym n;
-      within = λ c l. let b = point_below xd zd c S.wide (omega (arith, P.count)) in omega (arith, T.corners.at c l, b, P.spots);
+      within = λ c l. let b = point_below xd zd c S.wide (omega (arith, n, q)) in omega (arith, T.corners.at c l, b, P.spots);
       numbers = λ j l. T.numbers.at j l ∙ one-mul j ∙ sym (ap (λ (x : Listing). x.number) (at j l));
       points = read (λ (u : Use). u.point) (λ q. refl) t.corners T.corners;
       places = read (λ (u : Use). u.place) (λ q. refl) t.places T.places;

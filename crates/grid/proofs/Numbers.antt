@@ -1,7 +1,7 @@
 -- The numbers of a grid's quads and points.
 use mathlib.Core.Path.{◌≡◌}
 use Prim.Native.Nat.{ℕ, zero, suc, ◌+◌, ◌-◌, ◌*◌, ◌/◌, ◌%◌, ◌≤◌, ◌<◌}
-use native.Mathlib.Nat.{mod-lt, div-lt_iff_lt-mul}
+use native.Mathlib.Nat.{mul_comm, mod-lt, div-lt_iff_lt-mul}
 use native.Mathlib.Omega.{arith}
 use lib.ListN.{get_or}
 use Rattle.lists.proofs.Numbers.{cell_turned}
@@ -40,4 +40,4 @@ pub corner_put : {h : Header} {xd c k r : ℕ} → Sides h → c < 4 * quad_coun
     → (r ≡ corner_point (x_dimension h) c) × (r ≤ most)
 corner_put {h} {xd} {c} {k} {r} S l e m q =
     let p : r ≡ corner_point (x_dimension h) c = unfold corner_point in rw (m, ← e) q in
-    (p, omega (arith, p, point_below (x_dimension h) (z_dimension h) c S.wide l, S.few))
+    (p, omega (arith, p, point_below (x_dimension h) (z_dimension h) c S.wide (omega (arith, l, mul_comm (x_dimension h - 1) (z_dimension h - 1))), S.few))

@@ -2,19 +2,14 @@
 use mathlib.Core.Path.{◌≡◌, refl, sym, ap₂, ◌∙◌}
 use mathlib.Core.List.{[], ◌∷◌, map}
 use Prim.Native.Nat.{ℕ, ◌+◌, ◌-◌, ◌*◌, ◌/◌, ◌%◌, ◌≤◌, ◌<◌}
-use native.Mathlib.Nat.{mul_comm}
 use native.Mathlib.Omega.{arith}
 use lib.ListN.{length}
 use Rattle.lists.proofs.Numbers.{column_of, row_of}
 use Rattle.lists.proofs.Tabs.{tab_same, map_tab}
 use Rattle.bits.specs.declared.Words4.{Words4}
-use Rattle.block.specs.declared.header.Header.{Header}
 use Rattle.mesh.specs.FaceSet.{Rest, corner_by}
 use Rattle.mesh.specs.Quads.{quad}
 use Rattle.mesh.specs.Grid.{x_dimension, z_dimension, grid_default, grid_corner, grid_faces}
-use Rattle.lists.specs.Lists.{total}
-use Rattle.mesh.specs.Sizes.{quad_count}
-use Rattle.lists.proofs.Totals.{total_tab}
 use Rattle.mesh.proofs.Shapes.{grid_listed}
 use Rattle.tables.specs.Listed.{Listing, faces_with}
 use Rattle.grid.specs.Listings.{quad_of, use_of, grid_listing, grid_listings, grid_use}
@@ -57,10 +52,3 @@ grid_faces_lem missing G h =
 pub four_uses : (xd q : ℕ) → length (grid_listing xd q).uses ≡ 4
 unfolding grid_listing quad
 four_uses xd q = refl
-
--- the corners of all listings: four a quad
-pub listed_corners : (h : Header) → total (λ (l : Listing). length l.uses) (grid_listings (x_dimension h) (z_dimension h)) ≡ 4 * quad_count h
-unfolding grid_listings
-listed_corners h = total_tab (λ (l : Listing). length l.uses) (grid_listing (x_dimension h)) 4 (four_uses (x_dimension h)) (quad_count h) 0 ∙ mul_comm (quad_count h) 4
-
--- ---- the texture of a use is the one that is written

@@ -2,8 +2,7 @@
 use mathlib.Core.Path.{◌≡◌, refl, sym, ap, ◌∙◌}
 use mathlib.Core.Bool.{false}
 use mathlib.Core.List.{List}
-use Prim.Native.Nat.{ℕ, ◌-◌, ◌*◌, ◌≤◌}
-use native.Mathlib.Nat.{mul_comm}
+use Prim.Native.Nat.{ℕ, ◌*◌, ◌≤◌}
 use native.Mathlib.Omega.{arith}
 use lib.ListN.{length, get_or}
 use Rattle.bits.specs.Bits.{entries}
@@ -16,7 +15,7 @@ use Rattle.block.specs.Extents.{list_bytes}
 use Rattle.lists.specs.Parts.{spliced}
 use Rattle.mesh.specs.Mesh.{Slices}
 use Rattle.mesh.specs.Grid.{x_dimension, z_dimension, grid_points}
-use Rattle.mesh.specs.Sizes.{quad_count, side_count, grid_sizes, sizes_of, is_no_grid, is_no_extrusion, is_no_shape}
+use Rattle.mesh.specs.Sizes.{quad_count, grid_sizes, sizes_of, is_no_grid, is_no_extrusion, is_no_shape}
 use Rattle.mesh.proofs.Sizes.{grid_words}
 use Rattle.tables.specs.declared.layout.Plan.{Plan}
 use Rattle.tables.specs.Layout.{most, plan_of}
@@ -56,21 +55,18 @@ module _ {bs : List ℕ} {h : Header} {s : Settings} {o : Slices} {w f : ℕ} (A
   heights = heights_in bs h A.kind A.accepted.taken.length_is (x_dimension h * z_dimension h) shape.2
 
   -- the sizes z as the code counts them, and q quads
-  module _ {z : Sizes} (C : Are (grid_sizes h) 0 z) {q : ℕ} (e : q ≡ side_count h) where
-    quads_are : q ≡ quad_count h
-    quads_are = e ∙ mul_comm (x_dimension h - 1) (z_dimension h - 1)
-
+  module _ {z : Sizes} (C : Are (grid_sizes h) 0 z) {q : ℕ} (e : q ≡ quad_count h) where
     -- what `plan_of` asks, and what it gives
     pub plan_asked : (z.points ≤ most) × (z.corners ≤ most) × (q ≤ most)
     unfolding grid_sizes
     plan_asked =
         let l = low_by A sizes_are in
-        (omega (arith, C.points, l.0), omega (arith, C.corners, l.1), omega (arith, quads_are, l.1))
+        (omega (arith, C.points, l.0), omega (arith, C.corners, l.1), omega (arith, e, l.1))
 
     pub counted : {t : Plan} → t ≡ plan_of z.points z.corners q 0 → Counted (grid_sizes h) (quad_count h) 0 t
     unfolding grid_sizes
     counted p =
-        record { plan = p ∙ λ i. plan_of (C.points i) (C.corners i) (quads_are i) 0; third = omega arith; indices = omega arith }
+        record { plan = p ∙ λ i. plan_of (C.points i) (C.corners i) (e i) 0; third = omega arith; indices = omega arith }
 
   module _ {t : Plan} (P : Counted (grid_sizes h) (quad_count h) 0 t) where
     pub roomy : Ample (grid_sizes h) (quad_count h) 0 t w f

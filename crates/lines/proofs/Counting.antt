@@ -1,25 +1,14 @@
 -- The loop over a run that counts: what is counted, and what is left.
 use mathlib.Core.Path.{◌≡◌, refl, sym, ap, ◌∙◌}
-use mathlib.Core.Bool.{Bool, true, false, ◌&&◌, cond}
+use mathlib.Core.Bool.{Bool, true, false, cond}
 use mathlib.Core.List.{List, [], ◌∷◌}
 use Prim.Native.Nat.{ℕ, suc, ◌+◌, ◌≤◌}
 use native.Mathlib.Omega.{arith}
 use lib.Dec.{ltb}
 use lib.ListN.{length}
-use Rattle.std.specs.Int.{from_bool}
 use Rattle.mesh.specs.Sizes.{named, lines_after}
 use Rattle.lines.specs.Totals.{Counted}
 use Rattle.lists.proofs.Numbers.{carry}
-
--- one more where a test holds, by the library's number of a bool
-pub counted : (n : ℕ) {k : ℕ} (b : Bool) → k ≡ from_bool b → n + k ≡ cond b (suc n) n
-counted n true e = omega (arith, e)
-counted n false e = omega (arith, e)
-
--- and where two hold
-pub counted_both : (n : ℕ) {k : ℕ} (a b : Bool) {w : Bool} → w ≡ (a && b) → k ≡ from_bool w → n + k ≡ cond a (cond b (suc n) n) n
-counted_both n true b q e = counted n b (e ∙ ap from_bool q)
-counted_both n false b q e = counted n false (e ∙ ap from_bool q)
 
 -- the entries `rest` of es are not yet counted; `after` says whether the one before them names a point
 pub record Counting (p : ℕ) (es rest : List ℕ) (after : Bool) (c n : ℕ) : Type 0 where

@@ -5,7 +5,7 @@ use Rattle.block.specs.declared.number.VertexNumber.{VertexNumber}
 use mathlib.Core.Bool.{false}
 use mathlib.Core.List.{List, [], ◌∷◌}
 use Prim.Native.Nat.{ℕ, ◌+◌, ◌*◌, ◌^◌, ◌≤◌, ◌<◌}
-use native.Mathlib.Nat.{add-zero, zero-add}
+use native.Mathlib.Nat.{zero-add}
 use native.Mathlib.Numerals.{add-one}
 use native.Mathlib.Omega.{arith}
 use borrow.Author.Tests.{lt-ltb, le-ltb}
@@ -16,9 +16,10 @@ use Rattle.block.specs.Runs.{Run, runs, sum_over}
 use Rattle.block.proofs.Walks.{sum_first}
 use Rattle.mesh.specs.Lines.{line}
 use Rattle.mesh.specs.Sizes.{named, lines_after}
-use Rattle.lists.proofs.Splices.{splice_start, splice_front}
+use Rattle.lists.proofs.Splices.{splice_front}
 use Rattle.lines.specs.declared.pairing.Progress.{Progress}
 use Rattle.lists.specs.Parts.{spliced, Added}
+use Rattle.lists.proofs.Pieces.{none_added}
 use Rattle.lines.specs.Steps.{last_of, vertex_at, corner_after, pairs, run_pairs, Stepped, RunPut, Put}
 use Rattle.lists.proofs.Numbers.{carry}
 use Rattle.lines.proofs.Lengths.{length_lines}
@@ -37,11 +38,11 @@ module _ (v : VertexNumber) (next : ℕ) {last : Option VertexNumber} where
 
 pub line_left : (next : ℕ) {last : Option VertexNumber} → last ≡ None → (l : List ℕ) (at : ℕ) → Added spliced (line (last_of last) (Some next)) at l at l
 unfolding last_of
-line_left next e l at = rw e (record { next = sym (add-zero at); made = splice_start l at })
+line_left next e l at = rw e (none_added l at)
 
 pub line_none : (prev : Option ℕ) (l : List ℕ) (at : ℕ) → Added spliced (line prev None) at l at l
-line_none None l at = record { next = sym (add-zero at); made = splice_start l at }
-line_none (Some a) l at = record { next = sym (add-zero at); made = splice_start l at }
+line_none None l at = none_added l at
+line_none (Some a) l at = none_added l at
 
 -- ---- one entry
 

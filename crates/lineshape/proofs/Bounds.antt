@@ -4,6 +4,7 @@ use mathlib.Core.Bool.{false}
 use mathlib.Core.List.{List}
 use Prim.Native.Nat.{ℕ, ◌*◌, ◌/◌, ◌^◌, ◌≤◌}
 use lib.ListN.{length, take}
+use native.Mathlib.Omega.{arith}
 use Rattle.bits.specs.Bits.{entries}
 use Rattle.block.specs.declared.kind.Kind.TheVariants.{LineSet}
 use Rattle.block.specs.declared.header.Header.{Header}
@@ -22,7 +23,7 @@ use Rattle.lent.proofs.Accepts.{low_by, enough_by}
 use Rattle.lent.proofs.Points.{points_in_lem, points_all}
 use Rattle.lines.proofs.Counts.{coord_short}
 use Rattle.lineshape.specs.Shape.{tables_for, line_tables}
-use Rattle.lineshape.proofs.Tabling.{tables_laid}
+use Rattle.corners.proofs.Rooms.{plan_laid}
 
 -- FORMAT 4, 6.3: the sizes of p points and the runs of the entries es
 abbrev pub sizes_by : ℕ → List ℕ → Sizes
@@ -65,7 +66,8 @@ module _ {bs : List ℕ} {h : Header} {s : Settings} {o : Slices} {w f : ℕ} (A
       tables_are q = q ∙ ap (tables_for (point_count h)) (e ∙ ap (λ (z : Sizes). z.corners) sizes_by_lem)
 
     pub laid_at : {t : CornerTables} → t ≡ line_tables (point_count h) (entries coord) → Laid t w
-    laid_at e = subst (λ (t : CornerTables). Laid t w) (sym e) (tables_laid (point_count h) (entries coord) points_low corners_low w enough.words)
+    unfolding line_tables
+    laid_at e = subst (λ (t : CornerTables). Laid t w) (sym e) (plan_laid (point_count h) _ 0 0 points_low corners_low (omega arith) w enough.words)
 
     pub entries_short : length coord / 4 ≤ 2 ^ 32
     unfolding coord_in

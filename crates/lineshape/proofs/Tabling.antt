@@ -1,4 +1,4 @@
--- FORMAT 4, 6.3: where the tables of a line set stand, that they fit the words that are lent, and what is written to them.
+-- FORMAT 4, 6.3: where the tables of a line set stand, and what is written to them.
 use mathlib.Core.Path.{◌≡◌, ap, ◌∙◌}
 use mathlib.Core.List.{List}
 use Prim.Native.Nat.{ℕ, ◌+◌, ◌*◌, ◌≤◌}
@@ -6,33 +6,15 @@ use native.Mathlib.Omega.{arith}
 use lib.ListN.{take, length}
 use Rattle.block.specs.Runs.{runs, sum_over}
 use Rattle.mesh.specs.Sizes.{named}
-use Rattle.tables.specs.Layout.{most}
+use Rattle.tables.specs.Layout.{plan_of}
 use Rattle.vertices.specs.Adding.{points_in}
 use Rattle.corners.specs.declared.laid.CornerTables.{CornerTables}
-use Rattle.corners.specs.Laid.{tables_at, Laid}
+use Rattle.corners.specs.Laid.{tables_of, Laid}
 use Rattle.lists.specs.Parts.{spliced}
 use Rattle.lists.proofs.Splices.{put_gives}
 use lib.Seq.{length-take-le}
 use Rattle.lines.specs.Uses.{Listed}
 use Rattle.lineshape.specs.Shape.{line_tables, Tabled}
-
-module _ (p : ℕ) (es : List ℕ) (few : p ≤ most) where
-  pub tables_laid : sum_over (named p) (runs es) ≤ most → (len : ℕ) → 8 * (sum_over (named p) (runs es) + p) + 8 ≤ len → Laid (line_tables p es) len
-  unfolding line_tables tables_at
-  tables_laid low len l =
-      record {
-        few = low;
-        some = few;
-        points = omega arith;
-        corners = omega arith;
-        named = omega arith;
-        places = omega arith;
-        numbers = omega arith;
-        textures = omega arith;
-        buckets = (omega arith, omega arith);
-        heads = omega arith;
-        nexts = omega arith;
-      }
 
 -- the points are within the words
 pub points_fit : {t : CornerTables} {len : ℕ} → Laid t len → t.points + 3 * t.spots ≤ len
@@ -41,7 +23,7 @@ points_fit L = omega (arith, L.points, L.named, L.places, L.numbers, L.textures,
 module _ (p : ℕ) (es : List ℕ) {t : CornerTables} (e : t ≡ line_tables p es) where
   -- the points are at the start, and the corners' points follow
   pub stand : (t.points ≡ 0) × (t.spots ≡ p) × (t.corners ≡ 3 * p) × (t.count ≡ sum_over (named p) (runs es))
-  unfolding line_tables tables_at
+  unfolding line_tables tables_of plan_of
   stand =
       (ap (λ (t : CornerTables). t.points) e, ap (λ (t : CornerTables). t.spots) e, ap (λ (t : CornerTables). t.corners) e, ap (λ (t : CornerTables). t.count) e)
 

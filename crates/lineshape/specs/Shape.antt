@@ -7,12 +7,13 @@ use Rattle.vertices.specs.declared.places.Widths.{Widths}
 use Rattle.vertices.specs.Places.{colour_words}
 use Rattle.vertices.specs.Adding.{points_in}
 use Rattle.corners.specs.declared.laid.CornerTables.{CornerTables}
-use Rattle.corners.specs.Laid.{tables_at, chains_of}
+use Rattle.corners.specs.Laid.{tables_of, chains_of}
+use Rattle.tables.specs.Layout.{plan_of}
 use Rattle.lines.specs.Uses.{Listed}
 
--- FORMAT 4, 8.2: p points and c corners
+-- FORMAT 4, 8.2: p points and c corners, and no faces
 abbrev pub tables_for : ℕ → ℕ → CornerTables
-tables_for p c = let at = 3 * p + c in tables_at c 0 p (3 * p) at (at + c) (at + c + c)
+tables_for p c = tables_of (plan_of p c 0 0)
 
 -- a corner for each entry that names a point in the runs of the entries es
 unfoldable pub line_tables : ℕ → List ℕ → CornerTables

@@ -5,22 +5,16 @@ ghost use Rattle.tables.specs.Layout.{most};
 ghost use Rattle.corners.specs.Laid.{Laid};
 ghost use Rattle.lineshape.specs.Shape.{tables_for, line_tables, Tabled};
 
-use corners::{CornerTables, corner_tables};
-use faceset::put_points;
+use corners::CornerTables;
 use lines::list_entries;
-use tables::wide;
+use tables::{plan_of, put_points, wide};
 
-// Where the tables stand: the points, and then a row for each entry that names one of them.
+// Where the tables stand: those of a plan with a corner for each entry that names a point, and no faces.
 pub fn line_tables(points: u32, count: usize) -> CornerTables
     requires { (points ≤ most) × (count ≤ most) }
     ensures { result ≡ tables_for points count }
 {
-    let spots = wide(points);
-    let corners = 3 * spots;
-    let named = corners + count;
-    let places = named + count;
-    // Number by number: a line set has no Plan, and a struct of the seven would be made here and in `of_plan` only to be taken apart.
-    corner_tables(count, 0, spots, corners, named, places, places + count)
+    CornerTables::of_plan(plan_of(wide(points), count, 0, 0))
 }
 
 // The points' words, then the entries that name one.

@@ -28,8 +28,8 @@ fn line_widths(h: Header) -> Widths
     }
 }
 
-// The mesh of an accepted line set, of which `count` entries name a point, into the six slices; the working slices are left with zeros. It reads no settings, so
-// it takes no `AcceptedBlock`.
+// The mesh of an accepted line set, of which `count` entries name a point, into the six slices; the working slices are left with zeros. It reads no settings,
+// so it takes no `AcceptedBlock`.
 pub fn make_line_set(
     block: &[u8],
     h: Header,

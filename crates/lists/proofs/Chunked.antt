@@ -1,6 +1,6 @@
 -- A list walked w elements at a time, as `chunks_exact` gives them.
-use mathlib.Core.Path.{◌≡◌, sym, ap, ◌∙◌}
-use mathlib.Core.List.{List}
+use mathlib.Core.Path.{◌≡◌, refl, sym, ap, ◌∙◌}
+use mathlib.Core.List.{List, [], ◌∷◌}
 use Prim.Native.Nat.{ℕ, ◌+◌, ◌*◌, ◌/◌, ◌<◌}
 use native.Mathlib.Nat.{add_comm, zero-mul, add-mul-div_right}
 use native.Mathlib.Omega.{arith}
@@ -42,3 +42,17 @@ module _ {A : Type 0} {w : ℕ} {l : List A} where
       left = sym (ap (λ (k : ℕ). drop k l) (next_row n w) ∙ sym (drop-drop w (n * w) l) ∙ ap (drop w) (sym C.left ∙ S.is) ∙ drop_at p after w m);
       counted = counted_more;
     }
+
+-- one element at a time: n were met, and `left` are left
+module _ {A : Type 0} {l : List A} {n : ℕ} {left : List A} (C : Chunked 1 l n left) where
+  module _ {after : List A} {x : A} (e : left ≡ x ∷ after) where
+    pub each_more : Chunked 1 l (n + 1) after
+    each_more = chunked_more (x ∷ []) C (record { is = e }) refl
+
+    pub each_here : (n < length l) × ((d : A) → x ≡ get_or l n d)
+    each_here =
+        let h = chunked_here (x ∷ []) C (record { is = e }) refl (omega arith) in
+        (omega arith, λ d. chunked_at (x ∷ []) C (record { is = e }) refl d 0 n (omega arith) (omega arith))
+
+  pub each_all : left ≡ [] → n ≡ length l
+  each_all e = omega (arith, C.counted, ap length e)

@@ -6,7 +6,7 @@ use Prim.Native.Nat.{ℕ, ◌+◌, ◌-◌, ◌≤◌, ◌<◌}
 use native.Mathlib.Nat.{eq-or-lt_of_le, le_of_suc-le-suc, not-suc-le-zero}
 use native.Mathlib.Numerals.{add-one}
 use native.Mathlib.Omega.{arith}
-use lib.ListN.{length, get_or, set, take, drop, length-set, length-take, length-drop}
+use lib.ListN.{length, get_or, set, take, drop, length-set, length-take, length-drop, get_or-eq_default}
 use lib.Seq.{take-set-le, take-take, get_or-take, get_or-drop, get_or-set_same, get_or-set_other, ext_get_or, length-take-le, take_at}
 use borrow.Rule.Slice.PartMut.{put_mid, mid_of, post_of, same_len_mid}
 use Rattle.lists.specs.Parts.{seg, Kept, Out, TableOf}
@@ -46,6 +46,10 @@ length_seg w a n h = length-take-le n (drop a w) (omega (arith, length-drop a w)
 pub seg_at : (w : List ℕ) (a n i : ℕ) → i < n → get_or (seg w a n) i 0 ≡ get_or w (a + i) 0
 unfolding seg
 seg_at w a n i h = get_or-take n (drop a w) i 0 h ∙ get_or-drop a w i 0
+
+pub seg_past : (w : List ℕ) (a n i : ℕ) → n ≤ i → get_or (seg w a n) i 0 ≡ 0
+unfolding seg
+seg_past w a n i h = get_or-eq_default (take n (drop a w)) 0 {n = i} (omega (arith, length-take n (drop a w)))
 
 pub kept_seg : {b : ℕ} {w w' : List ℕ} → Kept b w w' → (a n : ℕ) → a + n ≤ b → a + n ≤ length w → seg w' a n ≡ seg w a n
 kept_seg {b} {w} {w'} k a n h l =

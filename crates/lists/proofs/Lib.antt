@@ -1,6 +1,7 @@
 -- The laws of lists that know nothing of what the lists hold.
 pub mod Numbers
 pub mod Tests
+pub mod Options
 pub mod Loops
 pub mod Searches
 pub mod Keep

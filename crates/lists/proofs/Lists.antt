@@ -1,7 +1,7 @@
 -- Laws of the lists that a mesh is made of: a fact of each element, numbered pieces joined, fronts and backs, slices, lists without repeats, words.
 use mathlib.Core.Path.{◌≡◌, refl, sym, ap, ◌∙◌, subst}
 use mathlib.Core.Bool.{Bool, true, false, ◌||◌, cond, true≢false}
-use mathlib.Core.List.{List, [], ◌∷◌, ◌++◌, map, append_assoc}
+use mathlib.Core.List.{List, [], ◌∷◌, ◌++◌, map, map-append, append_assoc}
 use Prim.Native.Nat.{ℕ, zero, suc, ◌+◌, ◌*◌, ◌-◌, ◌≤◌, ◌<◌, suc-le-suc, ◌%◌}
 use native.Mathlib.Nat.{mul-zero, mul-suc, add_comm, le_of_suc-le-suc, not-suc-le-zero, suc-add, add-suc, add-zero, zero-lt-suc, suc-ne-zero, suc_inj, zero-add, sub-zero, zero-sub, suc-sub-suc, eq-or-lt_of_le}
 use native.Mathlib.Numerals.{add-one}
@@ -178,6 +178,11 @@ module _ {A B : Type 0} where
       ap (λ (r : List B). g n a ++ r)
       (join_n_append g (suc n) as' m ∙ ap (λ (k : ℕ). join_n g (suc n) as' ++ join_n g k m) (suc-add n (length as') ∙ sym (add-suc n (length as'))))
       ∙ sym (append_assoc (g n a) (join_n g (suc n) as') (join_n g (n + suc (length as')) m))
+
+pub map_join_n : {A B C : Type 0} (f : B → C) (g : ℕ → A → List B) (n : ℕ) (l : List A) → map f (join_n g n l) ≡ join_n (λ (n : ℕ) (x : A). map f (g n x)) n l
+unfolding join_n
+map_join_n f g n [] = refl
+map_join_n {C = C} f g n (x ∷ l) = map-append f (g n x) (join_n g (suc n) l) ∙ ap (λ (r : List C). map f (g n x) ++ r) (map_join_n f g (suc n) l)
 
 -- pieces that are the same, number by number
 pub join_n_same : {A A' B : Type 0} (g : ℕ → A → List B) (h : ℕ → A' → List B) (d : A) (e : A') (n : ℕ) (l : List A) (m : List A') → length l ≡ length m
@@ -531,7 +536,7 @@ one_more x c k h = omega (arith, length-append x (c ∷ []))
 pub join_most : {A : Type 0} (x y : List A) {j k : ℕ} → length x ≤ j → length y ≤ k → length (x ++ y) ≤ j + k
 join_most x y {j} {k} p q = omega (arith, length-append x y, p, q)
 
-pub cond_long : {A : Type 0} (b : Bool) (x y : List A) → length x ≡ 3 → length y ≡ 3 → length (cond b x y) ≡ 3
+pub cond_long : {A : Type 0} (b : Bool) (x y : List A) {n : ℕ} → length x ≡ n → length y ≡ n → length (cond b x y) ≡ n
 cond_long true x y e f = e
 cond_long false x y e f = f
 

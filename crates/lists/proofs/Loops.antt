@@ -1,13 +1,13 @@
 -- One turn, and the end, of each loop of the definitions, as a `while i < n` has it: n - i turns are left at i. And laws of places around a ring.
-use mathlib.Core.Path.{◌≡◌, sym, ap, ◌∙◌}
+use mathlib.Core.Path.{◌≡◌, refl, sym, ap, ◌∙◌}
 use mathlib.Core.Bool.{Bool, true, false}
 use mathlib.Core.List.{List}
-use Prim.Native.Nat.{ℕ, suc, ◌+◌, ◌-◌, ◌%◌, ◌≤◌, ◌<◌}
+use Prim.Native.Nat.{ℕ, zero, suc, ◌+◌, ◌-◌, ◌%◌, ◌≤◌, ◌<◌}
 use native.Mathlib.Nat.{mod-eq_of_lt, add-mod_right, mod_self, eq-or-lt_of_le}
 use native.Mathlib.Numerals.{add-one}
 use native.Mathlib.Omega.{arith}
 use mathlib.Core.Logic.{⊎_elim}
-use lib.ListN.{set, length, get_or}
+use lib.ListN.{set, length, get_or, replicate, get_or-replicate}
 use lib.Seq.{sets, get_or-set_same, get_or-set_other}
 use Rattle.lists.specs.Loops.{pick, tab, run, first}
 use Rattle.lists.specs.Parts.{Full}
@@ -47,6 +47,12 @@ module _ {A : Type 0} (f : ℕ → A → A) (n i : ℕ) (s : A) where
   unfolding run
   run_end h = ap (λ (k : ℕ). run f k i s) (left_none n i h)
 
+-- turns that leave it as it is
+pub run_kept : {A : Type 0} (f : ℕ → A → A) (x : A) → ((t : ℕ) → f t x ≡ x) → (k t : ℕ) → run f k t x ≡ x
+unfolding run
+run_kept f x e zero t = refl
+run_kept {A} f x e (suc k) t = ap (λ (y : A). run f k (suc t) y) (e t) ∙ run_kept f x e k (suc t)
+
 -- ---- a list that is filled
 
 module _ {A : Type 0} (f : ℕ → A) (n i : ℕ) (l : List A) where
@@ -74,6 +80,10 @@ module _ (m i : ℕ) (h : i < m) where
 
   pub on_more : (i + 1 ≡ m → ⊥) → i + 1 ≡ (i + 1) % m
   on_more n = sym (mod-eq_of_lt (omega arith))
+
+-- what `fill` leaves
+pub full_of : (v n : ℕ) (l : List ℕ) → l ≡ replicate n v → Full v n l
+full_of v n l e = λ (j : ℕ) (h : j < n). ap (λ (r : List ℕ). get_or r j 0) e ∙ get_or-replicate n j v 0 h
 
 pub full_go : (v i : ℕ) (s s' : List ℕ) → Full v i s → i < length s → s' ≡ set s i v → Full v (i + 1) s'
 full_go v i s s' f h e j q = rw e (⊎_elim last less (eq-or-lt_of_le u))

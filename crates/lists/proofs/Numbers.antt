@@ -1,6 +1,6 @@
 -- Plain numbers: rows and pieces of one width, either this or that, products, widths, places around.
 use mathlib.Core.Path.{◌≡◌, refl, ap, ◌∙◌, sym, subst}
-use mathlib.Core.Bool.{Bool, true, false, cond, not}
+use mathlib.Core.Bool.{Bool, true, false, cond, not, ◌&&◌}
 use Prim.Native.Nat.{ℕ, suc, ◌+◌, ◌*◌, ◌/◌, ◌%◌, ◌≤◌, ◌<◌, ◌^◌, ◌-◌}
 use native.Mathlib.Nat.{suc-mul, mul-le-mul_right, add-mul-div_right, add-mul-mod_self_right, div-eq_of_lt, mod-eq_of_lt, eq-or-lt_of_le, le_of_suc-le-suc, lt_of_le_of_lt, mul-le-mul_left, le_of_lt, mul-lt-mul_of_pos_right, mul_left_comm, mul_comm, mul-suc, add_comm, div-add-mod', mul_assoc, pow-suc, div-lt_iff_lt-mul}
 use native.Mathlib.Numerals.{add-one}
@@ -8,6 +8,7 @@ use native.Mathlib.Omega.{arith}
 use mathlib.Core.Logic.{◌⊎◌, inl, inr, ⊎_elim}
 use borrow.Author.Tests.{eqb-true, eqb-false, ltb-true, ltb-false}
 use lib.Dec.{eqb, T, leb, leb→le, nleb→lt, ltb}
+use Rattle.std.specs.Int.{from_bool}
 use Rattle.lists.proofs.Loops.{back_some}
 
 -- ---- column a of row b, in rows of x
@@ -33,6 +34,12 @@ pub piece_room : (k n w i len : ℕ) → k + n * w ≤ len → i < n → k + i *
 piece_room k n w i len h l =
     let p : suc i * w ≤ n * w = mul-le-mul_right w l in
     omega (arith, suc-mul i w)
+
+-- entry i of n, which are k, each w long
+pub entry_room : (w n i k len : ℕ) → w * n ≤ len → n ≡ k → i < k → w * i + w ≤ len
+entry_room w n i k len h e l =
+    let p = piece_room 0 n w i len (omega (arith, mul_comm n w)) (omega arith) in
+    omega (arith, mul_comm i w, p)
 
 -- ---- a count that moves from what is left to what is done
 
@@ -74,6 +81,16 @@ last_or g n h = eq-or-lt_of_le (le_of_suc-le-suc (rw add-one at h))
 pub count_step : (b : Bool) (n : ℕ) → n ≤ cond b (suc n) n
 count_step true n = omega arith
 count_step false n = omega arith
+
+-- by the library's number of a test
+pub counted : (n : ℕ) {k : ℕ} (b : Bool) → k ≡ from_bool b → n + k ≡ cond b (suc n) n
+counted n true e = omega (arith, e)
+counted n false e = omega (arith, e)
+
+-- and where two hold
+pub counted_both : (n : ℕ) {k : ℕ} (a b : Bool) {w : Bool} → w ≡ (a && b) → k ≡ from_bool w → n + k ≡ cond a (cond b (suc n) n) n
+counted_both n true b q e = counted n b (e ∙ ap from_bool q)
+counted_both n false b q e = counted n false (e ∙ ap from_bool q)
 
 -- ---- products
 

@@ -2,13 +2,13 @@
 use mathlib.Core.Path.{◌≡◌, refl, sym, ap, ◌∙◌, subst}
 use mathlib.Core.List.{List, [], ◌∷◌, ◌++◌, map, map-append, append_assoc, append-nil}
 use Prim.Native.Nat.{ℕ, zero, suc, ◌+◌, ◌-◌, ◌*◌, ◌≤◌, ◌<◌}
-use native.Mathlib.Nat.{add-zero, suc-add, add-suc, mul-suc, mul_comm}
+use native.Mathlib.Nat.{zero-add, add-zero, suc-add, add-suc, zero-mul, mul-suc, mul_comm}
 use native.Mathlib.Numerals.{add-one}
 use native.Mathlib.Omega.{arith}
 use lib.ListN.{length, get_or, set, take, drop, length-append, length-set}
 use lib.Seq.{take_all, drop-drop}
 use Rattle.lists.specs.Loops.{tab}
-use Rattle.lists.proofs.Numbers.{piece_room}
+use Rattle.lists.proofs.Numbers.{next_row, piece_room}
 use Rattle.lists.proofs.Tabs.{length_tab, tab_at, tab_add, tab_snoc}
 use Rattle.lists.specs.Lists.{join_n, flat}
 use Rattle.lists.proofs.Lists.{All_by, flat_at, middle}
@@ -31,6 +31,16 @@ module _ {A : Type 0} where
   pub flat_more : (F : ℕ → List A) (i : ℕ) → flat (tab F (i + 1) 0) ≡ flat (tab F i 0) ++ F i
   unfolding flat
   flat_more F i = ap flat (tab_snoc F i) ∙ flat_append (tab F i 0) (F i ∷ []) ∙ ap (λ (r : List A). flat (tab F i 0) ++ r) (append-nil (F i))
+
+  -- pieces of w elements, which are those of one table
+  pub flat_table : (f : ℕ → A) (w : ℕ) (F : ℕ → List A) → ((k : ℕ) → F k ≡ tab f w (k * w)) → (n : ℕ) → flat (tab F n 0) ≡ tab f (n * w) 0
+  unfolding tab flat
+  flat_table f w F h zero = rw (zero-mul w) refl
+  flat_table f w F h (suc n) =
+      let e : suc n * w ≡ n * w + w = ap (λ (m : ℕ). m * w) (sym (add-one n)) ∙ next_row n w in
+      ap (λ (m : ℕ). flat (tab F m 0)) (sym (add-one n)) ∙ flat_more F n
+      ∙ (λ i. flat_table f w F h n i ++ (h n ∙ ap (tab f w) (sym (zero-add (n * w)))) i)
+      ∙ sym (tab_add f (n * w) w 0) ∙ ap (λ (m : ℕ). tab f m 0) (sym e)
 
   -- pieces of one element
   pub flat_ones : (f : ℕ → A) (n i : ℕ) → flat (tab (λ j. f j ∷ []) n i) ≡ tab f n i
@@ -234,9 +244,13 @@ module _ {A : Type 0} {f : ℕ → A} {n : ℕ} {l : List A} {k : ℕ} where
       let e : i ≡ n = (let s = P.so_far in omega arith) in
       P.is ∙ ap (λ (j : ℕ). spliced l k (tab f j 0)) e
 
--- ---- a whole list, each element v
+-- ---- what was added: nothing, n elements, and then more
 
--- ---- what was added, and then more
+pub none_added : {A : Type 0} (l : List A) (at : ℕ) → Added spliced [] at l at l
+none_added l at = record { next = sym (add-zero at); made = splice_start l at }
+
+pub added_by : {A : Type 0} (p l : List A) (at : ℕ) {n : ℕ} {l' : List A} → length p ≡ n → l' ≡ spliced l at p → Added spliced p at l (at + n) l'
+added_by p l at e m = record { next = ap (λ (k : ℕ). at + k) (sym e); made = m }
 
 module _ {A : Type 0} (l : List A) {l' l'' : List A} {a b d : ℕ} (x y : List A) where
   pub added_both : a + length (x ++ y) ≤ length l → Added spliced x a l b l' → Added spliced y b l' d l'' → Added spliced (x ++ y) a l d l''

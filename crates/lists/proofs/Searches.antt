@@ -1,13 +1,16 @@
 -- Searches: the first number that passes a test, a search block by block, and whether some element of a list passes it.
 use mathlib.Core.Path.{◌≡◌, refl, sym, ap, ◌∙◌}
-use mathlib.Core.Bool.{Bool, true, false}
+use mathlib.Core.Bool.{Bool, true, false, ◌||◌}
 use mathlib.Core.List.{List, [], ◌∷◌}
-use mathlib.Core.Logic.{◌⊎◌, inl, inr, ⊎_elim}
+use mathlib.Core.Logic.{⊎_elim}
 use Prim.Native.Nat.{ℕ, zero, suc, ◌+◌, ◌-◌, ◌≤◌, ◌<◌}
 use native.Mathlib.Nat.{le_refl, eq-or-lt_of_le, sub-zero}
 use native.Mathlib.Numerals.{add-one}
 use native.Mathlib.Omega.{arith}
+use lib.Dec.{leb}
 use lib.ListN.{length, get_or}
+use borrow.Author.Tests.{leb-false}
+use Rattle.std.specs.List.{list_any}
 use Rattle.lists.specs.Loops.{pick, any, tab, first}
 use Rattle.lists.proofs.Loops.{first_go, first_stop, first_end}
 use Rattle.lists.proofs.Tests.{none_head, none_tail}
@@ -101,20 +104,6 @@ module _ (f : ℕ → Bool) where
     pub block_past : e ≤ h → first f (n - k) k ≡ first f (n - e) e
     block_past l = past_to n k e up within (λ (j : ℕ) (a : k ≤ j) (b : j < e). before j a (omega arith))
 
--- one turn of a count: o is 1 where r, and number k passes f only there
-pub count_step : (f : ℕ → Bool) (from k s o : ℕ) (r : Bool) → (s ≡ 0 → (j : ℕ) → from ≤ j → j < k → f j ≡ false) → o ≡ pick r 1 0 → (r ≡ false → f k ≡ false)
-    → s + o ≡ 0 → (j : ℕ) → from ≤ j → j < k + 1 → f j ≡ false
-count_step f from k s o true h e q z j l b = let w : ⊥ = omega arith in absurd w
-count_step f from k s o false h e q z j l b = go (eq-or-lt_of_le {n = j} {m = k} (omega arith))
-  where
-    go : (j ≡ k) ⊎ (j < k) → f j ≡ false
-    go (inl w) = ap f w ∙ q refl
-    go (inr w) = h (omega arith) j l w
-
-pub one_small : (o : ℕ) (r : Bool) → o ≡ pick r 1 0 → o ≤ 1
-one_small o true e = omega arith
-one_small o false e = omega arith
-
 -- ---- a search in a list
 
 module _ (f : ℕ → Bool) where
@@ -123,6 +112,20 @@ module _ (f : ℕ → Bool) where
   any_at [] i e h = let z : ⊥ = omega arith in absurd z
   any_at (x ∷ l) zero e h = none_head (f x) (any f l) e
   any_at (x ∷ l) (suc i) e h = any_at l i (none_tail (f x) (any f l) e) (omega arith)
+
+-- where no element is n or more, each is below n
+pub below_at : (n : ℕ) (l : List ℕ) (k : ℕ) → any (leb n) l ≡ false → k < length l → get_or l k 0 < n
+below_at n l k e h = leb-false n (get_or l k 0) (any_at (leb n) l k e h)
+
+or_pick : (b : Bool) {x y : Bool} → x ≡ y → b || x ≡ pick b true y
+or_pick true e = refl
+or_pick false e = e
+
+-- the library's search for an element
+pub any_is : {A : Type 0} (test : A → Bool) (l : List A) → list_any test l ≡ any test l
+unfolding any
+any_is test [] = refl
+any_is test (x ∷ xs) = or_pick (test x) (any_is test xs)
 
 -- of a list made by number
 pub record Found (g : ℕ → Bool) (f : ℕ → ℕ) (k i : ℕ) : Type 0 where

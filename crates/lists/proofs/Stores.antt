@@ -104,3 +104,11 @@ pub put_back : (l : List ℕ) (k : ℕ) → set (set l k 0) k (get_or l k 0) ≡
 put_back [] k = refl
 put_back (x ∷ l) zero = refl
 put_back (x ∷ l) (suc k) = ap (λ (r : List ℕ). x ∷ r) (put_back l k)
+
+-- three elements written, where there are no others
+pub three_set : {A : Type 0} (l : List A) (a b c : A) → length l ≡ 3 → set (set (set l 0 a) 1 b) 2 c ≡ a ∷ b ∷ c ∷ []
+three_set [] a b c h = cc
+three_set (x ∷ []) a b c h = cc
+three_set (x ∷ y ∷ []) a b c h = cc
+three_set (x ∷ y ∷ z ∷ []) a b c h = refl
+three_set (x ∷ y ∷ z ∷ u ∷ l) a b c h = let e : ⊥ = omega arith in absurd e

@@ -1,10 +1,13 @@
 -- Lists made by number: their length, their elements, parts joined.
 use mathlib.Core.Path.{◌≡◌, refl, sym, ap, ap₂, ◌∙◌}
 use mathlib.Core.List.{List, [], ◌∷◌, ◌++◌, map}
-use Prim.Native.Nat.{ℕ, zero, suc, ◌+◌, ◌<◌, ◌≤◌}
+use Prim.Native.Nat.{ℕ, zero, suc, ◌+◌, ◌-◌, ◌<◌, ◌≤◌}
 use native.Mathlib.Nat.{not-suc-le-zero, le_of_suc-le-suc, zero-add, add-zero, add-suc, suc-add}
+use native.Mathlib.Numerals.{add-one}
 use native.Mathlib.Omega.{arith}
 use lib.ListN.{length, get_or, take, replicate}
+use Rattle.std.specs.Prelude.{Some}
+use Rattle.std.specs.Iterator.{MakesProgress, item_count}
 use Rattle.lists.specs.Loops.{tab}
 use lib.Seq.{ext_get_or, get_or-take, length-take-le, take_all}
 use Rattle.lists.specs.Parts.{seg}
@@ -76,5 +79,28 @@ seg_tab w a n i h =
     (λ j b. let q : j < n = omega arith in let s : a + i + j ≡ a + (i + j) = omega arith in
     seg_at w (a + i) n j q ∙ ap (λ (k : ℕ). get_or w k 0) s ∙ sym (get_or_tab f n i j 0 q))
 
-pub length_by : (p : List ℕ) (f : ℕ → ℕ) (n : ℕ) → p ≡ tab f n 0 → length p ≡ n
-length_by p f n e = ap length e ∙ length_tab f n 0
+-- ---- a list that is one made by number
+
+module _ {A : Type 0} (f : ℕ → A) (n : ℕ) where
+  pub count_is : (l : List A) → tab f n 0 ≡ l → n ≡ length l
+  count_is l e = sym (length_tab f n 0) ∙ ap length e
+
+  pub entry_is : (l : List A) (i : ℕ) (r : A) → tab f n 0 ≡ l → i < length l → r ≡ f i → (d : A) → r ≡ get_or l i d
+  entry_is l i r e h q d =
+      let m = count_is l e in
+      q ∙ sym (tab_at f n i d (omega arith)) ∙ ap (λ (l : List A). get_or l i d) e
+
+  -- the entries from number i on: the first of them and the others, or none
+  pub first_left : (l : List A) (i : ℕ) {r : A} → tab f (n - i) i ≡ l → i < n → r ≡ f i → l ≡ r ∷ tab f (n - (i + 1)) (i + 1)
+  unfolding tab
+  first_left l i {r} e h q =
+      let k : n - i ≡ suc (n - (i + 1)) = omega arith in
+      sym e ∙ ap (λ (m : ℕ). tab f m i) k ∙ (λ t. sym q t ∷ tab f (n - (i + 1)) (sym (add-one i) t))
+
+  pub none_left : (l : List A) (i : ℕ) → tab f (n - i) i ≡ l → n ≤ i → l ≡ []
+  unfolding tab
+  none_left l i e h = let k : n - i ≡ 0 = omega arith in sym e ∙ ap (λ (m : ℕ). tab f m i) k
+
+-- so that a walk comes to its end
+pub goes_left : {A : Type 0} {l m : List A} {r : A} → l ≡ r ∷ m → MakesProgress (λ _. Unit {0}) (item_count (λ (x : List A). x)) l (Some r) m
+goes_left {A} {l} {m} e = let k : length l ≡ suc (length m) = ap length e in record { on = λ _. (tt, tt, omega arith); keeps = tt; rests = λ _. tt }

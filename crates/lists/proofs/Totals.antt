@@ -1,6 +1,6 @@
 -- Laws of lists made by number, and of sizes added up over them.
 use mathlib.Core.Path.{◌≡◌, refl, sym, ap, ap₂, ◌∙◌}
-use mathlib.Core.List.{List, [], ◌∷◌, ◌++◌, reverse, reverse-append}
+use mathlib.Core.List.{List, [], ◌∷◌, ◌++◌, map, reverse, reverse-append}
 use Prim.Native.Nat.{ℕ, zero, suc, ◌+◌, ◌-◌, ◌*◌, ◌≤◌, ◌<◌}
 use native.Mathlib.Nat.{not-suc-le-zero, le_of_suc-le-suc, zero-add, add_assoc, suc-mul, zero-mul, mul-zero, mul-add}
 use native.Mathlib.Numerals.{add-one}
@@ -77,6 +77,20 @@ total_within f size c h (x ∷ xs) =
     let a = h x in
     let b = total_within f size c h xs in
     let e = mul-add c (size x) (total size xs) in
+    omega arith
+
+pub total_map : {A B : Type 0} (size : B → ℕ) (f : A → B) (l : List A) → total size (map f l) ≡ total (λ (x : A). size (f x)) l
+unfolding total
+total_map size f [] = refl
+total_map size f (x ∷ l) = ap (λ (n : ℕ). size (f x) + n) (total_map size f l)
+
+-- what is equal of each is equal of all
+pub total_both : {A : Type 0} (a b c d : A → ℕ) → ((x : A) → a x + b x ≡ c x + d x) → (l : List A) → total a l + total b l ≡ total c l + total d l
+unfolding total
+total_both a b c d h [] = refl
+total_both a b c d h (x ∷ l) =
+    let e : total a l + total b l ≡ total c l + total d l = total_both a b c d h l in
+    let f : a x + b x ≡ c x + d x = h x in
     omega arith
 
 pub total_ones : {A : Type 0} (l : List A) → total (λ (x : A). 1) l ≡ length l

@@ -103,6 +103,7 @@ unfolding grid_faces
 quads_total missing G size w h =
     total_tabs size (grid_face missing G) w h (z_dimension G.head - 1) (x_dimension G.head - 1)
     ∙ rows_of (z_dimension G.head - 1) (x_dimension G.head - 1) w
+    ∙ ap (λ (n : ℕ). w * n) (mul_comm (z_dimension G.head - 1) (x_dimension G.head - 1))
 
 pub grid_points_lem : (bs : List ℕ) → length (grid_of bs).points ≡ 3 * (grid_sizes (header_of bs)).points
 unfolding grid_of grid_sizes

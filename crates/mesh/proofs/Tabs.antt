@@ -1,33 +1,22 @@
 -- Rows of one length, made by number.
-use mathlib.Core.Path.{◌≡◌, refl, sym, ap, ap₂, ◌∙◌}
-use mathlib.Core.List.{List, ◌++◌}
-use Prim.Native.Nat.{ℕ, zero, suc, ◌+◌, ◌*◌, ◌/◌, ◌%◌, ◌<◌}
-use native.Mathlib.Nat.{zero-add, suc-mul, zero-mul, add_comm}
+use mathlib.Core.Path.{◌≡◌, refl, ◌∙◌}
+use Prim.Native.Nat.{ℕ, ◌*◌, ◌/◌, ◌%◌, ◌<◌}
+use native.Mathlib.Nat.{zero-add, add_comm}
 use Rattle.lists.specs.Loops.{tab}
 use Rattle.lists.proofs.Numbers.{column_of, row_of}
-use Rattle.lists.proofs.Tabs.{tab_shift, tab_add}
-use Rattle.lists.specs.Lists.{total, flat}
+use Rattle.lists.proofs.Pieces.{flat_table}
+use Rattle.lists.proofs.Tabs.{tab_shift}
+use Rattle.lists.specs.Lists.{total}
 use Rattle.mesh.specs.Quads.{tabs}
 use Rattle.lists.proofs.Totals.{total_tab, total_flat}
 
 module _ {A : Type 0} where
   -- rows of m, by number
   pub tabs_tab : (f : ℕ → ℕ → A) (n m : ℕ) → 0 < m → tabs f n m ≡ tab (λ k. f (k / m) (k % m)) (n * m) 0
-  unfolding tabs tab flat
-  tabs_tab f n m h = go n 0 ∙ ap (λ (s : ℕ). tab (λ k. f (k / m) (k % m)) (n * m) s) (zero-mul m)
-    where
-      at : (i t : ℕ) → t < m → f i t ≡ f ((i * m + t) / m) ((i * m + t) % m)
-      at i t l = rw (add_comm (i * m) t, row_of m t i l, column_of m t i l) refl
-
-      go : (n i : ℕ) → flat (tab (λ i. tab (f i) m 0) n i) ≡ tab (λ k. f (k / m) (k % m)) (n * m) (i * m)
-      go zero i = rw zero-mul refl
-      go (suc n) i =
-          let s : suc i * m ≡ i * m + m = suc-mul i m in
-          let e : suc n * m ≡ m + n * m = suc-mul n m ∙ add_comm (n * m) m in
-          ap₂ (λ (x y : List A). x ++ y)
-          (tab_shift (f i) (λ k. f (k / m) (k % m)) m 0 (i * m) (λ t l. rw zero-add (at i t l)))
-          (go n (suc i) ∙ ap (λ (j : ℕ). tab (λ k. f (k / m) (k % m)) (n * m) j) s)
-          ∙ sym (ap (λ (k : ℕ). tab (λ k. f (k / m) (k % m)) k (i * m)) e ∙ tab_add (λ k. f (k / m) (k % m)) m (n * m) (i * m))
+  unfolding tabs
+  tabs_tab f n m h =
+      flat_table (λ k. f (k / m) (k % m)) m (λ i. tab (f i) m 0)
+      (λ i. tab_shift (f i) (λ k. f (k / m) (k % m)) m 0 (i * m) (λ t l. rw (zero-add, add_comm (i * m) t, row_of m t i l, column_of m t i l) refl)) n
 
 pub total_tabs : {A : Type 0} (size : A → ℕ) (f : ℕ → ℕ → A) (w : ℕ) → ((i j : ℕ) → size (f i j) ≡ w) → (n m : ℕ) → total size (tabs f n m) ≡ n * (m * w)
 unfolding tabs

@@ -63,19 +63,15 @@ line_set_sizes bs h =
 
 -- ---- grid
 
--- FORMAT 8.3: how many quads
+-- FORMAT 8.3, 8.4: how many quads a grid has, and how many faces the sides of an extrusion: between points in rows and columns, by the first two counts
 abbrev pub quad_count : Header → ℕ
-quad_count h = (z_dimension h - 1) * (x_dimension h - 1)
+quad_count h = (get_or h.counts 0 0 - 1) * (get_or h.counts 1 0 - 1)
 
 -- FORMAT 4, 8.3: sides multiplied, however many heights there are; 4 corners and 2 triangles a quad
 unfoldable pub grid_sizes : Header → Sizes
 grid_sizes h = record { points = x_dimension h * z_dimension h; corners = 4 * quad_count h; indices = 6 * quad_count h }
 
 -- ---- extrusion
-
--- FORMAT 8.4: how many faces the sides have
-abbrev pub side_count : Header → ℕ
-side_count h = (spine_count h - 1) * (section_count h - 1)
 
 abbrev pub one : Bool → ℕ
 one true = 1
@@ -91,8 +87,8 @@ extrusion_sizes bs h =
     let k = cap_length (section_of bs h) in
     record {
       points = spine_count h * section_count h;
-      corners = 4 * side_count h + cap_count h k * k;
-      indices = 6 * side_count h + cap_count h k * (3 * (k - 2));
+      corners = 4 * quad_count h + cap_count h k * k;
+      indices = 6 * quad_count h + cap_count h k * (3 * (k - 2));
     }
 
 -- ---- by kind

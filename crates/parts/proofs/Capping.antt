@@ -1,12 +1,13 @@
 -- A cap: its triangles, its vertices, and how large it is where it is there.
 use mathlib.Core.Path.{◌≡◌, refl, sym, ap, subst}
-use mathlib.Core.Bool.{Bool, true, false, cond}
+use mathlib.Core.Bool.{Bool, true, false}
 use mathlib.Core.List.{List, [], ◌∷◌}
 use Prim.Native.Nat.{ℕ, ◌+◌, ◌*◌, ◌≤◌}
 use native.Mathlib.Omega.{arith}
 use lib.ListN.{length}
 use lib.Ieee.{Float}
 use Rattle.lists.specs.Loops.{tab}
+use Rattle.lists.proofs.Lists.{cond_long}
 use Rattle.lists.proofs.Pieces.{length_pieces}
 use Rattle.lists.proofs.Tabs.{length_tab}
 use Rattle.parts.specs.declared.builder.Builder.{Builder}
@@ -19,13 +20,9 @@ use Rattle.parts.specs.Written.{Sized, Roomy}
 use Rattle.parts.proofs.Pushing.{room_less}
 use Rattle.parts.proofs.Building.{room_after, pushes_on}
 
-either : (b : Bool) (x y : List ℕ) → length x ≡ length y → length (cond b x y) ≡ length x
-either true x y e = refl
-either false x y e = sym e
-
 pub tri_wide : (k : Cap) (i : ℕ) → length (cap_tri k i) ≡ 3
 unfolding cap_tri
-tri_wide k i = either k.top _ _ refl
+tri_wide k i = cond_long k.top _ _ refl refl
 
 -- ---- the cap whole
 

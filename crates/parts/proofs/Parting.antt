@@ -13,6 +13,7 @@ use lib.Ieee.{Float}
 use Rattle.block.specs.declared.refusal.Refusal.{Refusal}
 use Rattle.block.specs.declared.refusal.Refusal.TheVariants.{Pairs, Buffer}
 use Rattle.block.specs.Refusal.{number_of, row, first_of}
+use Rattle.lists.proofs.Options.{then_some_or}
 use Rattle.lists.proofs.Tests.{or_none}
 use Rattle.lists.specs.Lists.{flat}
 use Rattle.lists.specs.Parts.{spliced}
@@ -51,15 +52,8 @@ module _ (p : Part) (b : Bool) where
       go true = Z
       go false = record { vertices = refl; indices = refl; pairs = refl }
 
--- what is asked of it, and what is written, as the code says it: of the value that is there, or of none
+-- what is written, as the code says it: of the value that is there, or of none
 module _ {T : Type 0} (w : Bool) (x : T) {o : Option T} (e : o ≡ then_some w x) where
-  pub if_there : (P : T → Type 0) → (w ≡ true → P x) → IfSome o P
-  if_there P f = rw e (go w f)
-    where
-      go : (w : Bool) → (w ≡ true → P x) → IfSome (then_some w x) P
-      go true f = f refl
-      go false f = tt
-
   pub written_there : (P : T → Part) (K : T → ℕ) {a : ℕ} {b b' : Builder} → MatchOption o (b' ≡ b) (λ y. Written (P y) (K y) a b b') → Written (cond w (P x) no_part) (K x) a b b'
   written_there P K {a} {b} {b'} W = go w (rw e at W)
     where
@@ -70,15 +64,6 @@ module _ {T : Type 0} (w : Bool) (x : T) {o : Option T} (e : o ≡ then_some w x
 pub room_there : (p : Part) {w : Bool} {k a : ℕ} {b : Builder} → Roomy (cond w p no_part) k a b → w ≡ true → Roomy p k a b
 room_there p R e = rw e at R
 
-pub sizes_given : (w : Bool) (z : PartSizes) → unwrap_or (then_some w z) no_sizes ≡ sizes_where w z
-unfolding sizes_where
-sizes_given true z = refl
-sizes_given false z = refl
-
--- the sizes of what is there
-pub sizes_there : (w : Bool) (z : PartSizes) {r : PartSizes} {o : Option PartSizes} → o ≡ then_some w z → r ≡ unwrap_or o no_sizes → r ≡ sizes_where w z
-sizes_there w z {r} {o} e q = q ∙ ap (λ (y : Option PartSizes). unwrap_or y no_sizes) e ∙ sizes_given w z
-
 pub where_small : (m : ℕ) (b : Bool) (z : PartSizes) → Small m z → Small m (sizes_where b z)
 unfolding sizes_where
 where_small m true z S = S
@@ -87,8 +72,9 @@ where_small m false z S = record { vertices = omega arith; indices = omega arith
 -- what stands before the caps, of a side that is there or not
 pub marks_there : (w : Bool) (y : PartSizes) (n : ℕ) (top bottom : Bool) {z : PartSizes} {o : Option PartSizes} {m : Marks} → m ≡ marks_of (unwrap_or o no_sizes) n top bottom → o ≡ then_some w z → z ≡ y
     → m ≡ marks_of (sizes_where w y) n top bottom
+unfolding sizes_where
 marks_there w y n top bottom {z} {o} {m} em eo ez =
-    em ∙ ap (λ (x : PartSizes). marks_of x n top bottom) (sizes_there w z {r = unwrap_or o no_sizes} eo refl ∙ ap (sizes_where w) ez)
+    em ∙ ap (λ (x : PartSizes). marks_of x n top bottom) (then_some_or no_sizes w z eo ∙ ap (sizes_where w) ez)
 
 -- sizes of a part that is there or not
 pub some_small : (m : ℕ) (o : Option PartSizes) → IfSome o (Small m) → Small m (unwrap_or o no_sizes)

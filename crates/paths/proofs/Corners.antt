@@ -9,15 +9,15 @@ use lib.ListN.{length, get_or}
 use Rattle.lists.specs.Loops.{any}
 use Rattle.lists.proofs.Putting.{Split}
 use Rattle.lists.proofs.Chunked.{Chunked, chunked_here, chunked_at}
+use Rattle.lists.proofs.Searches.{below_at}
 use Rattle.math.specs.Vector.{vsub}
 use Rattle.paths.specs.Paths.{point_in, triangle_in}
-use Rattle.paths.proofs.Refusing.{inside_at}
 
 module _ (p : List ℕ) {indices rest after : List ℕ} {t : ℕ} (C : Chunked 3 indices t rest) (S : Split rest p after) (m : length p ≡ 3) where
   pub corners_inside : {n : ℕ} → any (leb n) indices ≡ false → (k : ℕ) → k < 3 → get_or p k 0 < n
   corners_inside {n} e k h =
       let w = chunked_here p C S m (omega arith) in
-      omega (arith, chunked_at p C S m 0 k _ h refl, inside_at n indices (t * 3 + k) e (omega arith))
+      omega (arith, chunked_at p C S m 0 k _ h refl, below_at n indices (t * 3 + k) e (omega arith))
 
   pub triangle_here : (positions : List ℕ) → triangle_in positions p 0 ≡ triangle_in positions indices t
   unfolding triangle_in

@@ -14,14 +14,14 @@ use Rattle.std.specs.Int.{from_bool}
 use Rattle.std.specs.List.{list_any}
 use borrow.Author.Tests.{eq-eqb, lt-ltb, le-ltb, ltb-false}
 use Rattle.lists.specs.Loops.{pick, run, first}
-use Rattle.lists.proofs.Loops.{run_go, run_end}
+use Rattle.lists.proofs.Loops.{run_go, run_end, run_kept}
 use Rattle.lists.proofs.Searches.{first_has}
 use Rattle.lists.proofs.Tests.{never, and_no, or_none}
 use Rattle.paths.specs.declared.intersect.Triangle.{Triangle}
 use Rattle.paths.specs.Intersect.{hits}
 use Rattle.paths.specs.Paths.{triangle_in}
 use Rattle.paths.specs.Pass.{ray_at, next_answer, step_at, updated, turn_of, one_where, hit_count, any_clear}
-use Rattle.paths.proofs.Updates.{updated_kept, run_kept, Running}
+use Rattle.paths.proofs.Updates.{updated_kept, Running}
 
 -- ---- a count
 

@@ -1,14 +1,12 @@
 -- What is known of a call that is not refused, and that each ground refuses. Assumes nothing.
-use mathlib.Core.Path.{◌≡◌, refl}
-use mathlib.Core.Bool.{Bool, true, false, ◌||◌}
-use mathlib.Core.List.{List, [], ◌∷◌}
-use Rattle.std.specs.List.{list_any}
-use Prim.Native.Nat.{ℕ, ◌/◌, ◌%◌, ◌≤◌, ◌<◌}
+use mathlib.Core.Path.{◌≡◌}
+use mathlib.Core.Bool.{false}
+use mathlib.Core.List.{List}
+use Prim.Native.Nat.{ℕ, ◌/◌, ◌%◌, ◌≤◌}
 use lib.Dec.{leb}
-use lib.ListN.{length, get_or}
-use borrow.Author.Tests.{eq-eqb, eqb-true, le-ltb, ltb-false, leb-false, not-false}
-use Rattle.lists.specs.Loops.{pick, any}
-use Rattle.lists.proofs.Searches.{any_at}
+use lib.ListN.{length}
+use borrow.Author.Tests.{eq-eqb, eqb-true, le-ltb, ltb-false, not-false}
+use Rattle.lists.specs.Loops.{any}
 use Rattle.lists.proofs.Tests.{or_none}
 use Rattle.paths.specs.Paths.{paths_in, is_refused}
 
@@ -43,17 +41,3 @@ module _ (positions indices paths : List ℕ) (room : ℕ) where
   lets_pass a =
       rw (eq-eqb _ _ a.full, le-ltb 64 (paths_in paths) a.few, le-ltb room (paths_in paths) a.fits, eq-eqb _ _ a.points, eq-eqb _ _ a.threes)
       a.inside
-
--- an index that is there names a vertex
-pub inside_at : (n : ℕ) (l : List ℕ) (k : ℕ) → any (leb n) l ≡ false → k < length l → get_or l k 0 < n
-inside_at n l k e h = leb-false n (get_or l k 0) (any_at (leb n) l k e h)
-
--- the library's search for an element
-or_pick : (b : Bool) {x y : Bool} → x ≡ y → b || x ≡ pick b true y
-or_pick true e = refl
-or_pick false e = e
-
-pub any_is : (test : ℕ → Bool) (l : List ℕ) → list_any test l ≡ any test l
-unfolding any
-any_is test [] = refl
-any_is test (x ∷ xs) = or_pick (test x) (any_is test xs)

@@ -114,9 +114,3 @@ unfolding updated
 updated_kept g zero l e = refl
 updated_kept g (suc k) [] e = refl
 updated_kept g (suc k) (x ∷ xs) e = λ n. e 0 (omega arith) n ∷ updated_kept (λ (i : ℕ). g (suc i)) k xs (λ (j : ℕ) (w : j < k). e (suc j) (suc-le-suc w)) n
-
--- turns that leave l as it is
-pub run_kept : (f : ℕ → List ℕ → List ℕ) (l : List ℕ) → ((t : ℕ) → f t l ≡ l) → (k t : ℕ) → run f k t l ≡ l
-unfolding run
-run_kept f l e zero t = refl
-run_kept f l e (suc k) t = ap (λ (r : List ℕ). run f k (suc t) r) (e t) ∙ run_kept f l e k (suc t)

@@ -1,29 +1,18 @@
 -- FORMAT 17.5: points and colours one after the other are the words of their lists.
-use mathlib.Core.Path.{◌≡◌, refl, sym, ap, ◌∙◌}
+use mathlib.Core.Path.{◌≡◌, ap, ◌∙◌}
 use mathlib.Core.Bool.{true}
-use mathlib.Core.List.{List, [], ◌∷◌, ◌++◌, map}
-use Prim.Native.Nat.{ℕ, zero, suc, ◌+◌, ◌*◌, ◌≤◌}
-use native.Mathlib.Nat.{zero-add, zero-mul, mul_comm}
+use mathlib.Core.List.{List, [], ◌∷◌, map}
+use Prim.Native.Nat.{ℕ, suc, ◌+◌, ◌*◌, ◌≤◌}
+use native.Mathlib.Nat.{mul_comm}
 use native.Mathlib.Numerals.{add-one}
 use native.Mathlib.Omega.{arith}
 use lib.ListN.{get_or, length, take}
 use Rattle.lists.specs.Lists.{flat}
 use Rattle.lists.specs.Loops.{tab}
-use Rattle.lists.proofs.Numbers.{next_row}
-use Rattle.lists.proofs.Pieces.{flat_more}
-use Rattle.lists.proofs.Tabs.{tab_add, tab_take, map_tab}
+use Rattle.lists.proofs.Pieces.{flat_table}
+use Rattle.lists.proofs.Tabs.{tab_take, map_tab}
 use Rattle.mesh.specs.Words.{words3, words4, point_words}
 use Rattle.pointset.specs.PointSet.{colour_at}
-
--- pieces of w elements, which are those of one table
-pub flat_table : {A : Type 0} (f : ℕ → A) (w : ℕ) (F : ℕ → List A) → ((k : ℕ) → F k ≡ tab f w (k * w)) → (n : ℕ) → flat (tab F n 0) ≡ tab f (n * w) 0
-unfolding tab flat
-flat_table f w F h zero = rw (zero-mul w) refl
-flat_table {A} f w F h (suc n) =
-    let e : suc n * w ≡ n * w + w = ap (λ (m : ℕ). m * w) (sym (add-one n)) ∙ next_row n w in
-    ap (λ (m : ℕ). flat (tab F m 0)) (sym (add-one n)) ∙ flat_more F n
-    ∙ (λ i. flat_table f w F h n i ++ (h n ∙ ap (tab f w) (sym (zero-add (n * w)))) i)
-    ∙ sym (tab_add f (n * w) w 0) ∙ ap (λ (m : ℕ). tab f m 0) (sym e)
 
 module _ (l : List ℕ) (n : ℕ) where
   pub points_copied : n * 3 ≤ length l → flat (map words3 (tab (point_words l) n 0)) ≡ take (3 * n) l

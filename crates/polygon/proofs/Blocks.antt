@@ -13,7 +13,7 @@ use Rattle.lists.proofs.Numbers.{le_or_lt}
 use Rattle.lists.proofs.Searches.{past_to, none_to}
 use lib.Dec.{eqb, ltb}
 use Rattle.std.specs.Prelude.{Option, Some, None, unwrap_or}
-use lib.Ieee.{le}
+use lib.Ieee.{Float, le}
 use Rattle.lists.proofs.Tests.{and_far}
 use Rattle.polygon.specs.Ears.{Pt, +0, cross2, point_in_tri, blocks}
 use Rattle.lists.specs.Loops.{pick, first}
@@ -22,14 +22,19 @@ use Rattle.polygon.specs.declared.memo.Dot.{Dot}
 
 -- ---- a corner that is not near is in no one's way
 
-pub not_in_way : (P : ℕ → Pt) (left : List ℕ) (a b c d : Dot) (j v : ℕ) → v ≡ get_or left j 0 → d ≡ dot_of P j
-    → (eqb v 1 && (le +0 (cross2 (spot_of b) (spot_of c) (spot_of d)) && le +0 (cross2 (spot_of c) (spot_of a) (spot_of d)))) ≡ false
-    → hits left (λ i. in_way (dot_of P i) a b c) j ≡ false
+pub not_left : (left : List ℕ) (g : ℕ → Bool) (j v : ℕ) → v ≡ get_or left j 0 → eqb v 1 ≡ false → hits left g j ≡ false
+unfolding hits
+not_left left g j v ev e = ap (λ (b : Bool). b && g j) (sym (ap (λ (n : ℕ). eqb n 1) ev) ∙ e)
+
+pub not_in_way : (P : ℕ → Pt) (left : List ℕ) (a b c : Dot) (j v : ℕ) (q : Pt) (u w : Float) → v ≡ get_or left j 0 → q ≡ P j
+    → u ≡ cross2 (spot_of b) (spot_of c) q → w ≡ cross2 (spot_of c) (spot_of a) q → (eqb v 1 && (le +0 u && le +0 w)) ≡ false → hits left (λ i. in_way (dot_of P i) a b c) j ≡ false
 unfolding hits in_way point_in_tri
-not_in_way P left a b c d j v ev ed e =
+not_in_way P left a b c j v q u w ev eq eu ew e =
+    let bc = eu ∙ ap (cross2 (spot_of b) (spot_of c)) eq in
+    let ca = ew ∙ ap (cross2 (spot_of c) (spot_of a)) eq in
     and_far (eqb (get_or left j 0) 1) (not (eqb j a.j)) (not (eqb j b.j)) (not (eqb j c.j)) (le +0 (cross2 (spot_of a) (spot_of b) (P j)))
     (le +0 (cross2 (spot_of b) (spot_of c) (P j)) && le +0 (cross2 (spot_of c) (spot_of a) (P j)))
-    (sym (λ i. eqb (ev i) 1 && (le +0 (cross2 (spot_of b) (spot_of c) (spot_of (ed i))) && le +0 (cross2 (spot_of c) (spot_of a) (spot_of (ed i))))) ∙ e)
+    (sym (λ i. eqb (ev i) 1 && (le +0 (bc i) && le +0 (ca i))) ∙ e)
 
 -- the triangle of the dots is that of the corners
 pub first_read : (P : ℕ → Pt) (left : List ℕ) (a b c : ℕ) (da db dc : Dot) → da ≡ dot_of P a → db ≡ dot_of P b → dc ≡ dot_of P c

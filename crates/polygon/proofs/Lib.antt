@@ -7,6 +7,7 @@ pub mod Projection
 pub mod Whole
 pub mod Keep
 pub mod Blocks
+pub mod Lanes
 pub mod Tables
 pub mod Turns
 pub mod Triangles

@@ -4,7 +4,7 @@ use mathlib.Core.Bool.{Bool, true, false}
 use mathlib.Core.List.{List, [], ◌∷◌, ◌++◌}
 use Prim.Native.Nat.{ℕ, ◌-◌, ◌*◌, ◌≤◌, ◌<◌}
 use native.Mathlib.Omega.{arith}
-use lib.ListN.{length, get_or, set, take, drop, replicate, length-set, get_or-replicate}
+use lib.ListN.{length, get_or, set, take, drop, length-set}
 use lib.Seq.{sets, length-take-le, take-append-le}
 use lib.Ieee.{le}
 use Rattle.std.specs.Prelude.{Option}
@@ -105,9 +105,3 @@ held_turn P m i l l' left v v' memo' hi hm t u S G =
       once = subst (λ (r : List ℕ). Once r) (sym G.order) (once_remove i (take m l) u);
       sound = subst (λ (f : List ℕ). Sound P f memo') (sym G.left) (sound_gone P v x memo' (searched_sound P left v memo' S));
     }
-
--- ---- the start
-
--- what `fill` leaves
-pub full_of : (v n : ℕ) (l : List ℕ) → l ≡ replicate n v → Full v n l
-full_of v n l e = λ (j : ℕ) (h : j < n). ap (λ (r : List ℕ). get_or r j 0) e ∙ get_or-replicate n j v 0 h

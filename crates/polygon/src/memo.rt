@@ -1,5 +1,6 @@
 // FORMAT 12.3, ear_clip: whether a corner is an ear. What an earlier search found is kept: a corner is looked at anew only where its neighbours changed.
 ghost use Rattle.std.specs.Prelude.{◌≡◌, false, ◌&&◌, [], ◌∷◌, ℕ, ◌+◌, ◌-◌, ◌*◌, ◌%◌, ◌^◌, ◌≤◌, ◌<◌, eqb, length, get_or, set};
+ghost use Rattle.std.specs.Float.{nan};
 ghost use Rattle.std.proofs.lemmas.List.Edits.{sets};
 ghost use Rattle.std.specs.Float.Ieee.{le};
 ghost use Rattle.lists.specs.Loops.{pick, first};
@@ -7,6 +8,7 @@ ghost use Rattle.polygon.specs.Ears.{+0, triple, corner, cross2, point_in_tri, b
 ghost use Rattle.polygon.specs.Memo.{xy, dot_of, spot_of, in_way, hits, Clear, Tells, ear_of, finding, word, Known, Sound, entry, found, Searched};
 
 use lists::{get, get_or, put};
+use std::simd::prelude::*;
 
 // A corner: its number, and where it lies in the plane.
 #[derive(Clone, Copy)]
@@ -72,23 +74,35 @@ fn is_in_way(k: Dot, t: Triangle) -> bool
     k.j != t.a.j && k.j != t.b.j && k.j != t.c.j && in_tri(k, t)
 }
 
-// The corner k, whose coordinates are there. Not `dot_at`, which tests each index: a block is counted without tests.
-fn dot_in(p: &[f32], k: usize) -> Dot
-    requires { (k < 2 ^ 31) × (k * 2 + 1 < length p.now) }
-    ensures { result ≡ dot_of (xy p.now) k }
+// Where sixteen corners lie, from the first of `p` on.
+fn dots_in(p: &[f32]) -> (f32x16, f32x16)
+    requires { 32 ≤ length p.now }
+    ensures { (k : ℕ) → k < 16 → (get_or result.0 k nan, get_or result.1 k nan) ≡ xy p.now k }
 {
-    Dot {
-        j: k as u32,
-        x: p[k * 2],
-        y: p[k * 2 + 1],
-    }
+    f32x16::from_slice(p).deinterleave(f32x16::from_slice(&p[16..]))
 }
 
-// Whether d, which is left where f is 1, is not to the right of the sides b c and c a of t.
-fn is_near(f: u32, d: Dot, t: Triangle) -> bool
-    ensures { result ≡ (eqb f 1 && (le +0 (cross2 (spot_of t.b) (spot_of t.c) (spot_of d)) && le +0 (cross2 (spot_of t.c) (spot_of t.a) (spot_of d)))) }
+// `cross` of sixteen corners b. Lanes, and no loop over corners: the compiler puts no comparisons of floats in a loop side by side (docs/BENCHMARKS.md).
+fn crosses(o: Dot, a: Dot, x: f32x16, y: f32x16) -> f32x16
+    ensures { (k : ℕ) → k < 16 → get_or result k nan ≡ cross2 (spot_of o) (spot_of a) (get_or x k nan, get_or y k nan) }
 {
-    f == 1 && cross(t.b, t.c, d) >= 0.0 && cross(t.c, t.a, d) >= 0.0
+    f32x16::splat(a.x - o.x) * (y - f32x16::splat(o.y))
+        - f32x16::splat(a.y - o.y) * (x - f32x16::splat(o.x))
+}
+
+// Whether one of sixteen corners is left, its flag being 1.
+fn is_any_left(left: u32x16) -> bool
+    ensures { result ≡ false → (k : ℕ) → k < 16 → eqb (get_or left k 0) 1 ≡ false }
+{
+    left.simd_eq(u32x16::splat(1)).any()
+}
+
+// Whether one of sixteen corners is near: left, its flag being 1, and not to the right of two sides.
+fn is_any_near(left: u32x16, bc: f32x16, ca: f32x16) -> bool
+    ensures { result ≡ false → (k : ℕ) → k < 16 → (eqb (get_or left k 0) 1 && (le +0 (get_or bc k nan) && le +0 (get_or ca k nan))) ≡ false }
+{
+    let zero = f32x16::splat(0.0);
+    (left.simd_eq(u32x16::splat(1)) & zero.simd_le(bc) & zero.simd_le(ca)).any()
 }
 
 // The triangle q, which is read once for all corners.
@@ -139,24 +153,27 @@ impl<'a> Field<'a> {
         )
     }
 
-    // How many of the corners from `from` up to `to` are near. Where there is none, none of them lies in the triangle.
-    fn count_near(&self, from: usize, to: usize) -> u32
-        requires { to ≤ length self.now.left.now }
-        ensures { result ≡ 0 → (j : ℕ) → from ≤ j → j < to → hits self.now.left.now (λ i. in_way (dot_of (xy self.now.p.now) i) self.now.t.a self.now.t.b self.now.t.c) j ≡ false }
+    // Whether one of the block of corners from `from` on is near the triangle, by its sides b c and c a. Where none is, none of them lies in it. Ears go
+    // one after another, so in many blocks none is left: those are passed before their coordinates are read.
+    fn is_block_near(&self, from: usize) -> bool
+        requires { from + 16 ≤ length self.now.left.now }
+        ensures { result ≡ false → (j : ℕ) → from ≤ j → j < from + 16 → hits self.now.left.now (λ i. in_way (dot_of (xy self.now.p.now) i) self.now.t.a self.now.t.b self.now.t.c) j ≡ false }
     {
-        let mut s: u32 = 0;
-        for k in from..to {
-            s += u32::from(is_near(self.left[k], dot_in(self.p, k), self.t));
+        let left = u32x16::from_slice(&self.left[from..]);
+        if !is_any_left(left) {
+            return false;
         }
-        s
+        let (x, y) = dots_in(&self.p[from * 2..]);
+        let t = self.t;
+        is_any_near(left, crosses(t.b, t.c, x, y), crosses(t.c, t.a, x, y))
     }
 
-    // As `scan`, of a block of corners: it is passed as a whole where none of them is near. The last block may be short: then some before it are counted again.
+    // As `scan`, of a block of corners: it is passed as a whole where none of them is near. The last block may be short: then some before it are read again.
     fn scan_block(&self, from: usize, to: usize) -> Option<usize>
         requires { (from ≤ to) × (to ≤ from + 16) × (to ≤ length self.now.left.now) }
         ensures { result ≡ found to (first (hits self.now.left.now (λ j. in_way (dot_of (xy self.now.p.now) j) self.now.t.a self.now.t.b self.now.t.c)) (to - from) from) }
     {
-        if BLOCK <= to && self.count_near(to - BLOCK, to) == 0 {
+        if BLOCK <= to && !self.is_block_near(to - BLOCK) {
             return None;
         }
         self.scan(from, to)

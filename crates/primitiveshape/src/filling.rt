@@ -9,11 +9,10 @@ ghost use Rattle.primitiveshape.specs.Shape.{listings_in};
 
 use block::{Topology, list_part};
 use build::Shared;
-use faceset::put_points;
 use facesetshape::SetBlock;
 use primitiveset::list_primitives;
 use soups::prepare;
-use tables::Plan;
+use tables::{Plan, put_points};
 
 // All tables but that of texture.
 // As in facesetshape but for one call. One function over that call as a closure (tried) needs a contract longer than the lines that it saves.

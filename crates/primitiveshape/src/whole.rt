@@ -20,7 +20,13 @@ use texture::Source;
 // The mesh of an accepted set of primitives of the sizes z, into the six slices; the working slices are left with zeros. A quad is split as a fan, whatever the
 // convex bit says.
 // As make_face_set but for the convex bit and what is listed: one function for both would take all that is proved of the list in its contract.
-pub fn make_primitives(a: &AcceptedBlock<'_>, g: Topology, z: Sizes, missing: Words4, b: &mut Buffers<'_>) -> Counts
+pub fn make_primitives(
+    a: &AcceptedBlock<'_>,
+    g: Topology,
+    z: Sizes,
+    missing: Words4,
+    b: &mut Buffers<'_>,
+) -> Counts
     requires { Called (Primitives g) a.now b.old × Counted a.now.block.now a.now.header z }
     ensures same { Same b.old b.new }
     ensures made { Shaped a.now.header (primitive_mesh missing g a.now.block.now) (slices_in b.old) (slices_in b.new) result

@@ -7,6 +7,7 @@ use Prim.Native.Nat.{ℕ, ◌≤◌, ◌<◌}
 use native.Mathlib.Omega.{arith}
 use lib.ListN.{length, get_or}
 use Rattle.std.proofs.lemmas.Option.{none-some}
+use Rattle.lists.proofs.Options.{is_some_then}
 use Rattle.bits.specs.declared.Words2.{Words2}
 use Rattle.bits.specs.declared.Words4.{Words4}
 use Rattle.block.specs.declared.crease.CreaseRule.{CreaseRule}
@@ -19,7 +20,7 @@ use Rattle.mesh.specs.Result.{makes_normals, makes_colours, makes_textures}
 use Rattle.tables.specs.Listed.{Use, Listing, no_use, no_listing, uses_at}
 use Rattle.vertices.specs.Places.{colour_words, texture_words}
 use Rattle.soups.specs.Attributes.{attributes_of, face_widths, Streamed}
-use Rattle.soups.proofs.Streams.{is_some_then, corner_use, reads_of, untextured}
+use Rattle.soups.proofs.Streams.{corner_use, reads_of, untextured}
 use Rattle.texture.specs.Corner.{texture_in}
 use Rattle.texture.proofs.Streams.{texture_rest}
 use Rattle.shaping.specs.Shared.{listed_shared, plain_widths, plain_attributes, plain_shared, frame_by}

@@ -13,7 +13,7 @@ use Rattle.tables.specs.Layout.{most, plan_of}
 use Rattle.tables.proofs.Room.{plan_fits}
 use Rattle.lent.specs.Lent.{Asked}
 use Rattle.lent.proofs.Accepts.{low_by, enough_by}
-use Rattle.build.proofs.Rooms.{plan_laid, plan_low}
+use Rattle.corners.proofs.Rooms.{plan_laid, plan_low}
 use Rattle.shaping.specs.Tabled.{Counted, Ample}
 
 -- 3 F <= C is known here of any shape

@@ -20,7 +20,7 @@ use Rattle.tables.specs.Listed.{Use, Listing, Beside, Listed}
 use Rattle.tables.proofs.Besides.{beside_kept}
 use Rattle.tables.proofs.Stays.{points_kept}
 use Rattle.tables.proofs.Listings.{listed_sound, listed_kept}
-use Rattle.corners.specs.Laid.{tables_at, tables_of}
+use Rattle.corners.specs.Laid.{tables_of}
 use Rattle.corners.specs.Corner.{texture_at}
 use Rattle.soups.specs.Prepared.{Prepared}
 use Rattle.build.specs.declared.shared.Shared.{Shared}
@@ -72,5 +72,5 @@ module _ {sh : Shared} {f : ℕ → Use → Words2} {t : Plan} where
   -- g c is what is written for corner c
   pub textures_put : {g : ℕ → Words2} {w w' : List ℕ} → t.owners + t.count + 2 * t.count ≤ length w → w' ≡ spliced w (t.owners + t.count) (texture_words g t.count)
       → ((c : ℕ) → c < t.count → g c ≡ f (owner_in w t c) (use_in w t c)) → TexturesAt sh f t w w'
-  unfolding texture_at tables_of tables_at
+  unfolding texture_at tables_of
   textures_put {g} {w} r e q = let T = filled.textures_put w (t.owners + t.count) t.count g r e in record { kept = T.0; at = λ p c l. T.1 c l ∙ q c l }

@@ -3,7 +3,6 @@ use mathlib.Core.Path.{◌≡◌, refl, sym, ap, subst, ◌∙◌}
 use mathlib.Core.Bool.{false}
 use mathlib.Core.List.{List}
 use Prim.Native.Nat.{ℕ, ◌+◌, ◌-◌, ◌*◌, ◌≤◌}
-use native.Mathlib.Nat.{mul_comm}
 use native.Mathlib.Omega.{arith}
 use borrow.Author.Tests.{ltb-false}
 use lib.Dec.{ltb}
@@ -78,13 +77,11 @@ module _ (bs : List ℕ) (h : Header) where
           faces = refl;
         }
 
-  pub grid_are : (p q : ℕ) → p ≡ x_dimension h * z_dimension h → q ≡ spec.side_count h → Are (spec.grid_sizes h) 0 (record { points = p; corners = 4 * q; indices = 6 * q; faces = 0 })
+  pub grid_are : (p q : ℕ) → p ≡ x_dimension h * z_dimension h → q ≡ spec.quad_count h → Are (spec.grid_sizes h) 0 (record { points = p; corners = 4 * q; indices = 6 * q; faces = 0 })
   unfolding spec.grid_sizes
-  grid_are p q ep eq =
-      let e : q ≡ spec.quad_count h = eq ∙ mul_comm (x_dimension h - 1) (z_dimension h - 1) in
-      record { points = ep; corners = ap (λ (n : ℕ). 4 * n) e; indices = ap (λ (n : ℕ). 6 * n) e; faces = refl }
+  grid_are p q ep eq = record { points = ep; corners = ap (λ (n : ℕ). 4 * n) eq; indices = ap (λ (n : ℕ). 6 * n) eq; faces = refl }
 
-  pub extrusion_are : (k n p q i : ℕ) → k ≡ cap_length (section_of bs h) → n ≡ spec.cap_count h k → p ≡ spine_count h * section_count h → q ≡ spec.side_count h → i ≡ 3 * (k - 2)
+  pub extrusion_are : (k n p q i : ℕ) → k ≡ cap_length (section_of bs h) → n ≡ spec.cap_count h k → p ≡ spine_count h * section_count h → q ≡ spec.quad_count h → i ≡ 3 * (k - 2)
       → Are (spec.extrusion_sizes bs h) 0 (record { points = p; corners = 4 * q + n * k; indices = 6 * q + n * i; faces = 0 })
   unfolding spec.extrusion_sizes
   extrusion_are k n p q i ek en ep eq ei =

@@ -1,4 +1,4 @@
--- FORMAT 3, 4: what is asked of a call that makes a mesh, beside that its block is accepted.
+-- FORMAT 3, 4: what is asked of whoever makes a mesh of an accepted block.
 use Rattle.std.specs.Prelude.{◌≡◌, length}
 use Rattle.block.specs.declared.kind.Kind.{Kind}
 use Rattle.mesh.specs.Sizes.{sizes_of}

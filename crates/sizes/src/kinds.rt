@@ -11,8 +11,8 @@ use extrusion::Extruded;
 use primitives::Source;
 use tables::wide;
 
-// Of what a list names, P, C and N are counted once a call, and handed on; and with them the faces, by which the tables of listed faces are planned: 0 where none
-// are listed, and no Option, as face sets and primitives alone read it, and there 0 is a number too.
+// Of what a list names, P, C and N are counted once a call, and handed on; and with them the faces, by which the tables of listed faces are planned: 0 where
+// none are listed, and no Option, as face sets and primitives alone read it, and there 0 is a number too.
 #[derive(Clone, Copy)]
 pub struct Sizes {
     pub points: usize,

@@ -1,6 +1,6 @@
 // FORMAT 4: the points of a grid or an extrusion, and the quads between them.
 ghost use Rattle.std.specs.Prelude.{◌≡◌, ◌*◌, ◌≤◌, get_or};
-ghost use Rattle.mesh.specs.Sizes.{side_count};
+ghost use Rattle.mesh.specs.Sizes.{quad_count};
 ghost use Rattle.tables.specs.Layout.{most};
 ghost use Rattle.sizes.specs.Known.{Sides};
 
@@ -30,7 +30,7 @@ impl Net {
     }
 
     pub fn quads(&self) -> usize
-        ensures { (result ≡ side_count self.now.header) × (result ≤ most * most) }
+        ensures { (result ≡ quad_count self.now.header) × (result ≤ most * most) }
     {
         let n = self.header.counts;
         product(n[0] - 1, n[1] - 1)

@@ -37,7 +37,7 @@ use Rattle.vertices.specs.declared.places.Widths.{Widths}
 use Rattle.vertices.specs.Places.{normal_words, colour_words, texture_words, colour_start, texture_start}
 use Rattle.vertices.specs.Search.{two, three, four, corner_key}
 use Rattle.corners.specs.declared.attributes.Attributes.{Attributes}
-use Rattle.corners.specs.Laid.{tables_at, tables_of}
+use Rattle.corners.specs.Laid.{tables_of}
 use Rattle.corners.specs.Corner.{Lent, point_at, place_at, number_at, texture_at, generated_at, normal_at, colour_at, words_at, key_in}
 use Rattle.lists.proofs.Numbers.{by_width}
 use Rattle.soups.specs.Keyed.{Reads, Textures}
@@ -129,15 +129,15 @@ module _ {L : Lent} {a : Attributes} {widths : Widths} {ring : ℕ} {w : List �
     is = listed_corner E corner j i h used
 
     point_is : point_at w (tables_of t) c ≡ q.point
-    unfolding point_at tables_of tables_at point_in c n u
+    unfolding point_at tables_of point_in c n u
     point_is = E.points j i h used ∙ sym (R.point n u).0 ∙ sym (ap (λ (x : Corner). x.point) is)
 
     place_is : place_at w (tables_of t) c ≡ u.place
-    unfolding place_at tables_of tables_at place_in c u
+    unfolding place_at tables_of place_in c u
     place_is = E.places j i h used
 
     number_is : number_at w (tables_of t) c ≡ n
-    unfolding number_at tables_of tables_at owner_in c n
+    unfolding number_at tables_of owner_in c n
     number_is = numbers j i h used
 
     normal_is : normal_at L a w (tables_of t) c ≡ corner_normal F (faces_with corner ls) j f q

@@ -6,9 +6,7 @@ use mathlib.Core.List.{List}
 use Prim.Native.Nat.{ℕ}
 use native.Mathlib.Omega.{arith}
 use lib.Ieee.{Float}
-use Rattle.std.specs.Prelude.{Some, is_some}
-use Rattle.std.specs.Bool.{then_some}
-use Rattle.std.proofs.lemmas.Option.{none-some, same_Some}
+use Rattle.lists.proofs.Options.{then_some_is}
 use Rattle.bits.specs.declared.Words2.{Words2}
 use Rattle.bits.specs.declared.Words4.{Words4}
 use Rattle.block.specs.declared.stream.Stream.{Stream}
@@ -24,15 +22,6 @@ use Rattle.mesh.specs.Grid.{grid_of}
 use Rattle.tables.specs.Listed.{Use}
 use Rattle.soups.specs.Keyed.{Reads}
 use Rattle.soups.specs.Attributes.{attributes_of, face_widths, Streamed}
-
--- whether there is a stream, and which
-pub is_some_then : {A : Type 0} (b : Bool) (x : A) → is_some (then_some b x) ≡ b
-is_some_then true x = refl
-is_some_then false x = refl
-
-then_some_is : {A : Type 0} (b : Bool) (x y : A) → then_some b x ≡ Some y → (b ≡ true) × (x ≡ y)
-then_some_is true x y e = (refl, same_Some x y e)
-then_some_is false x y e = absurd (none-some y e)
 
 -- a corner at its use, with a default texture by its point
 abbrev pub corner_use : Words4 → Rest → List ℕ → (ℕ → Words2) → ℕ → Use → Corner

@@ -1,40 +1,14 @@
--- The numbers of a sphere, and its triangles one after the other.
-use mathlib.Core.Path.{◌≡◌, refl, sym, ap, ◌∙◌, subst}
-use mathlib.Core.Bool.{Bool, true, false, not, cond}
+-- The two triangles of a quad of a sphere, one after the other.
+use mathlib.Core.Path.{◌≡◌, ap, subst}
+use mathlib.Core.Bool.{not, cond}
 use mathlib.Core.List.{List, [], ◌∷◌}
 use Prim.Native.Nat.{ℕ, ◌+◌, ◌*◌, ◌≤◌}
-use native.Mathlib.Nat.{mul-le-mul}
 use native.Mathlib.Omega.{arith}
 use lib.Dec.{eqb}
 use lib.ListN.{length, length-append}
-use Rattle.std.specs.Prelude.{Option, unwrap_or}
-use Rattle.std.specs.Bool.{then_some}
 use Rattle.lists.specs.Parts.{Added, spliced}
 use Rattle.lists.proofs.Pieces.{added_both}
-use Rattle.lists.proofs.Splices.{splice_start}
 use Rattle.sphere.specs.Sphere.{sphere_quad}
-
--- ---- numbers
-
-pub row_low : (j n b : ℕ) → j ≤ 1024 → n + b ≤ 1026 → j * (n + b) ≤ 1050624
-row_low j n b h g = mul-le-mul h g
-
--- ---- a triangle, if there is one
-
-pub tri_added : (t l : List ℕ) (at : ℕ) {l' : List ℕ} → length t ≡ 3 → l' ≡ spliced l at t → Added spliced t at l (at + 3) l'
-tri_added t l at e p = record { next = ap (λ (k : ℕ). at + k) (sym e); made = p }
-
-pub none_added : (l : List ℕ) (at : ℕ) → Added spliced [] at l at l
-none_added l at = record { next = omega arith; made = splice_start l at }
-
-pub tri_given : (w : Bool) (t : List ℕ) {o : Option (List ℕ)} → o ≡ then_some w t → unwrap_or o [] ≡ cond w t []
-tri_given w t e = ap (λ (o : Option (List ℕ)). unwrap_or o []) e ∙ go w
-  where
-    go : (w : Bool) → unwrap_or (then_some w t) [] ≡ cond w t []
-    go true = refl
-    go false = refl
-
--- ---- the two triangles of a quad
 
 module _ (n k j i : ℕ) (l : List ℕ) (at : ℕ) where
   abbrev first : List ℕ

@@ -1,20 +1,14 @@
 -- The hash of a corner's key, from its words, and its bucket.
-use mathlib.Core.Path.{◌≡◌, sym}
+use mathlib.Core.Path.{◌≡◌}
 use mathlib.Core.List.{List}
-use Prim.Native.Nat.{ℕ, ◌+◌, ◌*◌, ◌/◌, ◌^◌, ◌≤◌, ◌<◌}
+use Prim.Native.Nat.{ℕ, ◌+◌, ◌*◌, ◌/◌, ◌^◌, ◌<◌}
 use native.Mathlib.Nat.{mul-lt-mul_of_pos_right, div-lt_iff_lt-mul}
 use native.Mathlib.Omega.{arith}
-use lib.ListN.{get_or, take, drop, length-take, get_or-eq_default}
 use Rattle.lists.specs.Parts.{seg}
 use Rattle.vertices.specs.declared.places.Widths.{Widths}
 use Rattle.vertices.specs.Places.{colour_start, texture_start}
 use Rattle.vertices.specs.Hash.{normal_sum, colour_sum, texture_sum, spread_of, hash_of, bucket_of}
 use Rattle.vertices.specs.Search.{two, three, four, corner_key}
-
--- a word that is not made
-pub unmade_word : (l : List ℕ) (at n k : ℕ) → n ≤ k → 0 ≡ get_or (seg l at n) k 0
-unfolding seg
-unmade_word l at n k h = sym (get_or-eq_default (take n (drop at l)) 0 {n = k} (omega (arith, length-take n (drop at l))))
 
 module _ (w : Widths) (v : ℕ) (l : List ℕ) (n : ℕ) where
   pub corner_bucket : {a b c h : ℕ} → a ≡ normal_sum (three (seg l 0 w.normal)) → b ≡ colour_sum (four (seg l colour_start w.colour))

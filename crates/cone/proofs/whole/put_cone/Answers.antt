@@ -1,5 +1,6 @@
 use Rattle.parts.specs.Cap.{cap_at, cap_part}
-use Rattle.parts.proofs.Parting.{if_there, written_there}
+use Rattle.lists.proofs.Options.{if_there}
+use Rattle.parts.proofs.Parting.{written_there}
 use Rattle.parts.specs.declared.round.Round.{Round}
 use Rattle.cone.specs.Cone.{cone_side, cone_side_at}
 use Rattle.cone.proofs.Sides.{side_room, lower_low, lower_room, all_written}

@@ -1,6 +1,7 @@
 use Rattle.std.proofs.Common.{rules}
 use Rattle.std.proofs.lemmas.Result.{err_from_is_err_and}
-use Rattle.parts.proofs.Parting.{if_there, roomy_as, written_as, call_refused, call_roomy, call_made}
+use Rattle.lists.proofs.Options.{if_there}
+use Rattle.parts.proofs.Parting.{roomy_as, written_as, call_refused, call_roomy, call_made}
 use Rattle.cylinder.proofs.Sides.{side_small, call_is, call_marks, call_sized}
 use Rattle.cylinder.proofs.whole.cylinder.Goals as goal
 

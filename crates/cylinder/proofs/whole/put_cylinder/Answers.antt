@@ -1,5 +1,6 @@
 use Rattle.parts.specs.Cap.{cap_at, cap_part}
-use Rattle.parts.proofs.Parting.{if_there, written_there}
+use Rattle.lists.proofs.Options.{if_there}
+use Rattle.parts.proofs.Parting.{written_there}
 use Rattle.parts.specs.declared.round.Round.{Round}
 use Rattle.parts.specs.Round.{half}
 use Rattle.cylinder.specs.Cylinder.{side_part, side_at}

@@ -1,6 +1,5 @@
-use mathlib.Core.Path.{sym, ap}
-use Prim.Native.Nat.{ℕ, ◌+◌}
 use native.Mathlib.Omega.{arith}
+use Rattle.lists.proofs.Pieces.{added_by}
 use Rattle.lines.proofs.Pairs.{line_two, line_put, line_left}
 use Rattle.lines.proofs.pairing.put_line.Goals as goal
 
@@ -9,7 +8,7 @@ put_all-requires c = omega (arith, line_two _ c.args.next.0 c.in-Some.is, c.requ
 
 pub returns-in-Some : goal.returns-in-Some
 returns-in-Some c =
-    record { next = ap (λ (n : ℕ). c.args.at + n) (sym (line_two _ c.args.next.0 c.in-Some.is)); made = line_put _ _ c.in-Some.is _ _ (rw (c.narrow.ensures, c.narrow-in-Some.ensures) at c.put_all.ensures) }
+    added_by _ _ _ (line_two _ c.args.next.0 c.in-Some.is) (line_put _ _ c.in-Some.is _ _ (rw (c.narrow.ensures, c.narrow-in-Some.ensures) at c.put_all.ensures))
 
 pub returns-in-None : goal.returns-in-None
 returns-in-None c = line_left _ c.in-None.is _ _

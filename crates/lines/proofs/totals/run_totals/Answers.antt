@@ -3,7 +3,8 @@ use mathlib.Core.Bool.{◌&&◌}
 use native.Mathlib.Omega.{arith}
 use lib.Dec.{ltb}
 use Rattle.bits.proofs.Chunks.{entries_first, entries_none}
-use Rattle.lines.proofs.Counting.{counted, counted_both, counting_next, counting_end}
+use Rattle.lists.proofs.Numbers.{counted, counted_both}
+use Rattle.lines.proofs.Counting.{counting_next, counting_end}
 use Rattle.lines.proofs.totals.run_totals.Goals as goal
 use Rattle.lines.proofs.totals.run_totals.Goals.{then-after, else-after}
 

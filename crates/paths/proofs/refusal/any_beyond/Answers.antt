@@ -1,7 +1,7 @@
 use Rattle.std.proofs.Common.{rules, tests, leb, ◌∙◌}
 use Rattle.std.proofs.lemmas.Iterator.{YieldsList-from_slice}
 use Rattle.std.proofs.lemmas.Iterator.Search.{any_from_yields_List}
-use Rattle.paths.proofs.Refusing.{any_is}
+use Rattle.lists.proofs.Searches.{any_is}
 use Rattle.paths.proofs.refusal.any_beyond.Goals as goal
 
 pub returns : goal.returns

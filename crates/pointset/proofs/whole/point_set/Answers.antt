@@ -1,5 +1,5 @@
 use Rattle.std.proofs.lemmas.Result.{err_from_is_err_and}
-use Rattle.parts.proofs.Parting.{if_there}
+use Rattle.lists.proofs.Options.{if_there}
 use Rattle.pointset.proofs.Calls.{refused_call, colours_put, roomy, made_call}
 use Rattle.pointset.proofs.whole.point_set.Goals as goal
 

@@ -5,7 +5,8 @@ use borrow.Author.Rules.{rules}
 use lib.Ieee.{Float, lt}
 use lib.ListN.{length}
 use Rattle.polygon.specs.Ears.{+0, is_reversed, order}
-use Rattle.polygon.proofs.Turns.{held_start, full_of}
+use Rattle.lists.proofs.Loops.{full_of}
+use Rattle.polygon.proofs.Turns.{held_start}
 use Rattle.polygon.proofs.Whole.{whole}
 use Rattle.polygon.proofs.ears.ear_clip.Goals as goal
 

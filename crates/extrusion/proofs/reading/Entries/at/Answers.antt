@@ -1,4 +1,5 @@
-use Rattle.extrusion.proofs.Values.{count_is, entry_is, entry_room}
+use Rattle.lists.proofs.Numbers.{entry_room}
+use Rattle.lists.proofs.Tabs.{count_is, entry_is}
 use Rattle.extrusion.proofs.reading.Entries.at.Goals as goal
 
 pub read-requires : goal.read-requires

@@ -1,4 +1,4 @@
-use Rattle.extrusion.proofs.Values.{count_is}
+use Rattle.lists.proofs.Tabs.{count_is}
 use Rattle.extrusion.proofs.reading.Entries.len.Goals as goal
 
 pub returns : goal.returns

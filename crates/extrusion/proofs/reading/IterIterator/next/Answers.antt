@@ -1,4 +1,4 @@
-use Rattle.extrusion.proofs.Values.{first_left, none_left, goes_left}
+use Rattle.lists.proofs.Tabs.{first_left, none_left, goes_left}
 use Rattle.extrusion.proofs.reading.IterIterator.next.Goals as goal
 
 pub returns-then-i-self-clause-steps : goal.returns-then-i-self-clause-steps

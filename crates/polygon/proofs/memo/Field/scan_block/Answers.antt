@@ -4,8 +4,8 @@ use Rattle.polygon.specs.Memo.{xy, dot_of, in_way, hits}
 use Rattle.polygon.proofs.Blocks.{found_none}
 use Rattle.polygon.proofs.memo.Field.scan_block.Goals as goal
 
-pub returns-then-count_near-eq0 : goal.returns-then-count_near-eq0
-returns-then-count_near-eq0 c =
+pub returns-then-not-is_block_near : goal.returns-then-not-is_block_near
+returns-then-not-is_block_near c =
     let z = none_to (hits c.args.self.now.left.now (λ i. in_way (dot_of (xy c.args.self.now.p.now) i) c.args.self.now.t.a c.args.self.now.t.b c.args.self.now.t.c)) c.args.from c.args.to (omega arith)
-    (λ j l b. c.count_near.ensures c.if-count_near-eq0.true j (omega arith) b) in
+    (λ j l b. c.is_block_near.ensures c.if-not-is_block_near.true j (omega arith) (omega arith)) in
     found_none _ _ (omega (arith, z))

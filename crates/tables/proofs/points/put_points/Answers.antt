@@ -7,7 +7,7 @@ use Rattle.bits.proofs.Entries.{entries_length}
 use Rattle.lists.specs.Parts.{spliced}
 use Rattle.lists.proofs.Tabs.{tab_take}
 use Rattle.tables.proofs.Putting.{put_are}
-use Rattle.faceset.proofs.points.put_points.Goals as goal
+use Rattle.tables.proofs.points.put_points.Goals as goal
 
 pub returns : goal.returns
 returns c =

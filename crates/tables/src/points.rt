@@ -3,7 +3,7 @@ ghost use Rattle.std.specs.Prelude.{◌≡◌, ◌+◌, ◌/◌, ◌≤◌, leng
 ghost use Rattle.bits.specs.Bits.{entries};
 ghost use Rattle.lists.specs.Parts.{spliced};
 
-use tables::put_each;
+use crate::each::put_each;
 
 // The first n words of the list, to the words from `at` on. `n` stands beside the list: a line set's clause says that the list has as many words, and not
 // that it has no more.

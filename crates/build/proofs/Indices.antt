@@ -1,16 +1,14 @@
--- FORMAT 4: how many indices the kept faces make, and that the corners' tables fit the words that are lent.
+-- FORMAT 5: how many indices the kept faces make.
 use mathlib.Core.Path.{◌≡◌, ap, ◌∙◌}
 use mathlib.Core.Bool.{Bool}
 use mathlib.Core.List.{List}
-use Prim.Native.Nat.{ℕ, zero, suc, ◌+◌, ◌-◌, ◌*◌, ◌^◌, ◌≤◌, ◌<◌}
+use Prim.Native.Nat.{ℕ, zero, suc, ◌+◌, ◌-◌, ◌*◌, ◌≤◌, ◌<◌}
 use native.Mathlib.Omega.{arith}
 use lib.ListN.{length, length-append}
 use Rattle.lists.specs.Loops.{tab}
 use Rattle.lists.specs.Lists.{flat}
 use Rattle.tables.specs.declared.layout.Plan.{Plan}
-use Rattle.tables.specs.Layout.{most, plan_of}
 use Rattle.tables.specs.Soups.{start_in, Sound}
-use Rattle.corners.specs.Laid.{tables_at, Laid, tables_of}
 use Rattle.faces.specs.Indices.{one_face, all_faces}
 use Rattle.faces.proofs.Pieces.{length_one}
 
@@ -32,26 +30,3 @@ module _ {w : List ℕ} {t : Plan} (S : Sound w t) (ccw convex : Bool) (long : (
   pub all_sized : length (all_faces w t ccw convex) ≡ 3 * (t.count - 2 * t.faces)
   unfolding all_faces
   all_sized = let r = sum_from t.faces 0 (omega arith) in omega (arith, r, S.first)
-
--- a kept face has three corners or more
-module _ (spots count faces ring : ℕ) (p : spots ≤ most) (c : count ≤ most) (f : faces * 3 ≤ count) where
-  pub plan_laid : (len : ℕ) → 8 * (count + spots) + 8 ≤ len → Laid (tables_of (plan_of spots count faces ring)) len
-  unfolding plan_of tables_of tables_at
-  plan_laid len l =
-      record {
-        few = c;
-        some = p;
-        points = omega arith;
-        corners = omega arith;
-        named = omega arith;
-        places = omega arith;
-        numbers = omega arith;
-        textures = omega arith;
-        buckets = (omega arith, omega arith);
-        heads = omega arith;
-        nexts = omega arith;
-      }
-
-  pub plan_low : (plan_of spots count faces ring).owners ≤ 2 ^ 32
-  unfolding plan_of
-  plan_low = omega arith
