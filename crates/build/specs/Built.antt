@@ -33,8 +33,8 @@ pub record Soup (L : Lent) (s : Shared) (t : Plan) (w : List ℕ) : Type 0 where
 abbrev pub Wide : ℕ → ℕ → Type 0
 Wide n v = (v ≡ 0) ⊎ (v ≡ n)
 
--- FORMAT 4: the tables stand in the words w, low enough for `CornerTables::of_plan`, with five words a corner from the places on; each kept face has three corners
--- or more; the slices have room for a vertex for each corner and three indices for each triangle, the floats for three a corner
+-- FORMAT 4: the tables stand in the words w, low enough for `CornerTables::of_plan`, with five words a corner from the places on; each kept face has three
+-- corners or more; the slices have room for a vertex for each corner and three indices for each triangle, the floats for three a corner
 pub record Ready (L : Lent) (s : Shared) (t : Plan) (w : List ℕ) (o : Slices) : Type 0 where
   pub soup : Soup L s t w
   pub laid : Laid (tables_of t) (length w)

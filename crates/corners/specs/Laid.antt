@@ -5,8 +5,8 @@ use Rattle.tables.specs.declared.layout.Plan.{Plan}
 use Rattle.vertices.specs.declared.places.Chains.{Chains}
 use Rattle.corners.specs.declared.laid.CornerTables.{CornerTables}
 
--- points, corners, vertex numbers and places where a plan has them; the face numbers where the owners stood, and texture, heads and nexts one after another behind
--- them; a bucket for each three corners and two for each point
+-- points, corners, vertex numbers and places where a plan has them; the face numbers where the owners stood, and texture, heads and nexts one after another
+-- behind them; a bucket for each three corners and two for each point
 unfoldable pub tables_of : Plan → CornerTables
 tables_of t =
     let textures = t.owners + t.count in

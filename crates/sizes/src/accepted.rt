@@ -3,8 +3,8 @@ ghost use Rattle.lent.specs.Lent.{Accepted};
 
 use block::{Header, Settings};
 
-// Sizes and colour stand beside it: a grid and an extrusion take no sizes, and an extrusion no colour; a struct over this one would serve three functions and be
-// taken apart for the others. Grid's `GridBlock` has the same three fields and asks for the sides alone.
+// Sizes and colour stand beside it: a grid and an extrusion take no sizes, and an extrusion no colour; a struct over this one would serve three functions and
+// be taken apart for the others. Grid's `GridBlock` has the same three fields and asks for the sides alone.
 #[derive(Clone, Copy)]
 pub struct AcceptedBlock<'a> {
     pub block: &'a [u8],
