@@ -1,5 +1,6 @@
 -- What is written to the tables of a face set.
-use mathlib.Core.Path.{◌≡◌, sym, ◌∙◌, subst}
+use mathlib.Core.Path.{◌≡◌, refl, ◌∙◌}
+use mathlib.Core.Bool.{Bool, true, false}
 use mathlib.Core.List.{List}
 use Prim.Native.Nat.{ℕ, ◌+◌, ◌*◌, ◌/◌, ◌≤◌}
 use native.Mathlib.Omega.{arith}
@@ -22,7 +23,8 @@ use Rattle.tables.specs.Listed.{Listing, Listed}
 use Rattle.lent.specs.Lent.{Accepted}
 use Rattle.lent.proofs.Points.{points_in_lem, points_all}
 use Rattle.texture.specs.Corner.{texture_in}
-use Rattle.texture.specs.Textured.{set_texture, Fitted}
+use Rattle.texture.specs.Textured.{set_texture}
+use Rattle.texture.proofs.Filled.{listed_any}
 use Rattle.shaping.specs.Tabled.{use_in}
 use Rattle.facesetshape.specs.Shape.{Lists, face_set_texture, Placed}
 
@@ -70,15 +72,17 @@ textures_asked {bs} {h} {t} {w} {ls} s p L r =
       };
     }
 
--- the fit, as the code has it, is that of the points
-module _ {bs : List ℕ} {h : Header} {t : Plan} {w : List ℕ} {fit : Fit} (P : Placed bs h t w) (e : fit ≡ fit_of (points_in w t) t.spots) where
-  fit_by_lem : fit ≡ fit_of (entries (list_bytes bs h 0)) (point_count h)
-  fit_by_lem = e ∙ (λ i. fit_of (P.points i) (P.spots i))
-
-  pub fitted_by : Fitted w fit t (t.owners + t.count)
-  fitted_by = subst (λ (f : Fit). Fitted w f t (t.owners + t.count)) (sym fit_by_lem) P.fitted
-
+-- the fit, as the code has it where no texture points are listed, is that of the points
+module _ {bs : List ℕ} {h : Header} {t : Plan} {w : List ℕ} {fit : Fit} (P : Placed bs h t w) (e : h.texture_points ≡ false → fit ≡ fit_of (points_in w t) t.spots) where
   pub texture_put : {coord : List ℕ} (s : Settings) → coord ≡ list_bytes bs h 1 → (c : ℕ)
       → set_texture bs coord h s fit w t c ≡ face_set_texture bs h s (owner_in w t c) (use_in w t c)
   unfolding set_texture face_set_texture
-  texture_put s b c = λ i. texture_in bs (b i) h s (place_in w t c) (default_at (P.points i) (fit_by_lem i) (point_in w t c))
+  texture_put {coord} s b c = go h.texture_points refl
+    where
+      points : List ℕ
+      points = entries (list_bytes bs h 0)
+
+      go : (listed : Bool) → h.texture_points ≡ listed → texture_in bs coord h s (place_in w t c) (default_at (points_in w t) fit (point_in w t c))
+          ≡ texture_in bs (list_bytes bs h 1) h s (place_in w t c) (default_at points (fit_of points (point_count h)) (point_in w t c))
+      go true y = rw b (listed_any _ _ _ _ _ _ _ y)
+      go false y = λ i. texture_in bs (b i) h s (place_in w t c) (default_at (P.points i) ((e y ∙ (λ k. fit_of (P.points k) (P.spots k))) i) (point_in w t c))

@@ -40,4 +40,4 @@ face_set_texture bs h s number u =
 pub record Placed (bs : List ℕ) (h : Header) (t : Plan) (w : List ℕ) : Type 0 where
   pub spots : t.spots ≡ point_count h
   pub points : points_in w t ≡ entries (list_bytes bs h 0)
-  pub fitted : Fitted w (fit_of (entries (list_bytes bs h 0)) (point_count h)) t (t.owners + t.count)
+  pub fitted : Fitted w t (t.owners + t.count)

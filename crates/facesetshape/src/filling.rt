@@ -1,5 +1,5 @@
 // FORMAT 8.1: the tables of a face set, as `build` reads them.
-ghost use Rattle.std.specs.Prelude.{◌≡◌, ◌+◌, ◌*◌, ◌≤◌, length};
+ghost use Rattle.std.specs.Prelude.{◌≡◌, false, ◌+◌, ◌*◌, ◌≤◌, length};
 ghost use Rattle.bits.specs.Bits.{entries};
 ghost use Rattle.block.specs.Extents.{list_bytes};
 ghost use Rattle.mesh.specs.FaceSet.{point_count};
@@ -10,7 +10,7 @@ ghost use Rattle.shaping.specs.Tabled.{Tabled, TexturesAt};
 ghost use Rattle.facesetshape.specs.Shape.{face_set_listings, face_set_texture, Placed};
 
 use crate::listed::SetBlock;
-use block::list_part;
+use block::{Header, list_part};
 use build::Shared;
 use faceset::list_faces;
 use mesh::Fit;
@@ -36,11 +36,14 @@ pub fn put_tables(b: &SetBlock<'_>, shared: Shared, t: Plan, work: &mut [u32], f
     prepare(work, t, supplied, shared.ccw, s.crease, floats);
 }
 
-// FORMAT 7.4: how the points in the tables fit.
-fn fit_in(work: &[u32], t: Plan) -> Fit
+// FORMAT 7.4: how the points in the tables fit. Where texture points are listed nothing reads it, and the points are not looked at.
+fn fit_in(work: &[u32], t: Plan, h: Header) -> Fit
     requires { t.points + 3 * t.spots ≤ length work.now }
-    ensures { result ≡ fit_of (points_in work.now t) t.spots }
+    ensures { h.texture_points ≡ false → result ≡ fit_of (points_in work.now t) t.spots }
 {
+    if h.texture_points {
+        return fit_of(&work[0..0]);
+    }
     fit_of(points_of(work, &t))
 }
 
@@ -56,6 +59,6 @@ pub fn texture_where(b: &SetBlock<'_>, shared: Shared, t: Plan, work: &mut [u32]
         return;
     }
     let source = b.source;
-    let fit = fit_in(work, t);
+    let fit = fit_in(work, t, source.header);
     source.put_textures(fit, work, t, t.owners + t.count);
 }

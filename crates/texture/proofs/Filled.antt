@@ -46,7 +46,7 @@ textures_put l a n f {m} h e =
     (put_kept l a (texture_words f n) e (length_pieces F 2 (λ t. refl) n) (omega arith), λ c b. pair_put m (a + 2 * c) (f c) (at c b))
 
 -- ---- the loop over a face set's corners reads tables that stand below what it writes
-module _ {w₀ w : List ℕ} {fit : Fit} {t : Plan} {textures : ℕ} (F : Fitted w₀ fit t textures) (K : Kept textures w₀ w) {c : ℕ} (h : c < t.count) where
+module _ {w₀ w : List ℕ} {t : Plan} {textures : ℕ} (F : Fitted w₀ t textures) (K : Kept textures w₀ w) {c : ℕ} (h : c < t.count) where
   point_read : point_in w t c ≡ point_in w₀ t c
   unfolding point_in
   point_read = kept_at K (t.corners + c) (omega (arith, F.corners_below))
@@ -55,10 +55,10 @@ module _ {w₀ w : List ℕ} {fit : Fit} {t : Plan} {textures : ℕ} (F : Fitted
   unfolding point_in
   point_within e = omega (arith, e, point_read, F.within c h)
 
-  pub texture_read : (bs coord : List ℕ) (head : Header) (s : Settings) {v : Words2} {p k : ℕ} → p ≡ get_or w (t.corners + c) 0 → k ≡ get_or w (t.places + c) 0
+  pub texture_read : (fit : Fit) (bs coord : List ℕ) (head : Header) (s : Settings) {v : Words2} {p k : ℕ} → p ≡ get_or w (t.corners + c) 0 → k ≡ get_or w (t.places + c) 0
       → v ≡ texture_in bs coord head s k (default_at (points_in w t) fit p) → v ≡ set_texture bs coord head s fit w₀ t c
   unfolding set_texture point_in place_in points_in
-  texture_read bs coord head s ep ek e =
+  texture_read fit bs coord head s ep ek e =
       let x = ep ∙ point_read in
       let y = ek ∙ kept_at K (t.places + c) (omega (arith, F.places_below)) in
       let z = kept_seg K t.points (3 * t.spots) F.points_below (omega (arith, F.points_below, F.room)) in

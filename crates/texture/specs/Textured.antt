@@ -26,7 +26,7 @@ unfoldable pub set_texture : List ℕ → List ℕ → Header → Settings → F
 set_texture bs coord h s fit w t c = texture_in bs coord h s (place_in w t c) (default_at (points_in w t) fit (point_in w t c))
 
 -- what is asked of the tables: they stand below the textures, which have room, and the corners name points
-pub record Fitted (w : List ℕ) (fit : Fit) (t : Plan) (textures : ℕ) : Type 0 where
+pub record Fitted (w : List ℕ) (t : Plan) (textures : ℕ) : Type 0 where
   pub few : t.count ≤ most
   pub points_below : t.points + 3 * t.spots ≤ textures
   pub corners_below : t.corners + t.count ≤ textures

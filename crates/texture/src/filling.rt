@@ -38,7 +38,7 @@ impl<'a> Source<'a> {
 
     // The textures of all corners of a face set, from place `textures` on: the plan says where their points and places, and the words of all points, stand.
     pub fn put_textures(&self, fit: Fit, work: &mut [u32], t: Plan, textures: usize)
-        requires { Fitted work.old fit t textures }
+        requires { Fitted work.old t textures }
         ensures { work.new ≡ spliced work.old textures
             (texture_words (set_texture self.now.block.now self.now.coord.now self.now.header self.now.settings fit work.old t) t.count) }
     {

@@ -8,4 +8,4 @@ use Rattle.facesetshape.proofs.filling.fit_in.Goals as goal
 pub returns : goal.returns
 returns c =
     let e : length c.points_of.result.now / 3 ≡ c.args.t.spots = omega (arith, c.points_of.ensures.size) in
-    c.fit_of.ensures ∙ ap₂ fit_of c.points_of.ensures.are e
+    λ y. c.fit_of-2.ensures ∙ ap₂ fit_of c.points_of.ensures.are e

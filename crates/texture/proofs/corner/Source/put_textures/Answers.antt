@@ -18,5 +18,5 @@ pub loop-c-preserved : goal.loop-c-preserved
 loop-c-preserved c =
     let F = c.requires in
     let T = c.loop-c.invariant in
-    let r = texture_read F (pieces_kept T (omega (arith, F.room))) c.loop-c-test.true _ _ _ _ c.wide.ensures c.wide-place.ensures c.texture_at-w.ensures in
+    let r = texture_read F (pieces_kept T (omega (arith, F.room))) c.loop-c-test.true _ _ _ _ _ c.wide.ensures c.wide-place.ensures c.texture_at-w.ensures in
     pieces_more 2 (λ t. refl) (omega (arith, F.room)) T c.loop-c-test.true (omega arith) (ap words2 r) c.put2.ensures
