@@ -4,14 +4,14 @@ use mathlib.Core.Bool.{Bool, true, false}
 use mathlib.Core.List.{List}
 use Prim.Native.Nat.{ℕ, ◌+◌, ◌*◌, ◌/◌, ◌≤◌}
 use native.Mathlib.Omega.{arith}
-use lib.ListN.{length, take, drop, length-drop}
+use lib.ListN.{length, take}
 use lib.Seq.{length-take-le}
 use Rattle.bits.specs.Bits.{entries}
 use Rattle.bits.proofs.Entries.{entries_length}
 use Rattle.block.specs.declared.header.Header.{Header}
 use Rattle.block.specs.declared.settings.Settings.{Settings}
 use Rattle.block.specs.Extents.{set_widths, widths, list_bytes}
-use Rattle.lists.specs.Parts.{seg, spliced}
+use Rattle.lists.specs.Parts.{spliced}
 use Rattle.lists.proofs.Splices.{put_gives}
 use Rattle.mesh.specs.declared.texture.Fit.{Fit}
 use Rattle.mesh.specs.Texture.{fit_of, default_at}
@@ -46,13 +46,6 @@ module _ (bs : List ℕ) (h : Header) {t : Plan} {list : List ℕ} (a : list ≡
   points_copied w R e n p C =
       let G = put_gives _ C (length-take-le (3 * t.spots) (entries list) (omega (arith, entries_length list, (points_asked R e n).0))) (omega (arith, R)) in
       (G.0.len, G.1 ∙ (λ i. take (3 * e i) (entries (a i))) ∙ p)
-
--- as many points as there are spots
-pub spots_in : (w : List ℕ) (t : Plan) → t.points + 3 * t.spots ≤ length w → length (points_in w t) / 3 ≡ t.spots
-unfolding points_in seg
-spots_in w t h =
-    let n : length (take (3 * t.spots) (drop t.points w)) ≡ 3 * t.spots = length-take-le (3 * t.spots) (drop t.points w) (omega (arith, length-drop t.points w)) in
-    omega arith
 
 -- FORMAT 7.4: tables that list faces over these points, with room above the owners, are what the textures ask
 pub textures_asked : {bs : List ℕ} {h : Header} {t : Plan} {w : List ℕ} {ls : List Listing} → t.spots ≡ point_count h → points_in w t ≡ entries (list_bytes bs h 0) → Listed w t ls
