@@ -1,4 +1,4 @@
--- Words kept below a place. Tables are written one after another, so each table that was written before is kept.
+-- What is kept below a place. Tables are written one after another, so each table that was written before is kept.
 use mathlib.Core.Path.{◌≡◌, refl, sym, ap, ◌∙◌}
 use mathlib.Core.Logic.{⊎_elim, inl, inr}
 use mathlib.Core.List.{List, ◌++◌}
@@ -11,18 +11,19 @@ use lib.Seq.{take-set-le, take-take, get_or-take, get_or-drop, get_or-set_same, 
 use borrow.Rule.Slice.PartMut.{put_mid, mid_of, post_of, same_len_mid}
 use Rattle.lists.specs.Parts.{seg, Kept, Out, TableOf}
 
-pub kept_all : {a : ℕ} {w : List ℕ} → Kept a w w
-kept_all = record { len = refl; front = refl }
+module _ {A : Type 0} where
+  pub kept_all : {a : ℕ} {w : List A} → Kept a w w
+  kept_all = record { len = refl; front = refl }
 
-pub kept_set : {a : ℕ} {w w' : List ℕ} (i v : ℕ) → Kept a w w' → a ≤ i → Kept a w (set w' i v)
-kept_set {a} {w} {w'} i v k h = record { len = length-set w' i v ∙ k.len; front = take-set-le a w' i v h ∙ k.front }
+  pub kept_set : {a : ℕ} {w w' : List A} (i : ℕ) (v : A) → Kept a w w' → a ≤ i → Kept a w (set w' i v)
+  kept_set {a} {w} {w'} i v k h = record { len = length-set w' i v ∙ k.len; front = take-set-le a w' i v h ∙ k.front }
 
-pub kept_less : {a b : ℕ} {w w' : List ℕ} → Kept b w w' → a ≤ b → Kept a w w'
-kept_less {a} {b} {w} {w'} k h =
-    record { len = k.len; front = sym (take-take a b w' h) ∙ ap (take a) k.front ∙ take-take a b w h }
+  pub kept_less : {a b : ℕ} {w w' : List A} → Kept b w w' → a ≤ b → Kept a w w'
+  kept_less {a} {b} {w} {w'} k h =
+      record { len = k.len; front = sym (take-take a b w' h) ∙ ap (take a) k.front ∙ take-take a b w h }
 
-pub kept_then : {a b : ℕ} {u v w : List ℕ} → Kept a u v → Kept b v w → a ≤ b → Kept a u w
-kept_then k l h = record { len = l.len ∙ k.len; front = (kept_less l h).front ∙ k.front }
+  pub kept_then : {a b : ℕ} {u v w : List A} → Kept a u v → Kept b v w → a ≤ b → Kept a u w
+  kept_then k l h = record { len = l.len ∙ k.len; front = (kept_less l h).front ∙ k.front }
 
 pub kept_at : {a : ℕ} {w w' : List ℕ} → Kept a w w' → (i : ℕ) → i < a → get_or w' i 0 ≡ get_or w i 0
 kept_at {a} {w} {w'} k i h = sym (get_or-take a w' i 0 h) ∙ ap (λ (l : List ℕ). get_or l i 0) k.front ∙ get_or-take a w i 0 h
@@ -39,7 +40,7 @@ kept_by a w w' l h =
           get_or-take a w' i 0 m ∙ h i m ∙ sym (get_or-take a w i 0 m));
     }
 
-pub length_seg : (w : List ℕ) (a n : ℕ) → a + n ≤ length w → length (seg w a n) ≡ n
+pub length_seg : {A : Type 0} (w : List A) (a n : ℕ) → a + n ≤ length w → length (seg w a n) ≡ n
 unfolding seg
 length_seg w a n h = length-take-le n (drop a w) (omega (arith, length-drop a w))
 
@@ -59,15 +60,15 @@ kept_seg {b} {w} {w'} k a n h l =
 
 -- ---- a part that is lent
 
-pub part_seg : (w : List ℕ) (lo hi n : ℕ) → hi ≡ lo + n → take (hi - lo) (drop lo w) ≡ seg w lo n
+pub part_seg : {A : Type 0} (w : List A) (lo hi n : ℕ) → hi ≡ lo + n → take (hi - lo) (drop lo w) ≡ seg w lo n
 unfolding seg
 part_seg w lo hi n h = let e : hi - lo ≡ n = omega arith in ap (λ (k : ℕ). take k (drop lo w)) e
 
-pub part_length : (w : List ℕ) (lo hi n : ℕ) → hi ≡ lo + n → lo + n ≤ length w → length (take (hi - lo) (drop lo w)) ≡ n
+pub part_length : {A : Type 0} (w : List A) (lo hi n : ℕ) → hi ≡ lo + n → lo + n ≤ length w → length (take (hi - lo) (drop lo w)) ≡ n
 part_length w lo hi n h k = ap length (part_seg w lo hi n h) ∙ length_seg w lo n k
 
 -- what a call leaves in a part keeps what is below it
-pub kept_mid : (w last : List ℕ) (lo k : ℕ) → lo + k ≤ length w → length last ≡ length (mid_of lo k w) → Kept lo w (put_mid lo k w last)
+pub kept_mid : {A : Type 0} (w last : List A) (lo k : ℕ) → lo + k ≤ length w → length last ≡ length (mid_of lo k w) → Kept lo w (put_mid lo k w last)
 kept_mid w last lo k h e = record {
   len = same_len_mid lo k w last e;
   front = take_at (take lo w) (last ++ post_of lo k w) lo (length-take-le lo w (omega arith));

@@ -3,7 +3,7 @@ use mathlib.Core.Path.{◌≡◌, refl, sym, ap, ◌∙◌}
 use mathlib.Core.Bool.{Bool, true, false}
 use mathlib.Core.List.{List}
 use Prim.Native.Nat.{ℕ, zero, suc, ◌+◌, ◌-◌, ◌%◌, ◌≤◌, ◌<◌}
-use native.Mathlib.Nat.{mod-eq_of_lt, add-mod_right, mod_self, eq-or-lt_of_le}
+use native.Mathlib.Nat.{sub-zero, mod-eq_of_lt, add-mod_right, mod_self, eq-or-lt_of_le}
 use native.Mathlib.Numerals.{add-one}
 use native.Mathlib.Omega.{arith}
 use mathlib.Core.Logic.{⊎_elim}
@@ -46,6 +46,26 @@ module _ {A : Type 0} (f : ℕ → A → A) (n i : ℕ) (s : A) where
   pub run_end : n ≤ i → run f (n - i) i s ≡ s
   unfolding run
   run_end h = ap (λ (k : ℕ). run f k i s) (left_none n i h)
+
+-- a list that keeps its length: of n turns t are made
+pub record Running {A : Type 0} (f : ℕ → List A → List A) (n : ℕ) (l₀ : List A) (t : ℕ) (l : List A) : Type 0 where
+  pub so_far : t ≤ n
+  pub size : length l ≡ length l₀
+  pub rest : run f (n - t) t l ≡ run f n 0 l₀
+
+module _ {A : Type 0} {f : ℕ → List A → List A} {n : ℕ} {l₀ : List A} where
+  pub running_none : Running f n l₀ 0 l₀
+  running_none = record { so_far = omega arith; size = refl; rest = rw sub-zero refl }
+
+  pub running_more : {t : ℕ} {l r : List A} → Running f n l₀ t l → t < n → r ≡ f t l → length r ≡ length l → Running f n l₀ (t + 1) r
+  running_more {t} {l} {r} R b e s = record {
+    so_far = omega arith;
+    size = s ∙ R.size;
+    rest = ap (λ (x : List A). run f (n - (t + 1)) (t + 1) x) e ∙ sym (run_go f n t l b) ∙ R.rest;
+  }
+
+  pub running_all : {t : ℕ} {l : List A} → Running f n l₀ t l → n ≤ t → l ≡ run f n 0 l₀
+  running_all {t} {l} R b = sym (run_end f n t l b) ∙ R.rest
 
 -- turns that leave it as it is
 pub run_kept : {A : Type 0} (f : ℕ → A → A) (x : A) → ((t : ℕ) → f t x ≡ x) → (k t : ℕ) → run f k t x ≡ x

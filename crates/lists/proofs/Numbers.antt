@@ -133,6 +133,12 @@ rows_of n m w = sym (mul_assoc n m w) ∙ mul_comm (n * m) w
 pub before_lt : (b k n : ℕ) → 0 < b → n < b ^ suc k → n / b < b ^ k
 before_lt b k n p h = (div-lt_iff_lt-mul {k = b} {x = n} {y = b ^ k} p).1 (subst (λ (m : ℕ). n < m) (pow-suc b k) h)
 
+-- b times the share of h in m
+pub share_below : {h b : ℕ} (m : ℕ) → h < m → 0 < b → h * b / m < b
+share_below {h} {b} m l k =
+    let q : h * b < m * b = mul-lt-mul_of_pos_right l k in
+    (div-lt_iff_lt-mul {k = m} {x = h * b} {y = b} (omega arith)).1 (omega (arith, q, mul_comm m b))
+
 -- ---- n where it is made, and else 0
 
 pub wide_by : (made : Bool) (n : ℕ) → (◌≡◌ {A = ℕ} (cond made n 0) 0) ⊎ (◌≡◌ {A = ℕ} (cond made n 0) n)

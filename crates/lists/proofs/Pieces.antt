@@ -1,8 +1,9 @@
 -- Lists of one width written one after another, from a place of a list on.
 use mathlib.Core.Path.{◌≡◌, refl, sym, ap, ◌∙◌, subst}
 use mathlib.Core.List.{List, [], ◌∷◌, ◌++◌, map, map-append, append_assoc, append-nil}
+use mathlib.Core.Logic.{inr}
 use Prim.Native.Nat.{ℕ, zero, suc, ◌+◌, ◌-◌, ◌*◌, ◌≤◌, ◌<◌}
-use native.Mathlib.Nat.{zero-add, add-zero, suc-add, add-suc, zero-mul, mul-suc, mul_comm}
+use native.Mathlib.Nat.{zero-add, add-zero, suc-add, add-suc, zero-mul, mul-suc, mul_comm, mul-le-mul_right}
 use native.Mathlib.Numerals.{add-one}
 use native.Mathlib.Omega.{arith}
 use lib.ListN.{length, get_or, set, take, drop, length-append, length-set}
@@ -14,7 +15,7 @@ use Rattle.lists.specs.Lists.{join_n, flat}
 use Rattle.lists.proofs.Lists.{All_by, flat_at, middle}
 use Rattle.lists.proofs.Totals.{flat_total, total_tab}
 use Rattle.lists.specs.Parts.{spliced, Kept, Added}
-use Rattle.lists.proofs.Splices.{splice_start, splice_more, set_is, spliced_front, put_size, put_part}
+use Rattle.lists.proofs.Splices.{splice_start, splice_more, set_is, spliced_front, put_size, put_part, put_out}
 
 module _ {A : Type 0} where
   pub flat_append : (x y : List (List A)) → flat (x ++ y) ≡ flat x ++ flat y
@@ -164,9 +165,16 @@ module _ {A : Type 0} {F : ℕ → List A} {n : ℕ} {l : List A} {k : ℕ} wher
       let e : i ≡ n = (let s = P.so_far in omega arith) in
       P.is ∙ ap (λ (j : ℕ). spliced l k (flat (tab F j 0))) e
 
--- words: what stands below is kept
-pub pieces_kept : {F : ℕ → List ℕ} {n : ℕ} {l : List ℕ} {k i : ℕ} {made : List ℕ} → Pieces F n l k i made → k ≤ length l → Kept k l made
-pieces_kept {F} {n} {l} {k} {i} P h = record { len = P.size; front = ap (take k) P.is ∙ spliced_front l k (flat (tab F i 0)) h }
+  -- what stands below is kept
+  pub pieces_kept : {i : ℕ} {made : List A} → Pieces F n l k i made → k ≤ length l → Kept k l made
+  pieces_kept {i} P h = record { len = P.size; front = ap (take k) P.is ∙ spliced_front l k (flat (tab F i 0)) h }
+
+  -- and what stands where no piece is yet
+  pub pieces_past : (w : ℕ) → ((t : ℕ) → length (F t) ≡ w) → {i : ℕ} {made : List A} → k + n * w ≤ length l → Pieces F n l k i made → (d : A) (j : ℕ) → k + i * w ≤ j
+      → get_or made j d ≡ get_or l j d
+  pieces_past w h {i} {made} room P d j b =
+      let m : i * w ≤ n * w = mul-le-mul_right w P.so_far in
+      put_out l k (flat (tab F i 0)) P.is (length_pieces F w h i) (omega arith) d j (inr b)
 
 -- ---- pieces that differ in length, where there is room for all
 

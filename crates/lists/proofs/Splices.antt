@@ -129,8 +129,8 @@ module _ {A : Type 0} where
         ap (λ (k : ℕ). get_or m k d) (sym q) ∙ sym (get_or-drop (a + n) m (i - (a + n)) d) ∙ ap (λ (r : List A). get_or r (i - (a + n)) d) put_above
         ∙ get_or-drop (a + n) l (i - (a + n)) d ∙ ap (λ (k : ℕ). get_or l k d) q) o
 
--- words
-module _ (l : List ℕ) (a : ℕ) (p : List ℕ) {m : List ℕ} {n : ℕ} (e : m ≡ spliced l a p) (s : length p ≡ n) (h : a + n ≤ length l) where
+-- what is kept, and what was put
+module _ {A : Type 0} (l : List A) (a : ℕ) (p : List A) {m : List A} {n : ℕ} (e : m ≡ spliced l a p) (s : length p ≡ n) (h : a + n ≤ length l) where
   pub put_kept : Kept a l m
   put_kept = record { len = put_size l a p e s h; front = put_front l a p e s h }
 
@@ -138,8 +138,8 @@ module _ (l : List ℕ) (a : ℕ) (p : List ℕ) {m : List ℕ} {n : ℕ} (e : m
   unfolding seg
   put_seg = put_part l a p e s h
 
--- both, of n words p
-pub put_gives : {l m : List ℕ} {a n : ℕ} (p : List ℕ) → m ≡ spliced l a p → length p ≡ n → a + n ≤ length l → Kept a l m × (seg m a n ≡ p)
+-- both, of n elements p
+pub put_gives : {A : Type 0} {l m : List A} {a n : ℕ} (p : List A) → m ≡ spliced l a p → length p ≡ n → a + n ≤ length l → Kept a l m × (seg m a n ≡ p)
 put_gives {l} {a = a} p e s h = (put_kept l a p e s h, put_seg l a p e s h)
 
 -- a table that was put

@@ -13,7 +13,7 @@ use Rattle.lists.specs.Lists.{same_words}
 use Rattle.lists.proofs.Lists.{T_true, same_words_self, drop_three}
 use Rattle.lists.specs.Parts.{seg}
 
-pub seg_none : (l : List ℕ) (a : ℕ) → seg l a 0 ≡ []
+pub seg_none : {A : Type 0} (l : List A) (a : ℕ) → seg l a 0 ≡ []
 unfolding seg
 seg_none l a = refl
 

@@ -1,8 +1,8 @@
 -- A table is a part of the words. Tables are written one after another, so what stands below the one that is written is kept.
 use Rattle.std.specs.Prelude.{◌≡◌, ◌⊎◌, List, ◌++◌, ℕ, ◌+◌, ◌≤◌, ◌<◌, length, get_or, take, drop}
 
--- the n words from a
-unfoldable pub seg : List ℕ → ℕ → ℕ → List ℕ
+-- the n elements from a
+unfoldable pub seg : {A : Type 0} → List A → ℕ → ℕ → List A
 seg w a n = take n (drop a w)
 
 -- l with what stands from a on replaced by p
@@ -18,12 +18,12 @@ pub record Added {A B : Type 0} (put : List B → ℕ → List A → List B) (xs
 abbrev pub Out : ℕ → ℕ → ℕ → Type 0
 Out a n i = (i < a) ⊎ (a + n ≤ i)
 
--- w' has the words of w below a, and as many
-pub record Kept (a : ℕ) (w w' : List ℕ) : Type 0 where
+-- w' has what w has below a, and as many
+pub record Kept {A : Type 0} (a : ℕ) (w w' : List A) : Type 0 where
   pub len : length w' ≡ length w
   pub front : take a w' ≡ take a w
 
--- the n words from a are f 0, f 1, ..
+-- Words: what is read past the end is 0, as the code reads it. The n words from a are f 0, f 1, ..
 pub record TableOf (w : List ℕ) (a n : ℕ) (f : ℕ → ℕ) : Type 0 where
   pub at : (j : ℕ) → j < n → get_or w (a + j) 0 ≡ f j
 

@@ -26,7 +26,7 @@ use Rattle.lists.specs.Named.{named_by}
 use Rattle.lists.proofs.Lists.{All_of, length_words, length_map_n}
 use Rattle.lists.proofs.Totals.{map_n_tab}
 use Rattle.mending.specs.Mend.{lent_frame, lent_key, lent_keys, mended_words, found, Firsts, Served}
-use Rattle.mending.proofs.Threes.{Threes, threes_start, threes_go, threes_end}
+use Rattle.lists.proofs.Pieces.{Pieces, pieces_none, pieces_more, pieces_all, pieces_past}
 use Rattle.mending.proofs.Lent.{first_same, spot_in, spot_out}
 
 -- ---- one vertex
@@ -79,7 +79,7 @@ one ps is ns count v = mended (lent_frame ps) (lent_keys ns count) is v (lent_ke
 
 -- ns₀ at the start; ns with the normals of the first v vertices mended
 abbrev pub Mending : List ℕ → List ℕ → List ℕ → ℕ → List ℕ → ℕ → Type 0
-Mending ps is ns₀ count ns v = Threes (λ v. words3 (one ps is ns₀ count v)) 0 count ns₀ ns v
+Mending ps is ns₀ count ns v = Pieces (λ v. words3 (one ps is ns₀ count v)) count ns₀ 0 v ns
 
 module _ (ps is ns₀ : List ℕ) (count : ℕ) where
   mended_tab : flat (tab (λ v. words3 (one ps is ns₀ count v)) count 0) ≡ mended_words ps is ns₀ count
@@ -90,7 +90,7 @@ module _ (ps is ns₀ : List ℕ) (count : ℕ) where
       ∙ ap (map words3) (sym (map_n_tab (mended (lent_frame ps) (lent_keys ns₀ count) is) (lent_key ns₀) count 0)))
 
   pub mending_start : Mending ps is ns₀ count ns₀ 0
-  mending_start = threes_start (λ v. words3 (one ps is ns₀ count v)) (λ v. refl) 0 count ns₀
+  mending_start = pieces_none
 
   -- the normals play no part in where a vertex lies
   first_lent : (v : ℕ) → first_normal (lent_frame ps) (lent_keys [] count) v is ≡ first_normal (lent_frame ps) (lent_keys ns₀ count) v is
@@ -112,10 +112,9 @@ module _ (ps is ns₀ : List ℕ) (count : ℕ) where
   mending_go ns ns' v w r b h ew er el es M =
       let f : ℕ → Words3 = one ps is ns₀ count in
       let e : r ≡ f v =
-      er ∙ ap (λ (m : Words3). mend_by (unit_of (floats m)) m (first_normal (lent_frame ps) (lent_keys [] count) v is)) (ew ∙ words_same ns v (λ j g. M.past j (omega arith)))
+      er ∙ ap (λ (m : Words3). mend_by (unit_of (floats m)) m (first_normal (lent_frame ps) (lent_keys [] count) v is)) (ew ∙ words_same ns v (λ j g. pieces_past 3 (λ v. refl) (omega arith) M 0 j (omega arith)))
       ∙ ap (mend_by (unit_of (floats (point_words ns₀ v))) (point_words ns₀ v)) (first_lent v) in
-      let z : v * 3 ≡ 0 + v * 3 = omega arith in
-      threes_go (λ v. words3 (f v)) (λ v. refl) 0 count ns₀ ns ns' v (omega arith) h el (es ∙ (λ i. spliced ns (z i) (words3 (e i)))) M
+      pieces_more 3 (λ v. refl) (omega arith) M h (omega arith) (ap words3 e) es
 
   length_mended : length (mended_words ps is ns₀ count) ≡ 3 * count
   unfolding mended_words mesh_of lent_keys
@@ -127,5 +126,5 @@ module _ (ps is ns₀ : List ℕ) (count : ℕ) where
       → ns ≡ mended_words ps is ns₀ count ++ drop (3 * count) ns₀
   mending_end ns v h M =
       let made = mended_words ps is ns₀ count in
-      threes_end (λ v. words3 (one ps is ns₀ count v)) (λ v. refl) 0 count ns₀ ns v h M ∙ ap (spliced ns₀ 0) mended_tab ∙ splice_front ns₀ made
+      pieces_all M h ∙ ap (spliced ns₀ 0) mended_tab ∙ splice_front ns₀ made
       ∙ ap (λ (k : ℕ). made ++ drop k ns₀) length_mended

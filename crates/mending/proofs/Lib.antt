@@ -2,7 +2,6 @@
 pub mod MendedWords
 pub mod Rows
 -- The laws behind the functions.
-mod Threes
 mod Lent
 mod Table
 mod Fixing

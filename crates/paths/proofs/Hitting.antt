@@ -21,7 +21,8 @@ use Rattle.paths.specs.declared.intersect.Triangle.{Triangle}
 use Rattle.paths.specs.Intersect.{hits}
 use Rattle.paths.specs.Paths.{triangle_in}
 use Rattle.paths.specs.Pass.{ray_at, next_answer, step_at, updated, turn_of, one_where, hit_count, any_clear}
-use Rattle.paths.proofs.Updates.{updated_kept, Running}
+use Rattle.paths.proofs.Updates.{updated_kept}
+use Rattle.lists.proofs.Loops.{Running}
 
 -- ---- a count
 

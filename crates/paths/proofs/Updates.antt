@@ -52,28 +52,6 @@ module _ {g : ℕ → ℕ → ℕ} {m : ℕ} {l₀ : List ℕ} where
   pub changing_all : {j : ℕ} {l : List ℕ} → Changing g m l₀ j l → m ≤ j → l ≡ updated g m l₀
   changing_all {j} {l} C b = sym (run_end (put g) m j l b) ∙ C.rest
 
--- ---- a loop whose turns are passes
-
--- of n turns t are made
-pub record Running (f : ℕ → List ℕ → List ℕ) (n : ℕ) (l₀ : List ℕ) (t : ℕ) (l : List ℕ) : Type 0 where
-  pub so_far : t ≤ n
-  pub size : length l ≡ length l₀
-  pub rest : run f (n - t) t l ≡ run f n 0 l₀
-
-module _ {f : ℕ → List ℕ → List ℕ} {n : ℕ} {l₀ : List ℕ} where
-  pub running_none : Running f n l₀ 0 l₀
-  running_none = record { so_far = omega arith; size = refl; rest = rw sub-zero refl }
-
-  pub running_more : {t : ℕ} {l r : List ℕ} → Running f n l₀ t l → t < n → r ≡ f t l → length r ≡ length l → Running f n l₀ (t + 1) r
-  running_more {t} {l} {r} R b e s = record {
-    so_far = omega arith;
-    size = s ∙ R.size;
-    rest = ap (λ (x : List ℕ). run f (n - (t + 1)) (t + 1) x) e ∙ sym (run_go f n t l b) ∙ R.rest;
-  }
-
-  pub running_all : {t : ℕ} {l : List ℕ} → Running f n l₀ t l → n ≤ t → l ≡ run f n 0 l₀
-  running_all {t} {l} R b = sym (run_end f n t l b) ∙ R.rest
-
 -- ---- passes
 
 updated_twice : (h g : ℕ → ℕ → ℕ) (k : ℕ) (l : List ℕ) → updated h k (updated g k l) ≡ updated (λ (j x : ℕ). h j (g j x)) k l

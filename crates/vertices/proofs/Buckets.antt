@@ -1,9 +1,7 @@
--- The hash of a corner's key, from its words, and its bucket.
+-- The bucket of a corner's key, from its words.
 use mathlib.Core.Path.{◌≡◌}
 use mathlib.Core.List.{List}
-use Prim.Native.Nat.{ℕ, ◌+◌, ◌*◌, ◌/◌, ◌^◌, ◌<◌}
-use native.Mathlib.Nat.{mul-lt-mul_of_pos_right, div-lt_iff_lt-mul}
-use native.Mathlib.Omega.{arith}
+use Prim.Native.Nat.{ℕ, ◌+◌, ◌*◌, ◌/◌, ◌^◌}
 use Rattle.lists.specs.Parts.{seg}
 use Rattle.vertices.specs.declared.places.Widths.{Widths}
 use Rattle.vertices.specs.Places.{colour_start, texture_start}
@@ -15,9 +13,3 @@ module _ (w : Widths) (v : ℕ) (l : List ℕ) (n : ℕ) where
       → c ≡ texture_sum (two (seg l texture_start w.texture)) → h ≡ spread_of (v * 0x9e3779b + a + b + c) → h * n / 2 ^ 32 ≡ bucket_of n (corner_key w v l)
   unfolding bucket_of hash_of corner_key
   corner_bucket ea eb ec eh = rw (eh, ea, eb, ec)
-
-module _ (h b : ℕ) (l : h < 2 ^ 32) where
-  pub bucket_below : 0 < b → h * b / 2 ^ 32 < b
-  bucket_below k =
-      let q : h * b < 2 ^ 32 * b = mul-lt-mul_of_pos_right l k in
-      (div-lt_iff_lt-mul {k = 2 ^ 32} {x = h * b} {y = b} (omega arith)).1 (omega arith)

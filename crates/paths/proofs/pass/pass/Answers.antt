@@ -6,7 +6,7 @@ use Rattle.std.proofs.Common.{rules}
 use Rattle.lists.proofs.Putting.{Split}
 use Rattle.lists.proofs.Chunked.{chunked_none, chunked_all, chunked_here, chunked_more}
 use Rattle.paths.specs.Pass.{hit_count}
-use Rattle.paths.proofs.Updates.{running_none, running_more, running_all}
+use Rattle.lists.proofs.Loops.{running_none, running_more, running_all}
 use Rattle.paths.proofs.Passing.{turned}
 use Rattle.paths.proofs.Corners.{corners_inside, triangle_here}
 use Rattle.paths.proofs.Hitting.{turns_end}

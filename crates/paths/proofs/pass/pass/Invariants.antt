@@ -5,7 +5,7 @@ use Rattle.std.specs.Iterator.Adapters.{enumerate_source, enumerate_count}
 use Rattle.std.specs.Slice.Iter.{chunks_exact_rest, chunks_exact_size}
 use Rattle.lists.proofs.Chunked.{Chunked}
 use Rattle.paths.specs.Pass.{turn_of}
-use Rattle.paths.proofs.Updates.{Running}
+use Rattle.lists.proofs.Loops.{Running}
 use Rattle.paths.proofs.pass.pass.Given as goal
 
 abbrev pub invariant-loop-t : goal.invariant-loop-t
