@@ -1,9 +1,8 @@
 -- Lists of one width written one after another, from a place of a list on.
 use mathlib.Core.Path.{◌≡◌, refl, sym, ap, ◌∙◌, subst}
 use mathlib.Core.List.{List, [], ◌∷◌, ◌++◌, map, map-append, append_assoc, append-nil}
-use mathlib.Core.Logic.{inr}
 use Prim.Native.Nat.{ℕ, zero, suc, ◌+◌, ◌-◌, ◌*◌, ◌≤◌, ◌<◌}
-use native.Mathlib.Nat.{zero-add, add-zero, suc-add, add-suc, zero-mul, mul-suc, mul_comm, mul-le-mul_right}
+use native.Mathlib.Nat.{zero-add, add-zero, suc-add, add-suc, zero-mul, mul-suc, mul_comm}
 use native.Mathlib.Numerals.{add-one}
 use native.Mathlib.Omega.{arith}
 use lib.ListN.{length, get_or, set, take, drop, length-append, length-set}
@@ -15,7 +14,7 @@ use Rattle.lists.specs.Lists.{join_n, flat}
 use Rattle.lists.proofs.Lists.{All_by, flat_at, middle}
 use Rattle.lists.proofs.Totals.{flat_total, total_tab}
 use Rattle.lists.specs.Parts.{spliced, Kept, Added}
-use Rattle.lists.proofs.Splices.{splice_start, splice_more, set_is, spliced_front, put_size, put_part, put_out}
+use Rattle.lists.proofs.Splices.{splice_start, splice_more, set_is, spliced_front, put_size, put_part}
 
 module _ {A : Type 0} where
   pub flat_append : (x y : List (List A)) → flat (x ++ y) ≡ flat x ++ flat y
@@ -49,8 +48,12 @@ module _ {A : Type 0} where
   flat_ones f zero i = refl
   flat_ones f (suc n) i = ap (λ (r : List A). f i ∷ r) (flat_ones f n (suc i))
 
+  -- n pieces of w elements, from number i on; from the first on
+  pub length_from : (F : ℕ → List A) (w : ℕ) → ((t : ℕ) → length (F t) ≡ w) → (n i : ℕ) → length (flat (tab F n i)) ≡ n * w
+  length_from F w h n i = flat_total (tab F n i) ∙ total_tab length F w h n i
+
   pub length_pieces : (F : ℕ → List A) (w : ℕ) → ((t : ℕ) → length (F t) ≡ w) → (i : ℕ) → length (flat (tab F i 0)) ≡ i * w
-  length_pieces F w h i = flat_total (tab F i 0) ∙ total_tab length F w h i 0
+  length_pieces F w h i = length_from F w h i 0
 
   pub flat_rows : (f : ℕ → ℕ → List A) (m n i : ℕ) → flat (tab (λ i. flat (tab (f i) m 0)) n i) ≡ flat (flat (tab (λ i. tab (f i) m 0) n i))
   unfolding tab flat
@@ -169,12 +172,16 @@ module _ {A : Type 0} {F : ℕ → List A} {n : ℕ} {l : List A} {k : ℕ} wher
   pub pieces_kept : {i : ℕ} {made : List A} → Pieces F n l k i made → k ≤ length l → Kept k l made
   pieces_kept {i} P h = record { len = P.size; front = ap (take k) P.is ∙ spliced_front l k (flat (tab F i 0)) h }
 
-  -- and what stands where no piece is yet
-  pub pieces_past : (w : ℕ) → ((t : ℕ) → length (F t) ≡ w) → {i : ℕ} {made : List A} → k + n * w ≤ length l → Pieces F n l k i made → (d : A) (j : ℕ) → k + i * w ≤ j
-      → get_or made j d ≡ get_or l j d
-  pieces_past w h {i} {made} room P d j b =
-      let m : i * w ≤ n * w = mul-le-mul_right w P.so_far in
-      put_out l k (flat (tab F i 0)) P.is (length_pieces F w h i) (omega arith) d j (inr b)
+-- n pieces of w elements from number a on, and m behind them
+pub pieces_then : {A : Type 0} (F : ℕ → List A) (w : ℕ) → ((t : ℕ) → length (F t) ≡ w) → (l : List A) (k a n m : ℕ) {j b : ℕ} {l' l'' : List A}
+    → b ≡ a + n → j ≡ k + n * w → j + m * w ≤ length l → l' ≡ spliced l k (flat (tab F n a)) → l'' ≡ spliced l' j (flat (tab F m b))
+    → l'' ≡ spliced l k (flat (tab F (n + m) a))
+pieces_then {A} F w h l k a n m {j} {b} eb ej room e e' =
+    let p = flat (tab F n a) in
+    let q = flat (tab F m b) in
+    e' ∙ ap (λ (r : List A). spliced r j q) e
+    ∙ splice_more l k j p q (omega (arith, ej, length_from F w h n a)) (omega (arith, ej, room, length_from F w h n a, length_from F w h m b))
+    ∙ ap (spliced l k) (sym (flat_append (tab F n a) (tab F m b)) ∙ ap flat (ap (λ (i : ℕ). tab F n a ++ tab F m i) eb ∙ sym (tab_add F n m a)))
 
 -- ---- pieces that differ in length, where there is room for all
 

@@ -28,6 +28,17 @@ module _ {A : Type 0} where
   unfolding spliced
   splice_start l a = rw (add-zero, append-nil (take a l)) (sym (take-append-drop a l))
 
+  -- what stands there, put again
+  pub splice_own : (l : List A) (a n : ℕ) → a + n ≤ length l → l ≡ spliced l a (take n (drop a l))
+  unfolding spliced
+  splice_own l a n h =
+      let d = drop a l in
+      let e : length (take n d) ≡ n = length-take-le n d (omega (arith, length-drop a l)) in
+      sym (take-append-drop a l)
+      ∙ ap (λ (r : List A). take a l ++ r) (sym (take-append-drop n d))
+      ∙ sym (append_assoc (take a l) (take n d) (drop n d))
+      ∙ ap (λ (r : List A). take a l ++ take n d ++ r) (drop-drop n a l ∙ ap (λ (k : ℕ). drop (a + k) l) (sym e))
+
   -- from the start of the list
   pub splice_front : (l p : List A) → spliced l 0 p ≡ p ++ drop (length p) l
   unfolding spliced

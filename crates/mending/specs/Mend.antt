@@ -1,18 +1,20 @@
 -- FORMAT 10.3, fix_zero_normals: what is lent to it, as a mesh; and how the first usable triangle of each vertex is held in a table.
-use Rattle.std.specs.Prelude.{◌≡◌, Bool, true, ◌&&◌, List, [], map, ℕ, ◌+◌, ◌*◌, ◌<◌, leb, ltb, length, get_or, set}
+use Rattle.std.specs.Prelude.{◌≡◌, Bool, true, ◌&&◌, List, [], map, ℕ, ◌+◌, ◌*◌, ◌≤◌, ◌<◌, leb, ltb, length, get_or, set}
 use Rattle.math.specs.declared.vector.V3.{V3}
 use Rattle.std.specs.Prelude.{Option}
 use Rattle.std.specs.Prelude.{Some, None}
-use Rattle.math.specs.Vector.{y_axis}
+use Rattle.bits.specs.declared.Words3.{Words3}
+use Rattle.math.specs.Vector.{y_axis, unit_of}
 use Rattle.lists.specs.Loops.{tab}
 use Rattle.block.specs.declared.crease.CreaseRule.TheVariants.{Own}
 use Rattle.lists.specs.Lists.{flat}
+use Rattle.lists.specs.Parts.{spliced}
 use Rattle.lists.specs.Named.{named_by}
-use Rattle.mesh.specs.Words.{words3, point_words, no2, no4}
+use Rattle.mesh.specs.Words.{words3, floats, point_words, no2, no4}
 use Rattle.mesh.specs.Soup.{Frame}
 use Rattle.mesh.specs.Normals.{or_else}
 use Rattle.mesh.specs.Vertices.{Key}
-use Rattle.mesh.specs.Mend.{vertex_spot, tri_normal, first_normal}
+use Rattle.mesh.specs.Mend.{vertex_spot, tri_normal, first_normal, mend_by}
 use Rattle.mesh.specs.Mesh.{mesh_of}
 
 -- FORMAT 10.3: the points are the positions lent, so that vertex v lies at point v
@@ -71,6 +73,20 @@ Firsts F vs is t = (v : ℕ) → v < length t → found F vs is (named_by (get_o
 -- FORMAT 10.3: where the table is made, it has the first usable triangle of each vertex
 unfoldable pub Served : Bool → List ℕ → List ℕ → ℕ → List ℕ → Type 0
 Served made positions is count t = made ≡ true → Firsts (lent_frame positions) (lent_keys [] count) is t
+
+-- FORMAT 10.3: there is room for the normals and the table of so many vertices
+abbrev pub Roomy : ℕ → List ℕ → List ℕ → Type 0
+Roomy count normals t = (3 * count ≤ length normals) × (count ≤ length t)
+
+-- FORMAT 10.3: the mended normal of vertex v, by the normals lent
+unfoldable pub mended_at : List ℕ → List ℕ → ℕ → List ℕ → ℕ → Words3
+mended_at positions is count normals v =
+    let w = point_words normals v in
+    mend_by (unit_of (floats w)) w (first_normal (lent_frame positions) (lent_keys [] count) v is)
+
+-- FORMAT 10.3: the normals of the n vertices from v on are mended, and all else is as it was
+pub record Mends (positions is : List ℕ) (count v n : ℕ) (normals normals' : List ℕ) : Type 0 where
+  pub put : normals' ≡ spliced normals (v * 3) (flat (tab (λ u. words3 (mended_at positions is count normals u)) n v))
 
 -- FORMAT 10.3: the bits of the square of a length that is 1 but for some roundings: a normal of that length is kept, which is seen without a root
 unfoldable pub near_one : ℕ → Bool

@@ -1,20 +1,21 @@
 // FORMAT 10.3, fix_zero_normals: a pass over the vertices; at the first normal that cannot be scaled, a pass over the triangles notes the first usable one of
 // each vertex.
-ghost use Rattle.std.specs.Prelude.{◌≡◌, true, cond, [], ◌∷◌, unwrap_or, ◌++◌, ◌+◌, ◌*◌, ◌^◌, ◌≤◌, ◌<◌, length, get_or, drop};
+ghost use Rattle.std.specs.Prelude.{◌≡◌, true, [], ◌++◌, ◌+◌, ◌-◌, ◌*◌, ◌/◌, ◌^◌, ◌≤◌, ◌<◌, length, get_or, drop};
 ghost use Rattle.std.specs.Float.{binary32};
-ghost use Rattle.std.specs.Float.Ieee.{sub, lt};
+ghost use Rattle.std.specs.Float.Ieee.{sub, lt, to_bits};
 ghost use Rattle.lists.specs.Parts.{spliced};
 ghost use Rattle.lists.specs.Named.{named_by};
 ghost use Rattle.block.specs.Edition.{most};
-ghost use Rattle.math.specs.Vector.{one_f, y_axis, unit_of};
+ghost use Rattle.math.specs.Vector.{one_f, y_axis, vdot, vlen};
 ghost use Rattle.math.specs.Order.{magnitude};
-ghost use Rattle.mesh.specs.Words.{words3, floats, bits, point_words};
-ghost use Rattle.mesh.specs.Mend.{visible, vertex_spot, tri_normal, first_normal, mend_by};
-ghost use Rattle.mending.specs.Mend.{lent_frame, lent_keys, mended_words, triangle_normal, found, marked, marked_all, noted, Firsts, Served, near_one};
+ghost use Rattle.mesh.specs.Words.{words3, floats, point_words};
+ghost use Rattle.mesh.specs.Mend.{visible, vertex_spot, tri_normal, first_normal};
+ghost use Rattle.mending.specs.Mend.{lent_frame, lent_keys, mended_words, triangle_normal, found, marked, marked_all, noted, Firsts, Served, Roomy, Mends, near_one};
 
 use bits::Words3;
 use block::VertexNumber;
 use lists::{get, named_by, put, word_of};
+use math::square_root::roots;
 use math::{V3, Y_AXIS};
 use mesh::{floats_of, put_words3, words_of};
 
@@ -139,7 +140,7 @@ impl<'a> Lent<'a> {
         self.triangle_normal(n).unwrap_or(Y_AXIS)
     }
 
-    // The table is made when the first normal that cannot be scaled is met. `made` is a flag, as in `fix_zero_normals`.
+    // The table is made when the first normal that cannot be scaled is met. `made` is a flag, as in `mend_by_length`.
     fn make_table(&self, made: bool, table: &mut [u32])
         requires { Served made self.now.positions.now self.now.indices.now self.now.count table.old }
         ensures { Firsts (lent_frame self.now.positions.now) (lent_keys [] self.now.count) self.now.indices.now table.new }
@@ -150,7 +151,7 @@ impl<'a> Lent<'a> {
         self.first_normals(table);
     }
 
-    // The normal of vertex v by its triangles. `made`, a flag as in `fix_zero_normals`: whether the table is made, which it is afterwards.
+    // The normal of vertex v by its triangles. `made`, a flag as in `mend_by_length`: whether the table is made, which it is afterwards.
     fn replaced(&self, v: VertexNumber, made: bool, table: &mut [u32]) -> V3
         requires { (v.0 < length table.old) × Served made self.now.positions.now self.now.indices.now self.now.count table.old }
         ensures { (result ≡ first_normal (lent_frame self.now.positions.now) (lent_keys [] self.now.count) v.0 self.now.indices.now)
@@ -163,38 +164,127 @@ impl<'a> Lent<'a> {
 
 // ---- one vertex
 
-// The normal `w`, of length l and unit vector u: scaled where it is visibly off length 1, else kept word for word.
-fn scaled(w: Words3, u: V3, l: f32) -> Words3
-    ensures { result ≡ cond (lt visible (magnitude (sub binary32 l one_f))) (bits u) w }
-{
-    if 1e-5 < math::abs(l - 1.0) {
-        return words_of(u);
-    }
-    w
-}
-
-// Whether the square of a length, by its bits, is 1 but for some roundings, as that of a vector that was scaled is.
-#[tactic(auto, unfolding(crate::specs::Mend::near_one))]
-fn is_near_one(square: u32) -> bool
-    ensures { result ≡ near_one square }
-{
-    0x3f7f_ffc0 <= square && square < 0x3f80_0021
-}
-
-// The normal `w`, kept or scaled, with one root at most; none where it cannot be scaled.
-fn rescaled(w: Words3) -> Option<Words3>
-    ensures { (other : V3) → mend_by (unit_of (floats w)) w other ≡ unwrap_or result (bits other) }
+// The square of the length of the normal `w`.
+fn square_of(w: Words3) -> f32
+    ensures { result ≡ vdot (floats w) (floats w) }
 {
     let n = floats_of(w);
-    if is_near_one(math::bits_of(math::dot(n, n))) {
-        return Some(w);
+    math::dot(n, n)
+}
+
+// Whether the square of a length is 1 but for some roundings, as that of a vector that was scaled is: a normal of that length is kept, which takes no root.
+#[tactic(auto, unfolding(crate::specs::Mend::near_one))]
+fn is_near_one(square: f32) -> bool
+    ensures { result ≡ near_one (to_bits binary32 square) }
+{
+    let b = math::bits_of(square);
+    0x3f7f_ffc0 <= b && b < 0x3f80_0021
+}
+
+// Whether the length `l` is visibly off 1.
+fn is_off(l: f32) -> bool
+    ensures { result ≡ lt visible (magnitude (sub binary32 l one_f)) }
+{
+    1e-5 < math::abs(l - 1.0)
+}
+
+impl<'a> Lent<'a> {
+    // The normal of vertex v, whose words are `w` and whose length is `l`. One that is kept is not written. `made`: whether the table is made; the result,
+    // whether it is then. A flag, not an Option: the room for the table is lent and stays, so there is nothing that a `Some` would hold.
+    fn mend_by_length(
+        &self,
+        v: VertexNumber,
+        w: Words3,
+        l: f32,
+        made: bool,
+        normals: &mut [u32],
+        table: &mut [u32],
+    ) -> bool
+        requires { (v.0 < self.now.count) × Roomy self.now.count normals.old table.old × Served made self.now.positions.now self.now.indices.now self.now.count table.old × (w ≡ point_words normals.old v.0) × (l ≡ vlen (floats w)) }
+        ensures { Mends self.now.positions.now self.now.indices.now self.now.count v.0 1 normals.old normals.new
+            × Served result self.now.positions.now self.now.indices.now self.now.count table.new }
+    {
+        let Some(u) = math::unit_by(floats_of(w), l) else {
+            let other = self.replaced(v, made, table);
+            put_words(normals, v, words_of(other));
+            return true;
+        };
+        if is_off(l) {
+            put_words(normals, v, words_of(u));
+        }
+        made
     }
-    let l = math::len(n);
-    let u = math::unit_by(n, l)?;
-    Some(scaled(w, u, l))
+
+    // The normal of vertex v, with one root at most.
+    fn mend_one(&self, v: VertexNumber, made: bool, normals: &mut [u32], table: &mut [u32]) -> bool
+        requires { (v.0 < self.now.count) × Roomy self.now.count normals.old table.old × Served made self.now.positions.now self.now.indices.now self.now.count table.old }
+        ensures { Mends self.now.positions.now self.now.indices.now self.now.count v.0 1 normals.old normals.new
+            × Served result self.now.positions.now self.now.indices.now self.now.count table.new }
+    {
+        let w = words_at(normals, v);
+        let square = square_of(w);
+        if is_near_one(square) {
+            return made;
+        }
+        self.mend_by_length(v, w, math::root(square), made, normals, table)
+    }
 }
 
 // ---- all of them
+
+impl<'a> Lent<'a> {
+    // The normals of four vertices from v on. Their roots are taken together, and none where each is kept without one.
+    fn mend_four(&self, v: usize, made: bool, normals: &mut [u32], table: &mut [u32]) -> bool
+        requires { (v + 4 ≤ self.now.count) × Roomy self.now.count normals.old table.old × Served made self.now.positions.now self.now.indices.now self.now.count table.old }
+        ensures { Mends self.now.positions.now self.now.indices.now self.now.count v 4 normals.old normals.new
+            × Served result self.now.positions.now self.now.indices.now self.now.count table.new }
+    {
+        let i = VertexNumber(v);
+        let j = VertexNumber(v + 1);
+        let m = VertexNumber(v + 2);
+        let n = VertexNumber(v + 3);
+        let a = words_at(normals, i);
+        let b = words_at(normals, j);
+        let c = words_at(normals, m);
+        let d = words_at(normals, n);
+        let p = square_of(a);
+        let q = square_of(b);
+        let r = square_of(c);
+        let s = square_of(d);
+        if is_near_one(p) && is_near_one(q) && is_near_one(r) && is_near_one(s) {
+            return made;
+        }
+        let l = roots(p, q, r, s);
+        let made = self.mend_by_length(i, a, l.a, made, normals, table);
+        let made = self.mend_by_length(j, b, l.b, made, normals, table);
+        let made = self.mend_by_length(m, c, l.c, made, normals, table);
+        self.mend_by_length(n, d, l.d, made, normals, table)
+    }
+
+    // The normals of the first vertices, in fours.
+    fn mend_fours(&self, normals: &mut [u32], table: &mut [u32]) -> bool
+        requires { Roomy self.now.count normals.old table.old }
+        ensures { Mends self.now.positions.now self.now.indices.now self.now.count 0 (4 * (self.now.count / 4)) normals.old normals.new
+            × Served result self.now.positions.now self.now.indices.now self.now.count table.new }
+    {
+        let mut made = false;
+        for k in 0..self.count / 4 {
+            made = self.mend_four(4 * k, made, normals, table);
+        }
+        made
+    }
+
+    // The normals of the vertices from v on, one by one.
+    fn mend_from(&self, v: usize, made: bool, normals: &mut [u32], table: &mut [u32])
+        requires { (v ≤ self.now.count) × Roomy self.now.count normals.old table.old × Served made self.now.positions.now self.now.indices.now self.now.count table.old }
+        ensures { Mends self.now.positions.now self.now.indices.now self.now.count v (self.now.count - v) normals.old normals.new }
+    {
+        let mut made = made;
+        for k in v..self.count {
+            made = self.mend_one(VertexNumber(k), made, normals, table);
+        }
+    }
+}
 
 // The normals of `count` vertices, whose triangles are `indices` in threes. `table` is room to work in, a word for each vertex: 0, or one more than
 // the number of the first triangle that has a usable normal and uses the vertex.
@@ -213,18 +303,6 @@ pub fn fix_zero_normals(
         indices,
         count,
     };
-    // A flag, not an Option: the room for the table is lent and stays, so there is nothing that a `Some` would hold.
-    let mut made = false;
-    for v in 0..count {
-        let w = words_at(normals, VertexNumber(v));
-        let mended = match rescaled(w) {
-            Some(x) => x,
-            None => {
-                let u = lent.replaced(VertexNumber(v), made, table);
-                made = true;
-                words_of(u)
-            }
-        };
-        put_words(normals, VertexNumber(v), mended);
-    }
+    let made = lent.mend_fours(normals, table);
+    lent.mend_from(4 * (count / 4), made, normals, table);
 }
