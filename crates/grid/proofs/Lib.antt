@@ -3,5 +3,6 @@ pub mod Theorem
 pub mod Sized
 -- Laws behind the functions, and a row.
 mod Numbers
+mod Coords
 mod Held
 mod Rows
