@@ -1,8 +1,8 @@
 -- FORMAT 8.3, elevation_grid (coords): the points as they are put, row by row.
-use mathlib.Core.Path.{◌≡◌, refl, sym, ap, ◌∙◌}
+use mathlib.Core.Path.{◌≡◌, refl, ap, ◌∙◌}
 use mathlib.Core.List.{List}
 use Prim.Native.Nat.{ℕ, ◌+◌, ◌*◌, ◌≤◌, ◌<◌}
-use native.Mathlib.Nat.{zero-add, add_comm, mul_comm}
+use native.Mathlib.Nat.{add_comm, mul_comm}
 use native.Mathlib.Omega.{arith}
 use lib.ListN.{length, get_or}
 use Rattle.block.specs.declared.header.Header.{Header}
@@ -11,8 +11,8 @@ use Rattle.bits.specs.declared.Words3.{Words3}
 use Rattle.lists.specs.Lists.{flat}
 use Rattle.lists.specs.Loops.{tab}
 use Rattle.lists.proofs.Numbers.{column_of, row_of, rows_of}
-use Rattle.lists.proofs.Tabs.{tab_from, tab_same}
-use Rattle.lists.proofs.Pieces.{flat_rows_of, length_pieces}
+use Rattle.lists.proofs.Tabs.{tab_from}
+use Rattle.lists.proofs.Pieces.{flat_rows_all, length_pieces_from}
 use Rattle.mesh.specs.Grid.{x_dimension, z_dimension, step_word, grid_point, grid_points}
 use Rattle.mesh.specs.Words.{words3}
 use Rattle.grid.specs.Listings.{row_points}
@@ -34,14 +34,12 @@ module _ (h : Header) (s : Settings) (heights : List ℕ) where
   row_is j = ap flat (tab_from words_at (j * x_dimension h) (x_dimension h))
 
   pub row_width : (j : ℕ) → length (row_points h s heights j) ≡ x_dimension h * 3
-  row_width j = ap length (sym (row_is j)) ∙ length_pieces (λ i. words_at (i + j * x_dimension h)) 3 (λ t. refl) (x_dimension h)
+  unfolding row_points
+  row_width j = length_pieces_from words_at 3 (λ t. refl) (x_dimension h) (j * x_dimension h)
 
   pub rows_are : flat (tab (row_points h s heights) (z_dimension h) 0) ≡ grid_points h s heights
   unfolding row_points grid_points
-  rows_are =
-      let xd = x_dimension h in
-      ap flat (tab_same (row_points h s heights) (λ j. flat (tab words_at xd (0 + j * xd))) (z_dimension h) (λ j l. ap (λ (b : ℕ). flat (tab words_at xd b)) (sym (zero-add (j * xd)))))
-      ∙ flat_rows_of words_at xd 0 (z_dimension h) ∙ ap (λ (n : ℕ). flat (tab words_at n 0)) (mul_comm (z_dimension h) xd)
+  rows_are = flat_rows_all words_at (x_dimension h) (z_dimension h) ∙ ap (λ (n : ℕ). flat (tab words_at n 0)) (mul_comm (z_dimension h) (x_dimension h))
 
 -- the room of all rows
 pub rows_room : (h : Header) (at len : ℕ) → at + 3 * (x_dimension h * z_dimension h) ≤ len → at + z_dimension h * (x_dimension h * 3) ≤ len

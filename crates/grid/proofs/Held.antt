@@ -4,19 +4,21 @@ use mathlib.Core.List.{List, map}
 use Prim.Native.Nat.{ℕ, suc, ◌+◌, ◌-◌, ◌*◌, ◌/◌, ◌%◌, ◌≤◌, ◌<◌}
 use native.Mathlib.Nat.{one-mul, mul_comm}
 use native.Mathlib.Omega.{arith}
-use lib.ListN.{length, get_or}
+use lib.ListN.{length, get_or, drop}
+use lib.Seq.{paste}
 use Rattle.lists.specs.Loops.{tab}
-use Rattle.lists.proofs.Splices.{put_kept, put_table}
+use Rattle.lists.proofs.Splices.{put_kept, put_seg, put_table, copied}
 use Rattle.lists.proofs.Tabs.{length_tab, tab_at}
 use Rattle.block.specs.declared.header.Header.{Header}
 use Rattle.mesh.specs.Quads.{quad}
 use Rattle.mesh.specs.Grid.{x_dimension, z_dimension}
+use Rattle.mesh.specs.Sizes.{quad_count}
 use Rattle.lists.proofs.Lists.{get_or_map_lt}
 use Rattle.tables.specs.declared.layout.Plan.{Plan}
-use Rattle.lists.specs.Parts.{spliced, Kept, TableOf}
+use Rattle.lists.specs.Parts.{seg, spliced, Kept, TableOf}
 use Rattle.tables.specs.Soups.{point_in, start_in, number_in, place_in}
 use Rattle.tables.specs.Listed.{Use, no_use, Listing, no_listing, uses_at, Beside, Listed}
-use Rattle.lists.proofs.Keep.{kept_then, table_kept}
+use Rattle.lists.proofs.Keep.{kept_then, kept_seg, table_kept}
 use Rattle.tables.proofs.Besides.{beside_then, beside_corners, beside_starts, beside_places, beside_numbers}
 use Rattle.grid.specs.Sides.{Sides, Planned}
 use Rattle.grid.specs.Listings.{quad_of, corner_point, use_of, grid_listing, grid_listings}
@@ -78,11 +80,12 @@ tables_held h w t S P T =
 
 -- one table after another
 pub tables_written : (h : Header) (t : Plan) (w₀ w₁ w₂ w₃ w₄ : List ℕ) → Sides h → Planned h (length w₀) t
-    → w₁ ≡ spliced w₀ t.corners (tab (corner_point (x_dimension h)) t.count 0) → w₂ ≡ spliced w₁ t.starts (tab (λ (j : ℕ). 4 * j) (t.faces + 1) 0)
-    → w₃ ≡ spliced w₂ t.places (tab (corner_point (x_dimension h)) t.count 0) → w₄ ≡ spliced w₃ t.numbers (tab (λ (j : ℕ). 1 * j) t.faces 0)
+    → w₁ ≡ spliced w₀ t.corners (tab (corner_point (x_dimension h)) (4 * quad_count h) 0) → w₂ ≡ spliced w₁ t.starts (tab (λ (j : ℕ). 4 * j) (t.faces + 1) 0)
+    → w₃ ≡ paste w₂ t.places (drop t.corners w₂) (t.corners + t.count - t.corners) → w₄ ≡ spliced w₃ t.numbers (tab (λ (j : ℕ). 1 * j) t.faces 0)
     → Beside t w₀ w₄ × Listed w₄ t (grid_listings (x_dimension h) (z_dimension h))
-tables_written h t w₀ w₁ w₂ w₃ w₄ S P A B C D =
+tables_written h t w₀ w₁ w₂ w₃ w₄ S P a B c D =
     let R = P.room in
+    let A : w₁ ≡ spliced w₀ t.corners (tab (corner_point (x_dimension h)) t.count 0) = rw P.count a in
     let ra : t.corners + t.count ≤ length w₀ = omega arith in
     let K = put_kept w₀ t.corners _ A (length_tab _ _ 0) ra in
     let la = K.len in
@@ -90,6 +93,9 @@ tables_written h t w₀ w₁ w₂ w₃ w₄ S P A B C D =
     let L = put_kept w₁ t.starts _ B (length_tab _ _ 0) rb in
     let lb = L.len in
     let rc : t.places + t.count ≤ length w₂ = omega arith in
+    let q : seg w₂ t.corners t.count ≡ tab (corner_point (x_dimension h)) t.count 0 = kept_seg L t.corners t.count R.corners (omega arith) ∙ put_seg w₀ t.corners _ A (length_tab _ _ 0) ra in
+    let C : w₃ ≡ spliced w₂ t.places (tab (corner_point (x_dimension h)) t.count 0) =
+    c ∙ copied w₂ t.places t.corners (t.corners + t.count) t.count refl (omega arith) ∙ ap (spliced w₂ t.places) q in
     let M = put_kept w₂ t.places _ C (length_tab _ _ 0) rc in
     let lc = M.len in
     let rd : t.numbers + t.faces ≤ length w₃ = omega arith in

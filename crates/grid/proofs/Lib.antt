@@ -4,5 +4,6 @@ pub mod Sized
 -- Laws behind the functions, and a row.
 mod Numbers
 mod Coords
+mod Corners
 mod Held
 mod Rows

@@ -24,6 +24,10 @@ quad_of f xd q = quad (λ i j. f (i + j * xd)) (q % (xd - 1)) (q / (xd - 1))
 unfoldable pub corner_point : ℕ → ℕ → ℕ
 corner_point xd c = get_or (quad_of (λ p. p) xd (c / 4)) (c % 4) 0
 
+-- FORMAT 8.3: what there is of the corners of the quads of row j, by the point of each
+unfoldable pub quad_row : (ℕ → List ℕ) → ℕ → ℕ → List ℕ
+quad_row f xd j = flat (tab (λ c. f (corner_point xd c)) ((xd - 1) * 4) (j * ((xd - 1) * 4)))
+
 -- FORMAT 7.1: a point's number serves as its place
 abbrev pub use_of : ℕ → Use
 use_of p = record { point = p; place = p }

@@ -23,7 +23,7 @@ fn step_word(spacing: f32, n: usize) -> u32
 impl<'a> GridBlock<'a> {
     // The words of the points of row j from place k on, with their heights copied. No point is divided into its column and row.
     // Not parts' `put_words`, a row a point: grid does not stand on parts, which is of the solids. `put_each` would make each point three times.
-    fn put_row(&self, heights: &[u8], work: &mut [u32], k: usize, j: usize)
+    fn put_point_row(&self, heights: &[u8], work: &mut [u32], k: usize, j: usize)
         requires { (j < z_dimension self.now.header) × (x_dimension self.now.header * z_dimension self.now.header ≤ length (entries heights.now))
             × (k + x_dimension self.now.header * 3 ≤ length work.old) }
         ensures { work.new ≡ spliced work.old k (row_points self.now.header self.now.settings (entries heights.now) j) }
@@ -51,7 +51,7 @@ impl<'a> GridBlock<'a> {
         let w = self.x_dimension() * 3;
         let heights = list_part(self.block, self.header, 3);
         for j in 0..self.z_dimension() {
-            self.put_row(heights, work, at + j * w, j);
+            self.put_point_row(heights, work, at + j * w, j);
         }
     }
 }

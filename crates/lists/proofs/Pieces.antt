@@ -43,6 +43,12 @@ module _ {A : Type 0} where
       ap (λ (m : ℕ). flat (tab R m 0)) (sym (add-one n)) ∙ flat_more R n ∙ ap (λ (r : List A). r ++ R n) (flat_rows_of F w b n)
       ∙ sym (flat_append (tab F (n * w) b) (tab F w (b + n * w))) ∙ ap flat (sym (tab_add F (n * w) w b)) ∙ ap (λ (m : ℕ). flat (tab F m b)) (sym e)
 
+  -- and from the first
+  pub flat_rows_all : (F : ℕ → List A) (w n : ℕ) → flat (tab (λ j. flat (tab F w (j * w))) n 0) ≡ flat (tab F (n * w) 0)
+  flat_rows_all F w n =
+      let at : ℕ → List A = λ k. flat (tab F w k) in
+      ap flat (tab_same (λ j. at (j * w)) (λ j. at (0 + j * w)) n (λ j l. ap at (sym (zero-add (j * w))))) ∙ flat_rows_of F w 0 n
+
   -- pieces of one element
   pub flat_ones : (f : ℕ → A) (n i : ℕ) → flat (tab (λ j. f j ∷ []) n i) ≡ tab f n i
   unfolding tab flat
@@ -53,11 +59,13 @@ module _ {A : Type 0} where
   pub flat_table : (f : ℕ → A) (w : ℕ) (F : ℕ → List A) → ((k : ℕ) → F k ≡ tab f w (k * w)) → (n : ℕ) → flat (tab F n 0) ≡ tab f (n * w) 0
   flat_table f w F h n =
       let one : ℕ → List A = λ k. f k ∷ [] in
-      ap flat (tab_same F (λ k. flat (tab one w (0 + k * w))) n (λ k l. h k ∙ ap (tab f w) (sym (zero-add (k * w))) ∙ sym (flat_ones f w (0 + k * w))))
-      ∙ flat_rows_of one w 0 n ∙ flat_ones f (n * w) 0
+      ap flat (tab_same F (λ k. flat (tab one w (k * w))) n (λ k l. h k ∙ sym (flat_ones f w (k * w)))) ∙ flat_rows_all one w n ∙ flat_ones f (n * w) 0
+
+  pub length_pieces_from : (F : ℕ → List A) (w : ℕ) → ((t : ℕ) → length (F t) ≡ w) → (i b : ℕ) → length (flat (tab F i b)) ≡ i * w
+  length_pieces_from F w h i b = flat_total (tab F i b) ∙ total_tab length F w h i b
 
   pub length_pieces : (F : ℕ → List A) (w : ℕ) → ((t : ℕ) → length (F t) ≡ w) → (i : ℕ) → length (flat (tab F i 0)) ≡ i * w
-  length_pieces F w h i = flat_total (tab F i 0) ∙ total_tab length F w h i 0
+  length_pieces F w h i = length_pieces_from F w h i 0
 
   pub flat_rows : (f : ℕ → ℕ → List A) (m n i : ℕ) → flat (tab (λ i. flat (tab (f i) m 0)) n i) ≡ flat (flat (tab (λ i. tab (f i) m 0) n i))
   unfolding tab flat

@@ -11,8 +11,8 @@ use Rattle.grid.proofs.sided.GridBlock.put_points.Goals as goal
 pub loop-j-init : goal.loop-j-init
 loop-j-init c = pieces_none
 
-pub put_row-requires : goal.put_row-requires
-put_row-requires c =
+pub put_point_row-requires : goal.put_point_row-requires
+put_point_row-requires c =
     let I = c.loop-j.invariant in
     let h : c.loop-j.j < z_dimension c.args.self.now.header = omega (arith, c.loop-j-test.true, c.z_dimension-j-end.ensures) in
     let r = piece_room _ _ _ _ _ (rows_room c.args.self.now.header _ _ c.requires.1) h in
@@ -21,7 +21,7 @@ put_row-requires c =
 pub loop-j-preserved : goal.loop-j-preserved
 loop-j-preserved c =
     let h : c.loop-j.j < z_dimension c.args.self.now.header = omega (arith, c.loop-j-test.true, c.z_dimension-j-end.ensures) in
-    pieces_more (x_dimension c.args.self.now.header * 3) (row_width _ _ _) (rows_room c.args.self.now.header _ _ c.requires.1) c.loop-j.invariant h refl refl (rw (c.list_part-heights.ensures, c.x_dimension-w.ensures) at c.put_row.ensures)
+    pieces_more (x_dimension c.args.self.now.header * 3) (row_width _ _ _) (rows_room c.args.self.now.header _ _ c.requires.1) c.loop-j.invariant h refl refl (rw (c.list_part-heights.ensures, c.x_dimension-w.ensures) at c.put_point_row.ensures)
 
 pub returns : goal.returns
 returns c = pieces_all c.loop-j.invariant (omega (arith, c.loop-j-test.false, c.z_dimension-j-end.ensures)) ∙ ap (spliced c.args.work.now c.args.at) (rows_are _ _ _)

@@ -10,7 +10,7 @@ use mathlib.Core.Path.{refl, ap, ◌∙◌}
 use Prim.Native.Nat.{◌+◌, ◌*◌, ◌<◌}
 use lib.ListN.{length}
 use native.Mathlib.Omega.{arith}
-use Rattle.grid.proofs.sided.GridBlock.put_row.Goals as goal
+use Rattle.grid.proofs.sided.GridBlock.put_point_row.Goals as goal
 
 pub loop-i-init : goal.loop-i-init
 loop-i-init c = pieces_none
