@@ -1,7 +1,7 @@
 -- The four tables of a grid's quads hold its listings.
 use mathlib.Core.Path.{◌≡◌, refl, sym, ap, ◌∙◌}
 use mathlib.Core.List.{List, map}
-use Prim.Native.Nat.{ℕ, suc, ◌+◌, ◌-◌, ◌*◌, ◌/◌, ◌%◌, ◌≤◌, ◌<◌}
+use Prim.Native.Nat.{ℕ, zero, suc, ◌+◌, ◌-◌, ◌*◌, ◌/◌, ◌%◌, ◌≤◌, ◌<◌}
 use native.Mathlib.Nat.{one-mul, mul_comm}
 use native.Mathlib.Omega.{arith}
 use lib.ListN.{length, get_or, drop}
@@ -75,6 +75,36 @@ tables_held h w t S P T =
       points = read (λ (u : Use). u.point) (λ q. refl) t.corners T.corners;
       places = read (λ (u : Use). u.place) (λ q. refl) t.places T.places;
     }
+
+-- and then each corner has the point of its number
+module _ (h : Header) {w : List ℕ} {t : Plan} (L : Listed w t (grid_listings (x_dimension h) (z_dimension h))) where
+  quads : t.faces ≡ (z_dimension h - 1) * (x_dimension h - 1)
+  quads = sym L.faces ∙ listings_length (x_dimension h) (z_dimension h)
+
+  uses_of : (j : ℕ) → j < t.faces → uses_at (grid_listings (x_dimension h) (z_dimension h)) j ≡ quad_of use_of (x_dimension h) j
+  unfolding grid_listing
+  uses_of j l = ap (λ (x : Listing). x.uses) (listing_at (x_dimension h) (z_dimension h) j (omega (arith, l, quads)))
+
+  start_of : (j : ℕ) → j ≤ t.faces → start_in w t j ≡ 4 * j
+  unfolding quad
+  start_of zero l = L.first
+  start_of (suc j) l = omega (arith, L.starts j (omega arith), start_of j (omega arith), ap length (uses_of j (omega arith)))
+
+  pub corners_listed : t.count ≡ 4 * quad_count h
+  corners_listed = omega (arith, L.last, start_of t.faces (omega arith), quads, mul_comm (x_dimension h - 1) (z_dimension h - 1))
+
+  pub point_listed : (c : ℕ) → c < t.count → corner_point (x_dimension h) c ≡ point_in w t c
+  unfolding quad
+  point_listed c l =
+      let xd = x_dimension h in
+      let j = c / 4 in
+      let i = c % 4 in
+      let b : j < t.faces = omega (arith, L.last, start_of t.faces (omega arith)) in
+      let e = uses_of j b in
+      let k : 4 * j + i ≡ c = omega arith in
+      let z : i < length (uses_at (grid_listings xd (z_dimension h)) j) = omega (arith, ap length e) in
+      ap (corner_point xd) (sym k) ∙ used xd j i (λ (u : Use). u.point) refl (omega arith) ∙ ap (λ (l : List Use). (get_or l i no_use).point) (sym e)
+      ∙ sym (L.points j i b z) ∙ ap (point_in w t) (ap (λ (a : ℕ). a + i) (start_of j (omega arith)) ∙ k)
 
 -- ---- the code that writes them
 
