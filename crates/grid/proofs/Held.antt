@@ -1,22 +1,24 @@
 -- The four tables of a grid's quads hold its listings.
 use mathlib.Core.Path.{◌≡◌, refl, sym, ap, ◌∙◌}
 use mathlib.Core.List.{List, map}
-use Prim.Native.Nat.{ℕ, suc, ◌+◌, ◌-◌, ◌*◌, ◌/◌, ◌%◌, ◌≤◌, ◌<◌}
+use Prim.Native.Nat.{ℕ, zero, suc, ◌+◌, ◌-◌, ◌*◌, ◌/◌, ◌%◌, ◌≤◌, ◌<◌}
 use native.Mathlib.Nat.{one-mul, mul_comm}
 use native.Mathlib.Omega.{arith}
-use lib.ListN.{length, get_or}
+use lib.ListN.{length, get_or, drop}
+use lib.Seq.{paste}
 use Rattle.lists.specs.Loops.{tab}
-use Rattle.lists.proofs.Splices.{put_kept, put_table}
+use Rattle.lists.proofs.Splices.{put_kept, put_seg, put_table, copied}
 use Rattle.lists.proofs.Tabs.{length_tab, tab_at}
 use Rattle.block.specs.declared.header.Header.{Header}
 use Rattle.mesh.specs.Quads.{quad}
 use Rattle.mesh.specs.Grid.{x_dimension, z_dimension}
+use Rattle.mesh.specs.Sizes.{quad_count}
 use Rattle.lists.proofs.Lists.{get_or_map_lt}
 use Rattle.tables.specs.declared.layout.Plan.{Plan}
-use Rattle.lists.specs.Parts.{spliced, Kept, TableOf}
+use Rattle.lists.specs.Parts.{seg, spliced, Kept, TableOf}
 use Rattle.tables.specs.Soups.{point_in, start_in, number_in, place_in}
 use Rattle.tables.specs.Listed.{Use, no_use, Listing, no_listing, uses_at, Beside, Listed}
-use Rattle.lists.proofs.Keep.{kept_then, table_kept}
+use Rattle.lists.proofs.Keep.{kept_then, kept_seg, table_kept}
 use Rattle.tables.proofs.Besides.{beside_then, beside_corners, beside_starts, beside_places, beside_numbers}
 use Rattle.grid.specs.Sides.{Sides, Planned}
 use Rattle.grid.specs.Listings.{quad_of, corner_point, use_of, grid_listing, grid_listings}
@@ -74,15 +76,46 @@ tables_held h w t S P T =
       places = read (λ (u : Use). u.place) (λ q. refl) t.places T.places;
     }
 
+-- and then each corner has the point of its number
+module _ (h : Header) {w : List ℕ} {t : Plan} (L : Listed w t (grid_listings (x_dimension h) (z_dimension h))) where
+  quads : t.faces ≡ (z_dimension h - 1) * (x_dimension h - 1)
+  quads = sym L.faces ∙ listings_length (x_dimension h) (z_dimension h)
+
+  uses_of : (j : ℕ) → j < t.faces → uses_at (grid_listings (x_dimension h) (z_dimension h)) j ≡ quad_of use_of (x_dimension h) j
+  unfolding grid_listing
+  uses_of j l = ap (λ (x : Listing). x.uses) (listing_at (x_dimension h) (z_dimension h) j (omega (arith, l, quads)))
+
+  start_of : (j : ℕ) → j ≤ t.faces → start_in w t j ≡ 4 * j
+  unfolding quad
+  start_of zero l = L.first
+  start_of (suc j) l = omega (arith, L.starts j (omega arith), start_of j (omega arith), ap length (uses_of j (omega arith)))
+
+  pub corners_listed : t.count ≡ 4 * quad_count h
+  corners_listed = omega (arith, L.last, start_of t.faces (omega arith), quads, mul_comm (x_dimension h - 1) (z_dimension h - 1))
+
+  pub point_listed : (c : ℕ) → c < t.count → corner_point (x_dimension h) c ≡ point_in w t c
+  unfolding quad
+  point_listed c l =
+      let xd = x_dimension h in
+      let j = c / 4 in
+      let i = c % 4 in
+      let b : j < t.faces = omega (arith, L.last, start_of t.faces (omega arith)) in
+      let e = uses_of j b in
+      let k : 4 * j + i ≡ c = omega arith in
+      let z : i < length (uses_at (grid_listings xd (z_dimension h)) j) = omega (arith, ap length e) in
+      ap (corner_point xd) (sym k) ∙ used xd j i (λ (u : Use). u.point) refl (omega arith) ∙ ap (λ (l : List Use). (get_or l i no_use).point) (sym e)
+      ∙ sym (L.points j i b z) ∙ ap (point_in w t) (ap (λ (a : ℕ). a + i) (start_of j (omega arith)) ∙ k)
+
 -- ---- the code that writes them
 
 -- one table after another
 pub tables_written : (h : Header) (t : Plan) (w₀ w₁ w₂ w₃ w₄ : List ℕ) → Sides h → Planned h (length w₀) t
-    → w₁ ≡ spliced w₀ t.corners (tab (corner_point (x_dimension h)) t.count 0) → w₂ ≡ spliced w₁ t.starts (tab (λ (j : ℕ). 4 * j) (t.faces + 1) 0)
-    → w₃ ≡ spliced w₂ t.places (tab (corner_point (x_dimension h)) t.count 0) → w₄ ≡ spliced w₃ t.numbers (tab (λ (j : ℕ). 1 * j) t.faces 0)
+    → w₁ ≡ spliced w₀ t.corners (tab (corner_point (x_dimension h)) (4 * quad_count h) 0) → w₂ ≡ spliced w₁ t.starts (tab (λ (j : ℕ). 4 * j) (t.faces + 1) 0)
+    → w₃ ≡ paste w₂ t.places (drop t.corners w₂) (t.corners + t.count - t.corners) → w₄ ≡ spliced w₃ t.numbers (tab (λ (j : ℕ). 1 * j) t.faces 0)
     → Beside t w₀ w₄ × Listed w₄ t (grid_listings (x_dimension h) (z_dimension h))
-tables_written h t w₀ w₁ w₂ w₃ w₄ S P A B C D =
+tables_written h t w₀ w₁ w₂ w₃ w₄ S P a B c D =
     let R = P.room in
+    let A : w₁ ≡ spliced w₀ t.corners (tab (corner_point (x_dimension h)) t.count 0) = rw P.count a in
     let ra : t.corners + t.count ≤ length w₀ = omega arith in
     let K = put_kept w₀ t.corners _ A (length_tab _ _ 0) ra in
     let la = K.len in
@@ -90,6 +123,9 @@ tables_written h t w₀ w₁ w₂ w₃ w₄ S P A B C D =
     let L = put_kept w₁ t.starts _ B (length_tab _ _ 0) rb in
     let lb = L.len in
     let rc : t.places + t.count ≤ length w₂ = omega arith in
+    let q : seg w₂ t.corners t.count ≡ tab (corner_point (x_dimension h)) t.count 0 = kept_seg L t.corners t.count R.corners (omega arith) ∙ put_seg w₀ t.corners _ A (length_tab _ _ 0) ra in
+    let C : w₃ ≡ spliced w₂ t.places (tab (corner_point (x_dimension h)) t.count 0) =
+    c ∙ copied w₂ t.places t.corners (t.corners + t.count) t.count refl (omega arith) ∙ ap (spliced w₂ t.places) q in
     let M = put_kept w₂ t.places _ C (length_tab _ _ 0) rc in
     let lc = M.len in
     let rd : t.numbers + t.faces ≤ length w₃ = omega arith in

@@ -1,16 +1,10 @@
 -- The numbers of a grid's quads and points.
-use mathlib.Core.Path.{◌≡◌}
 use Prim.Native.Nat.{ℕ, zero, suc, ◌+◌, ◌-◌, ◌*◌, ◌/◌, ◌%◌, ◌≤◌, ◌<◌}
-use native.Mathlib.Nat.{mul_comm, mod-lt, div-lt_iff_lt-mul}
+use native.Mathlib.Nat.{mod-lt, div-lt_iff_lt-mul}
 use native.Mathlib.Omega.{arith}
 use lib.ListN.{get_or}
 use Rattle.lists.proofs.Numbers.{cell_turned}
-use Rattle.block.specs.Edition.{most}
-use Rattle.block.specs.declared.header.Header.{Header}
 use Rattle.mesh.specs.Quads.{quad}
-use Rattle.mesh.specs.Grid.{x_dimension, z_dimension}
-use Rattle.mesh.specs.Sizes.{quad_count}
-use Rattle.grid.specs.Sides.{Sides}
 use Rattle.grid.specs.Listings.{quad_of, corner_point}
 
 -- a quad lies within the grid
@@ -34,10 +28,3 @@ module _ (xd zd q : ℕ) (wide : 2 ≤ xd) (h : q < (zd - 1) * (xd - 1)) where
 pub point_below : (xd zd c : ℕ) → 2 ≤ xd → c < 4 * ((zd - 1) * (xd - 1)) → corner_point xd c < xd * zd
 unfolding corner_point
 point_below xd zd c h l = quad_below xd zd (c / 4) h (omega arith) (c % 4)
-
--- the point of a corner, by its number in the quad
-pub corner_put : {h : Header} {xd c k r : ℕ} → Sides h → c < 4 * quad_count h → xd ≡ x_dimension h → c % 4 ≡ k → r ≡ get_or (quad_of (λ p. p) xd (c / 4)) k 0
-    → (r ≡ corner_point (x_dimension h) c) × (r ≤ most)
-corner_put {h} {xd} {c} {k} {r} S l e m q =
-    let p : r ≡ corner_point (x_dimension h) c = unfold corner_point in rw (m, ← e) q in
-    (p, omega (arith, p, point_below (x_dimension h) (z_dimension h) c S.wide (omega (arith, l, mul_comm (x_dimension h - 1) (z_dimension h - 1))), S.few))

@@ -2,7 +2,7 @@
 use mathlib.Core.Path.{◌≡◌}
 use mathlib.Core.Bool.{false}
 use mathlib.Core.List.{List}
-use Prim.Native.Nat.{ℕ, ◌+◌, ◌*◌, ◌≤◌}
+use Prim.Native.Nat.{ℕ, ◌*◌, ◌≤◌}
 use native.Mathlib.Omega.{arith}
 use borrow.Author.Tests.{ltb-false}
 use lib.Dec.{ltb}
@@ -17,11 +17,8 @@ use Rattle.block.proofs.EditionLaws.{count_narrow}
 use Rattle.block.proofs.ExtentLaws.{widths_of, size_by, list_entries}
 use Rattle.mesh.specs.Grid.{x_dimension, z_dimension}
 use Rattle.mesh.specs.Sizes.{height_count, is_no_grid}
-use Rattle.tables.specs.declared.layout.Plan.{Plan}
-use Rattle.tables.specs.Listed.{Listing, Listed}
 use Rattle.lists.proofs.Tests.{or_none}
 use Rattle.grid.specs.Sides.{Sides}
-use Rattle.grid.specs.Textures.{Placed}
 
 pub sides_of : (bs : List ℕ) (h : Header) → h ≡ header_of bs → 2 ≤ x_dimension h → 2 ≤ z_dimension h → x_dimension h * z_dimension h ≤ most → Sides h
 sides_of bs h e x z f = record {
@@ -45,13 +42,3 @@ shape_of h e =
     let a = or_none (ltb (x_dimension h) 2) _ e in
     let b = or_none (ltb (z_dimension h) 2) _ a.1 in
     (ltb-false _ _ a.0, ltb-false _ _ b.0, ltb-false _ _ b.1)
-
--- the corners that are listed name points of the grid
-pub placed : (h : Header) (w : List ℕ) (t : Plan) (ls : List Listing) (textures : ℕ) → Listed w t ls → t.spots ≡ x_dimension h * z_dimension h → t.corners + t.count ≤ textures
-    → textures + 2 * t.count ≤ length w → Placed h w t textures
-placed h w t ls textures L s b r = record {
-  few = L.room.few;
-  below = b;
-  room = r;
-  within = λ c l. omega (arith, L.within c l);
-}

@@ -3,8 +3,9 @@ ghost use Rattle.std.specs.Prelude.{◌≡◌, ◌+◌, ◌*◌, ◌≤◌, ◌<
 ghost use Rattle.bits.specs.Bits.{entries};
 ghost use Rattle.block.specs.Extents.{list_bytes};
 ghost use Rattle.math.specs.Whole.{Exact};
-ghost use Rattle.mesh.specs.Grid.{x_dimension, z_dimension, step_word, grid_point, grid_points};
+ghost use Rattle.mesh.specs.Grid.{x_dimension, z_dimension, step_word, grid_points};
 ghost use Rattle.lists.specs.Parts.{spliced};
+ghost use Rattle.grid.specs.Listings.{row_points};
 
 use crate::sided::GridBlock;
 use bits::Words3;
@@ -20,17 +21,24 @@ fn step_word(spacing: f32, n: usize) -> u32
 }
 
 impl<'a> GridBlock<'a> {
-    // Point k, with its height copied.
-    fn grid_point(&self, heights: &[u8], k: usize) -> Words3
-        requires { (k < x_dimension self.now.header * z_dimension self.now.header) × (k < length (entries heights.now)) }
-        ensures { result ≡ grid_point self.now.header self.now.settings (entries heights.now) k }
+    // The words of the points of row j from place k on, with their heights copied. No point is divided into its column and row.
+    // Not parts' `put_words`, a row a point: grid does not stand on parts, which is of the solids. `put_each` would make each point three times.
+    fn put_point_row(&self, heights: &[u8], work: &mut [u32], k: usize, j: usize)
+        requires { (j < z_dimension self.now.header) × (x_dimension self.now.header * z_dimension self.now.header ≤ length (entries heights.now))
+            × (k + x_dimension self.now.header * 3 ≤ length work.old) }
+        ensures { work.new ≡ spliced work.old k (row_points self.now.header self.now.settings (entries heights.now) j) }
     {
         let xd = self.x_dimension();
         let s = self.settings;
-        Words3 {
-            x: step_word(s.x_spacing, k % xd),
-            y: bits::entry(heights, k),
-            z: step_word(s.z_spacing, k / xd),
+        let z = step_word(s.z_spacing, j);
+        let first = j * xd;
+        for i in 0..xd {
+            let p = Words3 {
+                x: step_word(s.x_spacing, i),
+                y: bits::entry(heights, first + i),
+                z,
+            };
+            put_words3(work, k + i * 3, p);
         }
     }
 
@@ -40,11 +48,10 @@ impl<'a> GridBlock<'a> {
             × (at + 3 * (x_dimension self.now.header * z_dimension self.now.header) ≤ length work.old) }
         ensures { work.new ≡ spliced work.old at (grid_points self.now.header self.now.settings (entries (list_bytes self.now.block.now self.now.header 3))) }
     {
-        let n = self.x_dimension() * self.z_dimension();
+        let w = self.x_dimension() * 3;
         let heights = list_part(self.block, self.header, 3);
-        // Not parts' `put_words`, a row a point: grid does not stand on parts, which is of the solids. `put_each` would make each point three times.
-        for k in 0..n {
-            put_words3(work, at + 3 * k, self.grid_point(heights, k));
+        for j in 0..self.z_dimension() {
+            self.put_point_row(heights, work, at + j * w, j);
         }
     }
 }

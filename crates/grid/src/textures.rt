@@ -1,17 +1,19 @@
 // FORMAT 7.3, 7.4, elevation_grid (st, t_out): the textures of a grid's corners.
-ghost use Rattle.std.specs.Prelude.{◌≡◌, ℕ, ◌-◌, ◌*◌, ◌/◌, ◌%◌, ◌≤◌, ◌<◌};
+ghost use Rattle.std.specs.Prelude.{◌≡◌, ℕ, [], ◌+◌, ◌-◌, ◌*◌, ◌≤◌, ◌<◌, length};
 ghost use Rattle.math.specs.Whole.{Exact};
-ghost use Rattle.mesh.specs.Grid.{x_dimension, z_dimension, part_word, grid_default};
+ghost use Rattle.mesh.specs.Grid.{x_dimension, z_dimension, part_word};
+ghost use Rattle.mesh.specs.Sizes.{quad_count};
+ghost use Rattle.mesh.specs.Words.{words2};
 ghost use Rattle.lists.specs.Parts.{spliced};
-ghost use Rattle.tables.specs.Soups.{point_in};
 ghost use Rattle.texture.specs.Textured.{texture_words};
-ghost use Rattle.grid.specs.Textures.{grid_texture, Placed};
+ghost use Rattle.grid.specs.Sides.{Sides};
+ghost use Rattle.grid.specs.Listings.{corner_point, quad_row};
+ghost use Rattle.grid.specs.Textures.{grid_texture, texture_at};
 
 use crate::sided::GridBlock;
 use bits::Words2;
-use block::PointNumber;
-use tables::{Plan, wide};
-use texture::{Source, put2};
+use lists::put_all;
+use texture::Source;
 
 // The bits of i of n - 1 steps. Not the share of parts: grid does not stand on parts, and the quotient is one line.
 fn part_word(i: usize, n: usize) -> u32
@@ -21,25 +23,75 @@ fn part_word(i: usize, n: usize) -> u32
     math::bits_of(math::whole_float(i) / math::whole_float(n - 1))
 }
 
-impl<'a> GridBlock<'a> {
-    // The default texture of point p, by its column and its row.
-    fn default_of(&self, p: PointNumber) -> Words2
-        requires { p.0 < x_dimension self.now.header * z_dimension self.now.header }
-        ensures { result ≡ grid_default self.now.header (p.0 % x_dimension self.now.header) (p.0 / x_dimension self.now.header) }
+// The textures of the two points of a column, in a row and in the next.
+#[derive(Clone, Copy)]
+struct Edge {
+    near: Words2,
+    far: Words2,
+}
+
+// The quads of row j: what their texture is read from, the width, and the default t of the row of points before them and of the one behind.
+#[derive(Clone, Copy)]
+struct Row<'a> {
+    source: Source<'a>,
+    xd: usize,
+    j: usize,
+    near: u32,
+    far: u32,
+    ghost sides: { Sides source.header },
+    ghost plain: { source.coord.now ≡ [] },
+    ghost within: { j + 1 < z_dimension source.header },
+    ghost width: { xd ≡ x_dimension source.header },
+    ghost before: { near ≡ part_word j (z_dimension source.header) },
+    ghost behind: { far ≡ part_word (j + 1) (z_dimension source.header) },
+}
+
+impl<'a> Row<'a> {
+    // A point's number serves as its place.
+    fn edge(&self, i: usize) -> Edge
+        requires { i < x_dimension self.now.source.header }
+        ensures near { result.near ≡ texture_at self.now.source.block.now self.now.source.header self.now.source.settings i self.now.j }
+        ensures far { result.far ≡ texture_at self.now.source.block.now self.now.source.header self.now.source.settings i (self.now.j + 1) }
     {
-        let xd = self.x_dimension();
-        let zd = self.z_dimension();
-        Words2 {
-            s: part_word(p.0 % xd, xd),
-            t: part_word(p.0 / xd, zd),
+        let xd = self.xd;
+        let s = part_word(i, xd);
+        let p = self.j * xd + i;
+        let near = Words2 { s, t: self.near };
+        let far = Words2 { s, t: self.far };
+        Edge {
+            near: self.source.corner_texture(p, near),
+            far: self.source.corner_texture(p + xd, far),
         }
     }
 
-    // A point's number serves as its place, and there is no coordIndex.
-    fn texture_of(&self, p: PointNumber) -> Words2
-        requires { p.0 < x_dimension self.now.header * z_dimension self.now.header }
-        ensures { result ≡ grid_texture self.now.block.now self.now.header self.now.settings p.0 }
+    // Two quads beside each other share an edge.
+    fn put(&self, work: &mut [u32], k: usize)
+        requires { k + (x_dimension self.now.source.header - 1) * 8 ≤ length work.old }
+        ensures { work.new ≡ spliced work.old k
+            (quad_row (λ (p : ℕ). words2 (grid_texture self.now.source.block.now self.now.source.header self.now.source.settings p)) (x_dimension self.now.source.header) self.now.j) }
     {
+        let mut left = self.edge(0);
+        for i in 0..self.xd - 1 {
+            let right = self.edge(i + 1);
+            let a = left.near;
+            let b = left.far;
+            let c = right.far;
+            let d = right.near;
+            put_all(work, k + i * 8, &[a.s, a.t, b.s, b.t, c.s, c.t, d.s, d.t]);
+            left = right;
+        }
+    }
+}
+
+impl<'a> GridBlock<'a> {
+    // The textures of all corners, from place `textures` on. There is no coordIndex.
+    pub fn put_textures(&self, work: &mut [u32], textures: usize)
+        requires { textures + 2 * (4 * quad_count self.now.header) ≤ length work.old }
+        ensures { work.new ≡ spliced work.old textures
+            (texture_words (λ (c : ℕ). grid_texture self.now.block.now self.now.header self.now.settings (corner_point (x_dimension self.now.header) c)) (4 * quad_count self.now.header)) }
+    {
+        let xd = self.x_dimension();
+        let zd = self.z_dimension();
         // Made here, and not held by GridBlock: points and faces ask for no coordIndex, and each clause of theirs would name the block through it.
         let source = Source {
             block: self.block,
@@ -47,18 +99,16 @@ impl<'a> GridBlock<'a> {
             header: self.header,
             settings: self.settings,
         };
-        source.corner_texture(p.0, self.default_of(p))
-    }
-
-    // The textures of all corners, from place `textures` on: the plan says where their points stand.
-    pub fn put_textures(&self, work: &mut [u32], t: Plan, textures: usize)
-        requires { Placed self.now.header work.old t textures }
-        ensures { work.new ≡ spliced work.old textures (texture_words (λ (c : ℕ). grid_texture self.now.block.now self.now.header self.now.settings (point_in work.old t c)) t.count) }
-    {
-        // A loop of its own, as in texture and extrusion: each reads other tables of `work`, and a shared one would take this body back as a closure.
-        for c in 0..t.count {
-            let p = PointNumber(wide(work[t.corners + c]));
-            put2(work, textures + 2 * c, self.texture_of(p));
+        let w = (xd - 1) * 8;
+        for j in 0..zd - 1 {
+            let row = Row {
+                source,
+                xd,
+                j,
+                near: part_word(j, zd),
+                far: part_word(j + 1, zd),
+            };
+            row.put(work, textures + j * w);
         }
     }
 }

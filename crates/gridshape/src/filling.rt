@@ -3,8 +3,8 @@ ghost use Rattle.std.specs.Prelude.{◌+◌, ◌*◌, ◌≤◌, length};
 ghost use Rattle.bits.specs.Bits.{entries};
 ghost use Rattle.block.specs.Extents.{list_bytes};
 ghost use Rattle.mesh.specs.Grid.{x_dimension, z_dimension, grid_points};
+ghost use Rattle.tables.specs.Listed.{Listed};
 ghost use Rattle.grid.specs.Sides.{Planned};
-ghost use Rattle.grid.specs.Textures.{Placed};
 ghost use Rattle.grid.specs.Listings.{grid_listings};
 ghost use Rattle.shaping.specs.Tabled.{Tabled, TexturesAt};
 ghost use Rattle.gridshape.specs.Shape.{texture_of};
@@ -33,12 +33,13 @@ pub fn put_tables(g: &GridBlock<'_>, shared: Shared, t: Plan, work: &mut [u32], 
 // The table of texture, where texture is made. It stands behind the owners, as in facesetshape. Not one with facesetshape's, for the reason at `put_tables`: a
 // shared one would take `put_textures` as a closure, with what it asks.
 pub fn texture_where(g: &GridBlock<'_>, shared: Shared, t: Plan, work: &mut [u32])
-    requires { Placed g.now.header work.old t (t.owners + t.count) }
+    requires listed { Listed work.old t (grid_listings (x_dimension g.now.header) (z_dimension g.now.header)) }
+    requires room { t.owners + t.count + 2 * t.count ≤ length work.old }
     ensures { TexturesAt shared (texture_of g.now.block.now g.now.header g.now.settings) t work.old work.new }
 {
     let widths = shared.widths;
     if widths.texture == 0 {
         return;
     }
-    g.put_textures(work, t, t.owners + t.count);
+    g.put_textures(work, t.owners + t.count);
 }

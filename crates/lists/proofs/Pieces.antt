@@ -9,7 +9,7 @@ use lib.ListN.{length, get_or, set, take, drop, length-append, length-set}
 use lib.Seq.{take_all, drop-drop}
 use Rattle.lists.specs.Loops.{tab}
 use Rattle.lists.proofs.Numbers.{next_row, piece_room}
-use Rattle.lists.proofs.Tabs.{length_tab, tab_at, tab_add, tab_snoc}
+use Rattle.lists.proofs.Tabs.{length_tab, tab_at, tab_same, tab_add, tab_snoc}
 use Rattle.lists.specs.Lists.{join_n, flat}
 use Rattle.lists.proofs.Lists.{All_by, flat_at, middle}
 use Rattle.lists.proofs.Totals.{flat_total, total_tab}
@@ -32,21 +32,33 @@ module _ {A : Type 0} where
   unfolding flat
   flat_more F i = ap flat (tab_snoc F i) ∙ flat_append (tab F i 0) (F i ∷ []) ∙ ap (λ (r : List A). flat (tab F i 0) ++ r) (append-nil (F i))
 
-  -- pieces of w elements, which are those of one table
-  pub flat_table : (f : ℕ → A) (w : ℕ) (F : ℕ → List A) → ((k : ℕ) → F k ≡ tab f w (k * w)) → (n : ℕ) → flat (tab F n 0) ≡ tab f (n * w) 0
+  -- n rows of w pieces, from piece b on
+  pub flat_rows_of : (F : ℕ → List A) (w b n : ℕ) → flat (tab (λ j. flat (tab F w (b + j * w))) n 0) ≡ flat (tab F (n * w) b)
   unfolding tab flat
-  flat_table f w F h zero = rw (zero-mul w) refl
-  flat_table f w F h (suc n) =
+  flat_rows_of F w b zero = rw (zero-mul w) refl
+  flat_rows_of F w b (suc n) =
+      let R : ℕ → List A = λ j. flat (tab F w (b + j * w)) in
       let e : suc n * w ≡ n * w + w = ap (λ (m : ℕ). m * w) (sym (add-one n)) ∙ next_row n w in
-      ap (λ (m : ℕ). flat (tab F m 0)) (sym (add-one n)) ∙ flat_more F n
-      ∙ (λ i. flat_table f w F h n i ++ (h n ∙ ap (tab f w) (sym (zero-add (n * w)))) i)
-      ∙ sym (tab_add f (n * w) w 0) ∙ ap (λ (m : ℕ). tab f m 0) (sym e)
+      ap (λ (m : ℕ). flat (tab R m 0)) (sym (add-one n)) ∙ flat_more R n ∙ ap (λ (r : List A). r ++ R n) (flat_rows_of F w b n)
+      ∙ sym (flat_append (tab F (n * w) b) (tab F w (b + n * w))) ∙ ap flat (sym (tab_add F (n * w) w b)) ∙ ap (λ (m : ℕ). flat (tab F m b)) (sym e)
+
+  -- and from the first
+  pub flat_rows_all : (F : ℕ → List A) (w n : ℕ) → flat (tab (λ j. flat (tab F w (j * w))) n 0) ≡ flat (tab F (n * w) 0)
+  flat_rows_all F w n =
+      let at : ℕ → List A = λ k. flat (tab F w k) in
+      ap flat (tab_same (λ j. at (j * w)) (λ j. at (0 + j * w)) n (λ j l. ap at (sym (zero-add (j * w))))) ∙ flat_rows_of F w 0 n
 
   -- pieces of one element
   pub flat_ones : (f : ℕ → A) (n i : ℕ) → flat (tab (λ j. f j ∷ []) n i) ≡ tab f n i
   unfolding tab flat
   flat_ones f zero i = refl
   flat_ones f (suc n) i = ap (λ (r : List A). f i ∷ r) (flat_ones f n (suc i))
+
+  -- pieces of w elements, which are those of one table
+  pub flat_table : (f : ℕ → A) (w : ℕ) (F : ℕ → List A) → ((k : ℕ) → F k ≡ tab f w (k * w)) → (n : ℕ) → flat (tab F n 0) ≡ tab f (n * w) 0
+  flat_table f w F h n =
+      let one : ℕ → List A = λ k. f k ∷ [] in
+      ap flat (tab_same F (λ k. flat (tab one w (k * w))) n (λ k l. h k ∙ sym (flat_ones f w (k * w)))) ∙ flat_rows_all one w n ∙ flat_ones f (n * w) 0
 
   -- n pieces of w elements, from number i on; from the first on
   pub length_from : (F : ℕ → List A) (w : ℕ) → ((t : ℕ) → length (F t) ≡ w) → (n i : ℕ) → length (flat (tab F n i)) ≡ n * w

@@ -6,13 +6,13 @@ use Prim.Native.Nat.{ℕ, ◌+◌, ◌-◌, ◌≤◌, ◌<◌}
 use native.Mathlib.Nat.{add-zero, add_assoc, zero-add}
 use native.Mathlib.Omega.{arith}
 use lib.ListN.{length, get_or, set, take, drop, replicate, length-append, length-take, length-drop, drop_of_length-le, length-replicate, get_or-replicate, take-append-drop}
-use lib.Seq.{take_at, drop_at, drop-append-add, drop-drop, length-take-le, sets, sets-eq, get_or-take, get_or-drop, take_all}
+use lib.Seq.{paste, take_at, drop_at, drop-append-add, drop-drop, length-take-le, sets, sets-eq, get_or-take, get_or-drop, take_all}
 use borrow.Rule.Slice.PartMut.{put_mid}
 use Rattle.std.proofs.lemmas.List.{take_more}
 use Rattle.lists.specs.Loops.{tab}
 use Rattle.lists.specs.Parts.{seg, spliced, Kept, Out, TableOf}
 use Rattle.lists.proofs.Tabs.{length_tab, tab_at}
-use Rattle.lists.proofs.Keep.{set_miss}
+use Rattle.lists.proofs.Keep.{set_miss, part_seg, length_seg}
 use Rattle.lists.proofs.Numbers.{le_or_lt}
 
 module _ {A : Type 0} where
@@ -67,6 +67,14 @@ module _ {A : Type 0} where
   mid_spliced a k l {q} {p} e s =
       let d : drop k (drop a l) ≡ drop (a + length p) l = drop-drop k a l ∙ ap (λ (n : ℕ). drop (a + n) l) (sym s) in
       ap₂ (λ (x y : List A). take a l ++ (x ++ y)) e d ∙ sym (append_assoc (take a l) p (drop (a + length p) l))
+
+  -- n elements copied from place b, up to e, to place a
+  pub copied : (l : List A) (a b e n : ℕ) → e ≡ b + n → e ≤ length l → paste l a (drop b l) (e - b) ≡ spliced l a (seg l b n)
+  unfolding spliced
+  copied l a b e n q h =
+      let s = part_seg l b e n q in
+      let k : length (seg l b n) ≡ e - b = length_seg l b n (omega arith) ∙ omega arith in
+      λ i. take a l ++ s i ++ drop (a + sym k i) l
 
   pub splice_join : (l : List A) (a : ℕ) (p q : List A) → spliced l a (p ++ q) ≡ spliced (spliced l a p) (a + length p) q
   splice_join l a p q =

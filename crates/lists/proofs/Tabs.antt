@@ -40,6 +40,10 @@ module _ {A : Type 0} where
   pub tab_same : (f g : ℕ → A) (k : ℕ) → ((t : ℕ) → t < k → f t ≡ g t) → tab f k 0 ≡ tab g k 0
   tab_same f g k h = tab_shift f g k 0 0 (λ t l. rw zero-add (h t l))
 
+  -- f from b on
+  pub tab_from : (f : ℕ → A) (b n : ℕ) → tab (λ i. f (i + b)) n 0 ≡ tab f n b
+  tab_from f b n = tab_shift (λ i. f (i + b)) f n 0 b (λ t l. let e : 0 + t + b ≡ b + t = omega arith in ap f e)
+
   pub tab_add : (f : ℕ → A) (a b i : ℕ) → tab f (a + b) i ≡ tab f a i ++ tab f b (i + a)
   unfolding tab
   tab_add f zero b i = rw (zero-add, add-zero) refl

@@ -2,7 +2,6 @@ use mathlib.Core.Path.{refl}
 use native.Mathlib.Omega.{arith}
 use Rattle.shaping.proofs.Tabling.{faces_held}
 use Rattle.shaping.proofs.Theorem.{ready, shaped}
-use Rattle.grid.proofs.Sized.{placed}
 use Rattle.sizes.proofs.Calls.{asked}
 use Rattle.gridshape.proofs.Bounds.{sizes_are, sides, net_sides, heights, plan_asked, counted, roomy, planned}
 use Rattle.gridshape.proofs.Shapes.{shape, mesh_is}
@@ -23,13 +22,14 @@ put_tables-requires c =
     let C = counted A c.grid_sizes-z.ensures c.quads-quads.ensures.0 c.plan_of-t.ensures in
     (planned A C, heights A, omega (arith, (roomy A C).floats))
 
-pub texture_where-requires : goal.texture_where-requires
-texture_where-requires c =
+pub texture_where-requires-clause-listed : goal.texture_where-requires-clause-listed
+texture_where-requires-clause-listed c = faces_held c.put_tables.ensures
+
+pub texture_where-requires-clause-room : goal.texture_where-requires-clause-room
+texture_where-requires-clause-room c =
     let A = asked c.args.a.now c.requires in
     let C = counted A c.grid_sizes-z.ensures c.quads-quads.ensures.0 c.plan_of-t.ensures in
-    let P = planned A C in
-    let R = P.room in
-    placed _ _ _ _ _ (faces_held c.put_tables.ensures) P.spots (omega (arith, R)) (omega (arith, (roomy A C).textures, c.put_tables.ensures.len))
+    omega (arith, (roomy A C).textures, c.put_tables.ensures.len)
 
 pub build-requires : goal.build-requires
 build-requires c =

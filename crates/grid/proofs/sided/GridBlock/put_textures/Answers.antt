@@ -1,25 +1,38 @@
-use Rattle.grid.specs.Textures.{grid_texture}
-use Rattle.lists.proofs.Keep.{kept_at}
-use Rattle.lists.proofs.Pieces.{pieces_none, pieces_more, pieces_kept}
+use Rattle.lists.proofs.Numbers.{piece_room}
+use Rattle.lists.proofs.Pieces.{pieces_none, pieces_more, pieces_all}
+use Rattle.lists.specs.Parts.{spliced}
+use Rattle.mesh.specs.Grid.{x_dimension, z_dimension}
 use Rattle.mesh.specs.Words.{words2}
-use Rattle.tables.specs.Soups.{point_in}
-use mathlib.Core.Path.{◌∙◌, ap, refl}
-use Prim.Native.Nat.{◌+◌}
+use Rattle.grid.specs.Textures.{grid_texture}
+use Rattle.grid.proofs.Corners.{row_width, rows_are, rows_size}
+use mathlib.Core.List.{List}
+use mathlib.Core.Path.{refl, ap, ◌∙◌}
+use Prim.Native.Nat.{ℕ, ◌-◌, ◌*◌, ◌<◌}
+use lib.ListN.{length}
 use native.Mathlib.Omega.{arith}
 use Rattle.grid.proofs.sided.GridBlock.put_textures.Goals as goal
 
-pub loop-c-init : goal.loop-c-init
-loop-c-init c = pieces_none
+pub loop-j-init : goal.loop-j-init
+loop-j-init c = pieces_none
 
-pub texture_of-requires : goal.texture_of-requires
-unfolding point_in
-texture_of-requires c =
-    let q = c.wide.ensures ∙ kept_at (pieces_kept c.loop-c.invariant (omega (arith, c.requires.room))) (c.args.t.corners + c.loop-c.c) (omega (arith, c.requires.below, c.loop-c-test.true)) in rw q (c.requires.within c.loop-c.c c.loop-c-test.true)
+pub put-requires : goal.put-requires
+put-requires c =
+    let xd = x_dimension c.args.self.now.header in
+    let zd = z_dimension c.args.self.now.header in
+    let h : c.loop-j.j < zd - 1 = omega (arith, c.loop-j-test.true, c.z_dimension-zd.ensures) in
+    let r = piece_room c.args.textures (zd - 1) ((xd - 1) * 8) c.loop-j.j (length c.args.work.now) (omega (arith, c.requires, rows_size c.args.self.now.header 8)) h in
+    rw (c.x_dimension-xd.ensures, c.loop-j.invariant.size) r
 
-pub loop-c-preserved : goal.loop-c-preserved
-unfolding point_in
-loop-c-preserved c =
-    let T = c.loop-c.invariant in
-    let q = c.wide.ensures ∙ kept_at (pieces_kept T (omega (arith, c.requires.room))) (c.args.t.corners + c.loop-c.c) (omega (arith, c.requires.below, c.loop-c-test.true)) in
-    let v = c.texture_of.ensures ∙ ap (grid_texture c.args.self.now.block.now c.args.self.now.header c.args.self.now.settings) q in
-    pieces_more 2 (λ t. refl) (omega (arith, c.requires.room)) T c.loop-c-test.true (omega arith) (ap words2 v) c.put2.ensures
+pub loop-j-preserved : goal.loop-j-preserved
+loop-j-preserved c =
+    let S = c.args.self.now in
+    let xd = x_dimension S.header in
+    let f : ℕ → List ℕ = λ p. words2 (grid_texture S.block.now S.header S.settings p) in
+    let h : c.loop-j.j < z_dimension S.header - 1 = omega (arith, c.loop-j-test.true, c.z_dimension-zd.ensures) in
+    pieces_more ((xd - 1) * 8) (row_width xd f 2 (λ p. refl)) (omega (arith, c.requires, rows_size S.header 8)) c.loop-j.invariant h refl refl (rw c.x_dimension-xd.ensures at c.put.ensures)
+
+pub returns : goal.returns
+returns c =
+    let S = c.args.self.now in
+    pieces_all c.loop-j.invariant (omega (arith, c.loop-j-test.false, c.z_dimension-zd.ensures))
+    ∙ ap (spliced c.args.work.now c.args.textures) (rows_are (x_dimension S.header) (λ p. words2 (grid_texture S.block.now S.header S.settings p)) (z_dimension S.header - 1))
