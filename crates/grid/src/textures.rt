@@ -41,12 +41,7 @@ impl<'a> GridBlock<'a> {
         ensures { result ≡ grid_texture self.now.block.now self.now.header self.now.settings p.0 }
     {
         // Made here, and not held by GridBlock: points and faces ask for no coordIndex, and each clause of theirs would name the block through it.
-        let source = Source {
-            block: self.block,
-            coord: &self.block[0..0],
-            header: self.header,
-            settings: self.settings,
-        };
+        let source = Source::of(self.block, &self.block[0..0], self.header, self.settings);
         source.corner_texture(p.0, self.default_of(p))
     }
 

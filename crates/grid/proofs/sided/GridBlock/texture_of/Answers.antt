@@ -3,4 +3,6 @@ use Rattle.grid.proofs.sided.GridBlock.texture_of.Goals as goal
 
 pub returns : goal.returns
 unfolding grid_texture
-returns c = rw (c.corner_texture.ensures, c.default_of.ensures)
+returns c =
+    let S = c.of-source.ensures in
+    rw (c.corner_texture.ensures, S.0, S.1, S.2, S.3, c.default_of.ensures)
