@@ -76,7 +76,7 @@ pub fn chosen_list<'a>(own: &'a [u8], coord: &'a [u8]) -> &'a [u8]
 }
 
 // The number at place `k` of a list, or `k` itself where the list is empty. What no u32 holds is beyond every list of values.
-fn number_in(list: &[u8], k: usize) -> Option<u32>
+pub fn number_in(list: &[u8], k: usize) -> Option<u32>
     ensures { result ≡ number_in list.now k }
 {
     let n = list.len() / 4;

@@ -16,22 +16,21 @@ use faceset::list_faces;
 use mesh::Fit;
 use soups::prepare;
 use tables::{Plan, points_of, put_points};
-use texture::fit_of;
+use texture::{Source, fit_of};
 
 // All tables but that of texture. Not one with primitiveshape's, for the reason that stands there.
 // The room in the floats stays a clause, as in soups: they are lent to be written.
 pub fn put_tables(b: &SetBlock<'_>, shared: Shared, t: Plan, work: &mut [u32], floats: &mut [f32])
-    requires { Planned (point_count b.now.source.header) b.now.source.coord.now (length work.old) t × (3 * t.count + 6 * t.faces ≤ length floats.old) }
-    ensures { Tabled (entries (list_bytes b.now.source.block.now b.now.source.header 0)) (face_set_listings b.now.source.block.now b.now.source.header) shared b.now.source.settings.crease t
+    requires { Planned (point_count b.now.header) b.now.coord.now (length work.old) t × (3 * t.count + 6 * t.faces ≤ length floats.old) }
+    ensures { Tabled (entries (list_bytes b.now.block.now b.now.header 0)) (face_set_listings b.now.block.now b.now.header) shared b.now.settings.crease t
         work.old work.new floats.old floats.new }
 {
-    let source = b.source;
-    let h = source.header;
-    let s = source.settings;
+    let h = b.header;
+    let s = b.settings;
     let counts = h.counts;
-    let list = list_part(source.block, h, 0);
+    let list = list_part(b.block, h, 0);
     put_points(list, work, t.points, 3 * t.spots);
-    list_faces(source.coord, counts[0], work, t);
+    list_faces(b.coord, counts[0], work, t);
     let supplied = shared.attributes.normals.is_some();
     prepare(work, t, supplied, shared.ccw, s.crease, floats);
 }
@@ -51,14 +50,14 @@ fn fit_in(work: &[u32], t: Plan, h: Header) -> Fit
 // The textures stand behind the owners: a method of Plan for that place would ask that the sum fits, which each of its three callers would have to show, and
 // no clause would be shorter.
 pub fn texture_where(b: &SetBlock<'_>, shared: Shared, t: Plan, work: &mut [u32])
-    requires { Placed b.now.source.block.now b.now.source.header t work.old }
-    ensures { TexturesAt shared (face_set_texture b.now.source.block.now b.now.source.header b.now.source.settings) t work.old work.new }
+    requires { Placed b.now.block.now b.now.header t work.old }
+    ensures { TexturesAt shared (face_set_texture b.now.block.now b.now.header b.now.settings) t work.old work.new }
 {
     let widths = shared.widths;
     if widths.texture == 0 {
         return;
     }
-    let source = b.source;
-    let fit = fit_in(work, t, source.header);
+    let source = Source::of(b.block, b.coord, b.header, b.settings);
+    let fit = fit_in(work, t, b.header);
     source.put_textures(fit, work, t, t.owners + t.count);
 }

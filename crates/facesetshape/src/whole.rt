@@ -15,7 +15,6 @@ use lent::{Buffers, Counts};
 use shaping::listed_shared;
 use sizes::{AcceptedBlock, Sizes};
 use tables::plan_of;
-use texture::Source;
 
 // The mesh of an accepted face set of the sizes z, into the six slices; the working slices are left with zeros.
 pub fn make_face_set(
@@ -34,13 +33,12 @@ pub fn make_face_set(
     let t = plan_of(z.points, z.corners, z.faces, 0);
     let shared = listed_shared(header, missing, header.convex);
     let coord = list_part(block, header, 1);
-    let source = Source {
+    let set = SetBlock {
         block,
         coord,
         header,
         settings: a.settings,
     };
-    let set = SetBlock { source };
     put_tables(&set, shared, t, b.words, b.floats);
     texture_where(&set, shared, t, b.words);
     build(block, coord, shared, t, b)

@@ -93,12 +93,7 @@ impl<'a> GridBlock<'a> {
         let xd = self.x_dimension();
         let zd = self.z_dimension();
         // Made here, and not held by GridBlock: points and faces ask for no coordIndex, and each clause of theirs would name the block through it.
-        let source = Source {
-            block: self.block,
-            coord: &self.block[0..0],
-            header: self.header,
-            settings: self.settings,
-        };
+        let source = Source::of(self.block, &self.block[0..0], self.header, self.settings);
         let w = (xd - 1) * 8;
         for j in 0..zd - 1 {
             let row = Row {

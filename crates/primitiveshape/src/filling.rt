@@ -25,17 +25,16 @@ pub fn put_tables(
     work: &mut [u32],
     floats: &mut [f32],
 )
-    requires { Planned (point_count b.now.source.header) g b.now.source.coord.now (length work.old) t × (3 * t.count + 6 * t.faces ≤ length floats.old) }
-    ensures { Tabled (entries (list_bytes b.now.source.block.now b.now.source.header 0)) (listings_in g b.now.source.block.now b.now.source.header) shared b.now.source.settings.crease t
+    requires { Planned (point_count b.now.header) g b.now.coord.now (length work.old) t × (3 * t.count + 6 * t.faces ≤ length floats.old) }
+    ensures { Tabled (entries (list_bytes b.now.block.now b.now.header 0)) (listings_in g b.now.block.now b.now.header) shared b.now.settings.crease t
         work.old work.new floats.old floats.new }
 {
-    let source = b.source;
-    let h = source.header;
-    let s = source.settings;
+    let h = b.header;
+    let s = b.settings;
     let counts = h.counts;
-    let list = list_part(source.block, h, 0);
+    let list = list_part(b.block, h, 0);
     put_points(list, work, t.points, 3 * t.spots);
-    list_primitives(source.coord, counts[0], g, work, t);
+    list_primitives(b.coord, counts[0], g, work, t);
     let supplied = shared.attributes.normals.is_some();
     prepare(work, t, supplied, shared.ccw, s.crease, floats);
 }

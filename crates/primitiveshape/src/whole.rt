@@ -15,7 +15,6 @@ use lent::{Buffers, Counts};
 use shaping::listed_shared;
 use sizes::{AcceptedBlock, Sizes};
 use tables::plan_of;
-use texture::Source;
 
 // The mesh of an accepted set of primitives of the sizes z, into the six slices; the working slices are left with zeros. A quad is split as a fan, whatever the
 // convex bit says.
@@ -37,13 +36,12 @@ pub fn make_primitives(
     let t = plan_of(z.points, z.corners, z.faces, 0);
     let shared = listed_shared(header, missing, true);
     let coord = list_part(block, header, 1);
-    let source = Source {
+    let set = SetBlock {
         block,
         coord,
         header,
         settings: a.settings,
     };
-    let set = SetBlock { source };
     put_tables(&set, g, shared, t, b.words, b.floats);
     texture_where(&set, shared, t, b.words);
     build(block, coord, shared, t, b)

@@ -29,8 +29,7 @@ impl<'a> Source<'a> {
         requires { (p.0 < t.spots) × (t.points + 3 * t.spots ≤ length work.now) }
         ensures { result ≡ texture_in self.now.block.now self.now.coord.now self.now.header self.now.settings place (default_at (points_in work.now t) fit p.0) }
     {
-        let h = self.header;
-        if h.texture_points {
+        if self.header.texture_points {
             return self.corner_texture(place, NO_TEXTURE);
         }
         self.corner_texture(place, default_at(points_of(work, &t), fit, p))

@@ -10,5 +10,5 @@ pub returns : goal.returns
 returns c =
     let P = c.requires.0 in
     let L = c.args.b.now.lists in
-    tabled P.room (points_copied _ c.args.b.now.source.header c.list_part-list.ensures _ P.room P.spots L.room L.whole c.put_points.ensures) c.list_faces.ensures.beside
+    tabled P.room (points_copied _ c.args.b.now.header c.list_part-list.ensures _ P.room P.spots L.room L.whole c.put_points.ensures) c.list_faces.ensures.beside
     (rw (← L.coord_is) c.list_faces.ensures.listed) (rw c.is_some-supplied.ensures at c.prepare.ensures) c.prepare.auto.floats

@@ -21,15 +21,16 @@ put-requires c =
     let zd = z_dimension c.args.self.now.header in
     let h : c.loop-j.j < zd - 1 = omega (arith, c.loop-j-test.true, c.z_dimension-zd.ensures) in
     let r = piece_room c.args.textures (zd - 1) ((xd - 1) * 8) c.loop-j.j (length c.args.work.now) (omega (arith, c.requires, rows_size c.args.self.now.header 8)) h in
-    rw (c.x_dimension-xd.ensures, c.loop-j.invariant.size) r
+    rw (c.of-source.ensures.2, c.x_dimension-xd.ensures, c.loop-j.invariant.size) r
 
 pub loop-j-preserved : goal.loop-j-preserved
 loop-j-preserved c =
     let S = c.args.self.now in
+    let O = c.of-source.ensures in
     let xd = x_dimension S.header in
     let f : ℕ → List ℕ = λ p. words2 (grid_texture S.block.now S.header S.settings p) in
     let h : c.loop-j.j < z_dimension S.header - 1 = omega (arith, c.loop-j-test.true, c.z_dimension-zd.ensures) in
-    pieces_more ((xd - 1) * 8) (row_width xd f 2 (λ p. refl)) (omega (arith, c.requires, rows_size S.header 8)) c.loop-j.invariant h refl refl (rw c.x_dimension-xd.ensures at c.put.ensures)
+    pieces_more ((xd - 1) * 8) (row_width xd f 2 (λ p. refl)) (omega (arith, c.requires, rows_size S.header 8)) c.loop-j.invariant h refl refl (rw (O.0, O.2, O.3, c.x_dimension-xd.ensures) at c.put.ensures)
 
 pub returns : goal.returns
 returns c =

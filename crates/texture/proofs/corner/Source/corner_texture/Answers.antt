@@ -1,15 +1,18 @@
+use Rattle.block.specs.Stream.{stream_of, number_at}
 use Rattle.block.specs.Texture.{uv_words}
 use Rattle.texture.specs.Corner.{texture_in}
 use Rattle.texture.proofs.corner.Source.corner_texture.Goals as goal
 
-pub returns-then-h : goal.returns-then-h
-unfolding texture_in uv_words
-returns-then-h c = rw (c.uv.ensures, c.then_some-x.ensures, c.get-listed.ensures, c.texture_stream.ensures, c.if-h.true)
+pub returns-then-self : goal.returns-then-self
+unfolding texture_in uv_words number_at stream_of
+returns-then-self c =
+    let S = c.args.self.now in
+    rw (c.uv.ensures, c.value_or.ensures, c.number_in-found.ensures, S.transform_is, S.numbers_are, S.values_are, c.if-self.true)
 
-pub returns-then-h-2 : goal.returns-then-h-2
+pub returns-then-self-2 : goal.returns-then-self-2
 unfolding texture_in uv_words
-returns-then-h-2 c = rw (c.uv-then-h-2.ensures, c.then_some-x.ensures, c.if-h-2.true, c.if-h.false)
+returns-then-self-2 c = rw (c.uv-then-self-2.ensures, c.args.self.now.transform_is, c.if-self-2.true, c.if-self.false)
 
 pub returns : goal.returns
 unfolding texture_in
-returns c = rw (c.if-h-2.false, c.if-h.false)
+returns c = rw (c.if-self-2.false, c.if-self.false)
