@@ -1,14 +1,14 @@
 -- FORMAT 8.3, elevation_grid (quad): the corners as they are put, row by row and quad by quad.
 use mathlib.Core.Path.{◌≡◌, refl, sym, ap, ◌∙◌}
 use mathlib.Core.List.{List, [], ◌++◌}
-use Prim.Native.Nat.{ℕ, suc, ◌+◌, ◌-◌, ◌*◌, ◌<◌}
+use Prim.Native.Nat.{ℕ, suc, ◌+◌, ◌-◌, ◌*◌, ◌≤◌, ◌<◌}
 use native.Mathlib.Nat.{mul_comm, mul_assoc}
 use native.Mathlib.Omega.{arith}
 use lib.ListN.{length, get_or}
 use Rattle.block.specs.declared.header.Header.{Header}
 use Rattle.lists.specs.Lists.{flat}
 use Rattle.lists.specs.Loops.{tab}
-use Rattle.lists.proofs.Numbers.{column_of, row_of, rows_of}
+use Rattle.lists.proofs.Numbers.{column_of, row_of, rows_of, piece_room}
 use Rattle.lists.proofs.Pieces.{flat_rows_of, flat_rows_all, length_from}
 use Rattle.mesh.specs.Quads.{quad}
 use Rattle.mesh.specs.Grid.{x_dimension, z_dimension}
@@ -60,6 +60,10 @@ module _ (xd : ℕ) where
       unfolding quad_row
       row_width j = length_from of_corner w (λ c. h (corner_point xd c)) ((xd - 1) * 4) (j * ((xd - 1) * 4)) ∙ mul_assoc (xd - 1) 4 w
 
--- the words of all rows, w words a quad
-pub rows_size : (h : Header) (w : ℕ) → (z_dimension h - 1) * ((x_dimension h - 1) * w) ≡ w * quad_count h
-rows_size h w = rows_of (z_dimension h - 1) (x_dimension h - 1) w ∙ ap (λ (k : ℕ). w * k) (mul_comm (z_dimension h - 1) (x_dimension h - 1))
+-- the room of all rows, w words a quad, and of each
+module _ (h : Header) (k len w : ℕ) (r : k + w * quad_count h ≤ len) where
+  pub rows_room : k + (z_dimension h - 1) * ((x_dimension h - 1) * w) ≤ len
+  rows_room = omega (arith, r, rows_of (z_dimension h - 1) (x_dimension h - 1) w, ap (λ (n : ℕ). w * n) (mul_comm (z_dimension h - 1) (x_dimension h - 1)))
+
+  pub row_room : (j : ℕ) → j < z_dimension h - 1 → k + j * ((x_dimension h - 1) * w) + (x_dimension h - 1) * w ≤ len
+  row_room j b = piece_room k (z_dimension h - 1) ((x_dimension h - 1) * w) j len rows_room b

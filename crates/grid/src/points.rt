@@ -21,7 +21,7 @@ fn step_word(spacing: f32, n: usize) -> u32
 }
 
 impl<'a> GridBlock<'a> {
-    // The words of the points of row j from place k on, with their heights copied. No point is divided into its column and row.
+    // The words of the points of row j from place k on, with their heights copied. By row and column, so that none is divided into these.
     // Not parts' `put_words`, a row a point: grid does not stand on parts, which is of the solids. `put_each` would make each point three times.
     fn put_point_row(&self, heights: &[u8], work: &mut [u32], k: usize, j: usize)
         requires { (j < z_dimension self.now.header) × (x_dimension self.now.header * z_dimension self.now.header ≤ length (entries heights.now))

@@ -30,7 +30,7 @@ impl<'a> GridBlock<'a> {
         );
     }
 
-    // The points of the quads of row j.
+    // The points of the quads of row j, from place k on.
     fn put_corner_row(&self, work: &mut [u32], k: usize, j: usize)
         requires { (j + 1 < z_dimension self.now.header) × (k + (x_dimension self.now.header - 1) * 4 ≤ length work.old) }
         ensures { work.new ≡ spliced work.old k (quad_row (λ (p : ℕ). p ∷ []) (x_dimension self.now.header) j) }
@@ -40,7 +40,7 @@ impl<'a> GridBlock<'a> {
         }
     }
 
-    // The points of all corners.
+    // The points of all corners, from place k on.
     fn put_corners(&self, work: &mut [u32], k: usize)
         requires { k + 4 * quad_count self.now.header ≤ length work.old }
         ensures { work.new ≡ spliced work.old k (tab (corner_point (x_dimension self.now.header)) (4 * quad_count self.now.header) 0) }

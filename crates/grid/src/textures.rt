@@ -23,31 +23,32 @@ fn part_word(i: usize, n: usize) -> u32
     math::bits_of(math::whole_float(i) / math::whole_float(n - 1))
 }
 
-// The textures of the two points of a column, in a row and in the next.
+// The textures of the two points of a column: in a row of points, and in the next.
 #[derive(Clone, Copy)]
 struct Edge {
     near: Words2,
     far: Words2,
 }
 
-// The quads of row j: what their texture is read from, the width, and the default t of the row of points before them and of the one behind.
+// The quads of row j: what their texture is read from, how many points a row has, and the default t of the row of points before the quads and of the one
+// behind.
 #[derive(Clone, Copy)]
 struct Row<'a> {
     source: Source<'a>,
     xd: usize,
     j: usize,
-    near: u32,
-    far: u32,
+    near_t: u32,
+    far_t: u32,
     ghost sides: { Sides source.header },
     ghost plain: { source.coord.now ≡ [] },
     ghost within: { j + 1 < z_dimension source.header },
     ghost width: { xd ≡ x_dimension source.header },
-    ghost before: { near ≡ part_word j (z_dimension source.header) },
-    ghost behind: { far ≡ part_word (j + 1) (z_dimension source.header) },
+    ghost before: { near_t ≡ part_word j (z_dimension source.header) },
+    ghost behind: { far_t ≡ part_word (j + 1) (z_dimension source.header) },
 }
 
 impl<'a> Row<'a> {
-    // A point's number serves as its place.
+    // At the two points of column i. A point's number serves as its place.
     fn edge(&self, i: usize) -> Edge
         requires { i < x_dimension self.now.source.header }
         ensures near { result.near ≡ texture_at self.now.source.block.now self.now.source.header self.now.source.settings i self.now.j }
@@ -56,15 +57,15 @@ impl<'a> Row<'a> {
         let xd = self.xd;
         let s = part_word(i, xd);
         let p = self.j * xd + i;
-        let near = Words2 { s, t: self.near };
-        let far = Words2 { s, t: self.far };
+        let near = Words2 { s, t: self.near_t };
+        let far = Words2 { s, t: self.far_t };
         Edge {
             near: self.source.corner_texture(p, near),
             far: self.source.corner_texture(p + xd, far),
         }
     }
 
-    // Two quads beside each other share an edge.
+    // Of all its corners, from place k on. Two quads beside each other share an edge, which is made once.
     fn put(&self, work: &mut [u32], k: usize)
         requires { k + (x_dimension self.now.source.header - 1) * 8 ≤ length work.old }
         ensures { work.new ≡ spliced work.old k
@@ -84,7 +85,7 @@ impl<'a> Row<'a> {
 }
 
 impl<'a> GridBlock<'a> {
-    // The textures of all corners, from place `textures` on. There is no coordIndex.
+    // The textures of all corners, from place `textures` on. There is no coordIndex, and the corners' points are known without their table.
     pub fn put_textures(&self, work: &mut [u32], textures: usize)
         requires { textures + 2 * (4 * quad_count self.now.header) ≤ length work.old }
         ensures { work.new ≡ spliced work.old textures
@@ -100,8 +101,8 @@ impl<'a> GridBlock<'a> {
                 source,
                 xd,
                 j,
-                near: part_word(j, zd),
-                far: part_word(j + 1, zd),
+                near_t: part_word(j, zd),
+                far_t: part_word(j + 1, zd),
             };
             row.put(work, textures + j * w);
         }

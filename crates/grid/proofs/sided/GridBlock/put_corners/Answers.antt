@@ -1,10 +1,9 @@
-use Rattle.lists.proofs.Numbers.{piece_room}
 use Rattle.lists.proofs.Pieces.{pieces_none, pieces_more, pieces_all, flat_ones}
 use Rattle.lists.specs.Parts.{spliced}
 use Rattle.mesh.specs.Grid.{x_dimension, z_dimension}
 use Rattle.mesh.specs.Sizes.{quad_count}
 use Rattle.grid.specs.Listings.{corner_point}
-use Rattle.grid.proofs.Corners.{row_width, rows_are, rows_size}
+use Rattle.grid.proofs.Corners.{row_width, rows_are, rows_room, row_room}
 use mathlib.Core.List.{[], ◌∷◌}
 use mathlib.Core.Path.{refl, ap, ◌∙◌}
 use Prim.Native.Nat.{ℕ, ◌-◌, ◌*◌, ◌<◌}
@@ -17,17 +16,14 @@ loop-j-init c = pieces_none
 
 pub put_corner_row-requires : goal.put_corner_row-requires
 put_corner_row-requires c =
-    let xd = x_dimension c.args.self.now.header in
-    let zd = z_dimension c.args.self.now.header in
-    let h : c.loop-j.j < zd - 1 = omega (arith, c.loop-j-test.true, c.z_dimension-j-end.ensures) in
-    let r = piece_room c.args.k (zd - 1) ((xd - 1) * 4) c.loop-j.j (length c.args.work.now) (omega (arith, c.requires, rows_size c.args.self.now.header 4)) h in
-    (omega arith, rw (c.x_dimension.ensures, c.loop-j.invariant.size) r)
+    let h : c.loop-j.j < z_dimension c.args.self.now.header - 1 = omega (arith, c.loop-j-test.true, c.z_dimension-j-end.ensures) in
+    (omega arith, rw (c.x_dimension.ensures, c.loop-j.invariant.size) (row_room c.args.self.now.header c.args.k (length c.args.work.now) 4 c.requires c.loop-j.j h))
 
 pub loop-j-preserved : goal.loop-j-preserved
 loop-j-preserved c =
     let xd = x_dimension c.args.self.now.header in
     let h : c.loop-j.j < z_dimension c.args.self.now.header - 1 = omega (arith, c.loop-j-test.true, c.z_dimension-j-end.ensures) in
-    pieces_more ((xd - 1) * 4) (row_width xd (λ (p : ℕ). p ∷ []) 1 (λ p. refl)) (omega (arith, c.requires, rows_size c.args.self.now.header 4)) c.loop-j.invariant h refl refl (rw c.x_dimension.ensures at c.put_corner_row.ensures)
+    pieces_more ((xd - 1) * 4) (row_width xd (λ (p : ℕ). p ∷ []) 1 (λ p. refl)) (rows_room c.args.self.now.header c.args.k (length c.args.work.now) 4 c.requires) c.loop-j.invariant h refl refl (rw c.x_dimension.ensures at c.put_corner_row.ensures)
 
 pub returns : goal.returns
 returns c =
