@@ -1,5 +1,5 @@
 // FORMAT 12.3, ear_clip: whether a corner is an ear. What an earlier search found is kept: a corner is looked at anew only where its neighbours changed.
-ghost use Rattle.std.specs.Prelude.{◌≡◌, false, ◌&&◌, [], ◌∷◌, ℕ, ◌+◌, ◌-◌, ◌*◌, ◌%◌, ◌^◌, ◌≤◌, ◌<◌, eqb, length, get_or, set};
+ghost use Rattle.std.specs.Prelude.{◌≡◌, false, not, ◌&&◌, [], ◌∷◌, ℕ, ◌+◌, ◌-◌, ◌*◌, ◌%◌, ◌^◌, ◌≤◌, ◌<◌, eqb, length, get_or, set};
 ghost use Rattle.std.specs.Float.{nan};
 ghost use Rattle.std.proofs.lemmas.List.Edits.{sets};
 ghost use Rattle.std.specs.Float.Ieee.{le};
@@ -58,6 +58,13 @@ fn in_tri(p: Dot, t: Triangle) -> bool
     ensures { result ≡ point_in_tri (spot_of p) (spot_of t.a) (spot_of t.b) (spot_of t.c) }
 {
     cross(t.a, t.b, p) >= 0.0 && cross(t.b, t.c, p) >= 0.0 && cross(t.c, t.a, p) >= 0.0
+}
+
+// Whether b is an ear between a and c, where d alone is left beside them.
+pub fn is_ear_beside(a: Dot, b: Dot, c: Dot, d: Dot) -> bool
+    ensures { result ≡ (not (le (cross2 (spot_of a) (spot_of b) (spot_of c)) +0) && not (point_in_tri (spot_of d) (spot_of a) (spot_of b) (spot_of c))) }
+{
+    !(cross(a, b, c) <= 0.0) && !in_tri(d, Triangle { a, b, c })
 }
 
 fn is_bent(p: &[f32], q: Corner) -> bool
@@ -248,7 +255,7 @@ fn place_before(m: usize, i: usize) -> usize
     i - 1
 }
 
-fn place_after(m: usize, i: usize) -> usize
+pub fn place_after(m: usize, i: usize) -> usize
     requires { i < m }
     ensures { result ≡ (i + 1) % m }
 {
