@@ -61,6 +61,18 @@ module _ (f : ℕ → Bool) where
       ∙ sym (first_go f n k (omega arith) (h k (omega arith)))
       ∙ first_from n k (λ (j : ℕ) (q : j < k). h j (omega arith)) (omega arith)
 
+-- a search by a test that is another's from a later number on
+pub first_later : (f g : ℕ → Bool) (a n i j : ℕ) → a + i ≡ j → ((k : ℕ) → i ≤ k → k < i + n → g k ≡ f (a + k)) → a + first g n i ≡ first f n j
+unfolding first
+first_later f g a zero i j e s = e
+first_later f g a (suc n) i j e s =
+    go (g i) e (first_later f g a n (suc i) (suc j) (omega arith) (λ k l h. s k (omega arith) (omega arith)))
+    ∙ ap (λ (b : Bool). pick b j (first f n (suc j))) (s i (le_refl i) (omega arith) ∙ ap f e)
+  where
+    go : (b : Bool) → a + i ≡ j → a + first g n (suc i) ≡ first f n (suc j) → a + pick b i (first g n (suc i)) ≡ pick b j (first f n (suc j))
+    go true e r = e
+    go false e r = r
+
 -- ---- block by block: a block that has no hit is passed, and the first hit of a block is the first of all
 
 module _ (f : ℕ → Bool) where

@@ -86,9 +86,9 @@ pub no_and : (a : Bool) {b : Bool} → b ≡ false → (a && b) ≡ false
 no_and true e = e
 no_and false e = refl
 
-pub and_far : (q x y z u t : Bool) → (q && t) ≡ false → (q && (x && (y && (z && (u && t))))) ≡ false
-and_far false x y z u t e = refl
-and_far true x y z u t e = no_and x (no_and y (no_and z (no_and u e)))
+pub and_past : (q u t : Bool) → (q && t) ≡ false → (q && (u && t)) ≡ false
+and_past false u t e = refl
+and_past true u t e = no_and u e
 
 pub eqb_other : (x y : ℕ) → eqb x y ≡ false → eqb y x ≡ false
 eqb_other x y e = ne_eqb y x (λ (q : y ≡ x). eqb-false x y e (sym q))

@@ -1,46 +1,59 @@
--- Searches: a corner that is not near is in no one's way, and what a search gives.
-use Prim.Native.Nat.{ℕ, ◌-◌, ◌≤◌, ◌<◌}
+-- Searches: whether a corner lies in the triangle, and what a search gives.
+use Prim.Native.Nat.{ℕ, ◌+◌, ◌-◌, ◌≤◌, ◌<◌}
+use native.Mathlib.Nat.{sub-zero}
 use native.Mathlib.Omega.{arith}
 use borrow.Author.Tests.{lt-ltb, le-ltb, ltb-true, ltb-false}
 use mathlib.Core.Path.{◌≡◌, refl, sym, ap, ◌∙◌}
-use mathlib.Core.Bool.{Bool, true, false, not, ◌&&◌}
+use mathlib.Core.Bool.{Bool, true, false, ◌&&◌}
 use mathlib.Core.List.{List}
 use lib.ListN.{get_or}
-use mathlib.Core.Logic.{⊎_elim}
 use Rattle.std.specs.Option.{MatchOption}
-use Rattle.lists.proofs.Loops.{first_stop, first_end}
-use Rattle.lists.proofs.Numbers.{le_or_lt}
-use Rattle.lists.proofs.Searches.{past_to, none_to}
+use Rattle.lists.proofs.Loops.{first_stop}
+use Rattle.lists.proofs.Searches.{past_to, none_to, first_from, first_below, first_later, block_hit}
 use lib.Dec.{eqb, ltb}
 use Rattle.std.specs.Prelude.{Option, Some, None, unwrap_or}
-use lib.Ieee.{Float, le}
-use Rattle.lists.proofs.Tests.{and_far}
-use Rattle.polygon.specs.Ears.{Pt, +0, cross2, point_in_tri, blocks}
+use lib.Ieee.{Float, nan, le}
+use Rattle.lists.proofs.Tests.{and_past}
+use Rattle.polygon.specs.Ears.{Pt, +0, cross2, point_in_tri}
 use Rattle.lists.specs.Loops.{pick, first}
-use Rattle.polygon.specs.Memo.{dot_of, spot_of, in_way, hits, found}
+use Rattle.polygon.specs.Memo.{spot_of, inside, hits, found}
 use Rattle.polygon.specs.declared.memo.Dot.{Dot}
 
--- ---- a corner that is not near is in no one's way
+-- ---- whether a corner lies in the triangle
 
 pub not_left : (left : List ℕ) (g : ℕ → Bool) (j v : ℕ) → v ≡ get_or left j 0 → eqb v 1 ≡ false → hits left g j ≡ false
 unfolding hits
 not_left left g j v ev e = ap (λ (b : Bool). b && g j) (sym (ap (λ (n : ℕ). eqb n 1) ev) ∙ e)
 
-pub not_in_way : (P : ℕ → Pt) (left : List ℕ) (a b c : Dot) (j v : ℕ) (q : Pt) (u w : Float) → v ≡ get_or left j 0 → q ≡ P j
-    → u ≡ cross2 (spot_of b) (spot_of c) q → w ≡ cross2 (spot_of c) (spot_of a) q → (eqb v 1 && (le +0 u && le +0 w)) ≡ false → hits left (λ i. in_way (dot_of P i) a b c) j ≡ false
-unfolding hits in_way point_in_tri
-not_in_way P left a b c j v q u w ev eq eu ew e =
-    let bc = eu ∙ ap (cross2 (spot_of b) (spot_of c)) eq in
-    let ca = ew ∙ ap (cross2 (spot_of c) (spot_of a)) eq in
-    and_far (eqb (get_or left j 0) 1) (not (eqb j a.j)) (not (eqb j b.j)) (not (eqb j c.j)) (le +0 (cross2 (spot_of a) (spot_of b) (P j)))
-    (le +0 (cross2 (spot_of b) (spot_of c) (P j)) && le +0 (cross2 (spot_of c) (spot_of a) (P j)))
-    (sym (λ i. eqb (ev i) 1 && (le +0 (bc i) && le +0 (ca i))) ∙ e)
+-- the flag, the point and the sides as they were read
+module _ (P : ℕ → Pt) (left : List ℕ) (a b c : Dot) (j v : ℕ) (q : Pt) (u w : Float) (ev : v ≡ get_or left j 0) (eq : q ≡ P j)
+    (eu : u ≡ cross2 (spot_of b) (spot_of c) q) (ew : w ≡ cross2 (spot_of c) (spot_of a) q) where
+  bc : u ≡ cross2 (spot_of b) (spot_of c) (P j)
+  bc = eu ∙ ap (cross2 (spot_of b) (spot_of c)) eq
 
--- the triangle of the dots is that of the corners
-pub first_read : (P : ℕ → Pt) (left : List ℕ) (a b c : ℕ) (da db dc : Dot) → da ≡ dot_of P a → db ≡ dot_of P b → dc ≡ dot_of P c
-    → (d k : ℕ) → first (hits left (λ j. in_way (dot_of P j) da db dc)) d k ≡ first (hits left (blocks P a b c)) d k
-unfolding in_way blocks
-first_read P left a b c da db dc ea eb ec d k = λ i. first (hits left (λ j. in_way (dot_of P j) (ea i) (eb i) (ec i))) d k
+  ca : w ≡ cross2 (spot_of c) (spot_of a) (P j)
+  ca = ew ∙ ap (cross2 (spot_of c) (spot_of a)) eq
+
+  pub not_near : (eqb v 1 && (le +0 u && le +0 w)) ≡ false → hits left (inside P a b c) j ≡ false
+  unfolding hits point_in_tri
+  not_near e = and_past (eqb (get_or left j 0) 1) (le +0 (cross2 (spot_of a) (spot_of b) (P j))) _ (sym (λ i. eqb (ev i) 1 && (le +0 (bc i) && le +0 (ca i))) ∙ e)
+
+  pub lanes_hit : (z : Float) → z ≡ cross2 (spot_of a) (spot_of b) q → (eqb v 1 && (le +0 z && (le +0 u && le +0 w))) ≡ hits left (inside P a b c) j
+  unfolding hits point_in_tri
+  lanes_hit z ez = let ab = ez ∙ ap (cross2 (spot_of a) (spot_of b)) eq in λ i. eqb (ev i) 1 && (le +0 (ab i) && (le +0 (bc i) && le +0 (ca i)))
+
+-- sixteen of them from a later one on, as they were read
+pub block_read : (P : ℕ → Pt) (left fs : List ℕ) (a b c : Dot) (from r : ℕ) (x y ab bc ca : List Float) → ((k : ℕ) → k < 16 → get_or fs k 0 ≡ get_or left (from + k) 0)
+    → ((k : ℕ) → k < 16 → (get_or x k nan, get_or y k nan) ≡ P (from + k))
+    → ((k : ℕ) → k < 16 → get_or ab k nan ≡ cross2 (spot_of a) (spot_of b) (get_or x k nan, get_or y k nan))
+    → ((k : ℕ) → k < 16 → get_or bc k nan ≡ cross2 (spot_of b) (spot_of c) (get_or x k nan, get_or y k nan))
+    → ((k : ℕ) → k < 16 → get_or ca k nan ≡ cross2 (spot_of c) (spot_of a) (get_or x k nan, get_or y k nan))
+    → r ≡ first (λ k. eqb (get_or fs k 0) 1 && (le +0 (get_or ab k nan) && (le +0 (get_or bc k nan) && le +0 (get_or ca k nan)))) 16 0
+    → from + r ≡ first (hits left (inside P a b c)) 16 from
+block_read P left fs a b c from r x y ab bc ca ef ep eab ebc eca e =
+    ap (λ n. from + n) e
+    ∙ first_later (hits left (inside P a b c)) _ from 16 0 from (omega arith)
+    (λ k _ l. lanes_hit P left a b c (from + k) (get_or fs k 0) _ _ _ (ef k l) (ep k l) (ebc k l) (eca k l) _ (eab k l))
 
 -- ---- what a search gives
 
@@ -69,13 +82,37 @@ module _ (n k : ℕ) where
       go true q r = let z : ⊥ = cc in absurd z
       go false q r = ltb-false k n q
 
--- what a search of a range by its numbers gives
-pub found_by : (f : ℕ → Bool) (a b : ℕ) (r : Option ℕ)
+-- what a search of a range by its numbers gives, where none before the range passes
+pub found_by : (f : ℕ → Bool) (a b : ℕ) (r : Option ℕ) → a ≤ b → ((j : ℕ) → j < a → f j ≡ false)
     → MatchOption r ((k : ℕ) → a ≤ k → k < b → f k ≡ false) (λ i. (a ≤ i) × (i < b) × (f i ≡ true) × ((k : ℕ) → a ≤ k → k < i → f k ≡ false))
-    → r ≡ found b (first f (b - a) a)
-found_by f a b None free =
-    ⊎_elim (λ (h : a ≤ b). let e = none_to f a b h free in found_none b _ (omega (arith, e)))
-    (λ (h : b < a). let e = first_end f b a (omega arith) in found_none b _ (omega (arith, e))) (le_or_lt a b)
-found_by f a b (Some i) (l, m, t, free) =
-    let e : i ≡ first f (b - a) a = sym (past_to f b a i l (omega arith) free ∙ first_stop f b i m t) in
+    → r ≡ found b (first f b 0)
+found_by f a b None h clear free = let e = none_to f a b h free ∙ first_from f b a clear h in found_none b _ (omega (arith, e))
+found_by f a b (Some i) h clear (l, m, t, free) =
+    let e : i ≡ first f b 0 = sym (sym (first_from f b a clear h) ∙ past_to f b a i l (omega arith) free ∙ first_stop f b i m t) in
     found_some b _ i e m
+
+-- ---- block by block
+
+module _ (f : ℕ → Bool) (n : ℕ) where
+  none_of : ((j : ℕ) → j < n → f j ≡ false) → n ≡ first f n 0
+  none_of free = none_to f 0 n (omega arith) (λ j _ l. free j l) ∙ ap (λ m. first f m 0) (sub-zero n)
+
+  pub none_here : ((j : ℕ) → j < n → f j ≡ false) → None ≡ found n (first f n 0)
+  none_here free = found_none n _ (omega (arith, none_of free))
+
+  -- of the last sixteen
+  pub last_block : 16 ≤ n → ((j : ℕ) → j < n - 16 → f j ≡ false) → found (n - 16 + 16) (first f 16 (n - 16)) ≡ found n (first f n 0)
+  last_block h clear =
+      let e : n - 16 + 16 ≡ n = omega arith in
+      let d : 16 ≡ n - (n - 16) = omega arith in
+      (λ i. found (e i) (first f (d i) (n - 16))) ∙ ap (found n) (first_from f n (n - 16) clear (omega arith))
+
+  -- the first among the numbers up to e, where there is one and where there is none
+  pub first_all : (e h : ℕ) → e ≤ n → Some h ≡ found e (first f e 0) → Some h ≡ found n (first f n 0)
+  first_all e h l r =
+      let s = some_found e _ h r in
+      let z = block_hit f n 0 e h (omega arith) l (s.0 ∙ ap (λ m. first f m 0) (sym (sub-zero e))) s.1 ∙ ap (λ m. first f m 0) (sub-zero n) in
+      found_some n _ h z (omega (arith, s.1))
+
+pub clear_to : (f : ℕ → Bool) (e : ℕ) → None ≡ found e (first f e 0) → (j : ℕ) → j < e → f j ≡ false
+clear_to f e r j l = first_below f e 0 j (omega arith) (omega (arith, none_found e _ r))

@@ -14,7 +14,7 @@ use lib.Seq.{sets, get_or-set_same, get_or-set_other}
 use lib.Ieee.{le}
 use Rattle.lists.specs.Loops.{pick, any, tab, first}
 use Rattle.lists.proofs.Stores.{flag_gone}
-use Rattle.polygon.specs.Ears.{Pt, +0, cross2, blocks, is_ear, before, here, after, remove, place, order}
+use Rattle.polygon.specs.Ears.{Pt, +0, cross2, point_in_tri, blocks, is_ear, before, here, after, remove, place, order}
 use Rattle.polygon.specs.Memo.{hits, hit, Tells, Once, ear_of, Clear, Stands, Known, word, finding, Sound, entry}
 use Rattle.polygon.specs.declared.memo.Finding.{Finding}
 use Rattle.polygon.specs.declared.memo.Finding.TheVariants.{Unknown, Bent, Blocked}
@@ -69,32 +69,12 @@ unfolding hits
 hits_gone left x g j =
     sym (and_over (eqb j x) (eqb (get_or left j 0) 1) (g j)) ∙ ap (λ (b : Bool). b && g j) (sym (flag_gone left x j))
 
--- a corner that does not pass the test may as well be gone
-hits_without : (g : ℕ → Bool) (x : ℕ) → g x ≡ false → (left : List ℕ) → hits (set left x 0) g ≡ hits left g
-unfolding hits
-hits_without g x q left = fun_ext (λ j. sym (hits_gone left x g j) ∙ ap (λ (b : Bool). eqb (get_or left j 0) 1 && b) (go j (eqb j x) refl))
-  where
-    go : (j : ℕ) (b : Bool) → eqb j x ≡ b → (not b && g j) ≡ g j
-    go j true e = sym (ap g (eqb-true j x e) ∙ q)
-    go j false e = refl
-
-module _ (P : ℕ → Pt) (a b c : ℕ) where
-  own_a : blocks P a b c a ≡ false
-  unfolding blocks
-  own_a = rw (eq-eqb a a refl)
-
-  own_b : blocks P a b c b ≡ false
-  unfolding blocks
-  own_b = rw (eq-eqb b b refl) (and_no (not (eqb b a)))
-
-  own_c : blocks P a b c c ≡ false
-  unfolding blocks
-  own_c = rw (eq-eqb c c refl, and_no (not (eqb c b))) (and_no (not (eqb c a)))
-
-  -- the three corners of a triangle are in no one's way, whether they are left or not
-  pub hits_others : (left : List ℕ) → hits (set (set (set left a 0) b 0) c 0) (blocks P a b c) ≡ hits left (blocks P a b c)
-  hits_others left =
-      hits_without (blocks P a b c) c own_c (set (set left a 0) b 0) ∙ hits_without (blocks P a b c) b own_b (set left a 0) ∙ hits_without (blocks P a b c) a own_a left
+-- with the corners of a triangle put out, what is left and lies in it is what blocks it
+pub hits_others : (P : ℕ → Pt) (a b c : ℕ) (left : List ℕ) → hits (set (set (set left a 0) b 0) c 0) (λ j. point_in_tri (P j) (P a) (P b) (P c)) ≡ hits left (blocks P a b c)
+unfolding blocks
+hits_others P a b c left =
+    let g = λ (j : ℕ). point_in_tri (P j) (P a) (P b) (P c) in
+    fun_ext (λ j. sym (hits_gone (set (set left a 0) b 0) c g j) ∙ sym (hits_gone (set left a 0) b (but c g) j) ∙ sym (hits_gone left a (but b (but c g)) j))
 
 hits_less : (left : List ℕ) (x : ℕ) (g : ℕ → Bool) (j : ℕ) → hits left g j ≡ false → hits (set left x 0) g j ≡ false
 unfolding hits

@@ -3,18 +3,25 @@ use Prim.Native.Nat.{ℕ, zero, suc, ◌+◌, ◌-◌, ◌*◌, ◌%◌, ◌^◌
 use native.Mathlib.Omega.{arith}
 use mathlib.Core.Path.{◌≡◌, refl, sym, ap, ◌∙◌}
 use mathlib.Core.Bool.{Bool, true, false, not, ◌&&◌, cond}
+use mathlib.Core.Logic.{⊎_elim}
 use mathlib.Core.List.{List, [], ◌∷◌, ◌++◌, map}
 use lib.ListN.{length, get_or, replicate, take, drop}
 use lib.Dec.{eqb}
 use borrow.Author.Tests.{eqb-true}
-use Rattle.std.proofs.lemmas.Bool.{not-false}
+use Rattle.std.proofs.lemmas.Bool.{not-true, not-false}
 use lib.Ieee.{Float, nan, binary32, le, sub, mul}
 use lib.Lanes.{zip2, mask_l, top}
 use Rattle.std.specs.Int.Bits.{bit_and}
 use Rattle.std.proofs.lemmas.Grind.{elements}
-use Rattle.std.proofs.lemmas.List.{length-map, length-drop, take_all, get_or-take, get_or-drop}
-use Rattle.std.proofs.lemmas.Simd.{mask_l-mod, bitmask_splat, none_from_empty_mask}
-use mir.Syntax.{w32}
+use Rattle.std.specs.List.{prefix_len}
+use Rattle.std.proofs.lemmas.List.{length-map, length-drop, take_all, get_or-take, get_or-drop, get_or-replicate}
+use Rattle.std.proofs.lemmas.List.Sums.{prefix_len-le-length, prefix_len_passes, prefix_len_stops}
+use Rattle.std.proofs.lemmas.Simd.{mask_l-mod, length-zip2, get_or-zip2, leading_from_mask_l, trailing_mask_l}
+use lib.Count.{count_trailing_zeros}
+use Rattle.lists.specs.Loops.{first}
+use Rattle.lists.proofs.Loops.{first_stop, first_end}
+use Rattle.lists.proofs.Numbers.{le_or_lt}
+use Rattle.lists.proofs.Searches.{past_to, first_below}
 use Rattle.polygon.specs.Ears.{+0, cross2}
 use Rattle.polygon.specs.Memo.{xy}
 
@@ -74,66 +81,91 @@ cross_at ox oy ax ay (suc n) (x ∷ xs) [] ex ey k l = absurd (omega arith)
 cross_at ox oy ax ay (suc n) (x ∷ xs) (y ∷ ys) ex ey zero l = refl
 cross_at ox oy ax ay (suc n) (x ∷ xs) (y ∷ ys) ex ey (suc k) l = cross_at ox oy ax ay n xs ys (omega arith) (omega arith) k (omega arith)
 
--- ---- whether one of them is left
+-- ---- the tests that each passes
 
 -- what a test gives in a lane: all ones, or 0
 abbrev lane : Bool → ℕ
 lane b = cond b 4294967295 0
 
-no_bit : (m : ℕ) → not (eqb m 0) ≡ false → m ≡ 0
-no_bit m e = eqb-true m 0 (not-false (eqb m 0) e)
+lane_top : (b : Bool) → top 31 (lane b) ≡ b
+lane_top true = refl
+lane_top false = refl
 
-pub no_flag : (fs : List ℕ) → length fs ≡ 16 → not (eqb (mask_l (map (top 31) (zip2 (λ a b. lane (eqb a b)) fs (replicate 16 1))) % 2 ^ 64) 0) ≡ false
-    → (k : ℕ) → k < 16 → eqb (get_or fs k 0) 1 ≡ false
-no_flag fs e none k l =
-    let whole = take_all 16 fs (omega arith) in
-    let none_set = sym (bitmask_splat w32 eqb fs 16 1 e (omega arith)) ∙ no_bit _ none in
-    none_from_empty_mask (λ x. eqb x 1) fs 0 16 0 (omega arith) (ap (λ xs. mask_l (map (λ x. eqb x 1) xs)) whole ∙ none_set) k (omega arith) (omega arith)
+lane_and : (a b : Bool) → bit_and (lane a) (lane b) ≡ lane (a && b)
+lane_and true true = refl
+lane_and true false = refl
+lane_and false true = refl
+lane_and false false = refl
 
--- ---- whether one of them is near
+-- sixteen lanes hold what the test b gives
+pub record Tested (m : List ℕ) (b : ℕ → Bool) : Type 0 where
+  size : length m ≡ 16
+  at : (k : ℕ) → k < 16 → get_or m k 0 ≡ lane (b k)
 
-all_three : (a b c : Bool) → top 31 (bit_and (bit_and (lane a) (lane b)) (lane c)) ≡ (a && (b && c))
-all_three true true true = refl
-all_three true true false = refl
-all_three true false true = refl
-all_three true false false = refl
-all_three false true true = refl
-all_three false true false = refl
-all_three false false true = refl
-all_three false false false = refl
+pub tested_flag : (fs : List ℕ) → length fs ≡ 16 → Tested (zip2 (λ a b. lane (eqb a b)) fs (replicate 16 1)) (λ k. eqb (get_or fs k 0) 1)
+tested_flag fs e =
+    let f = λ (a b : ℕ). lane (eqb a b) in
+    record {
+      size = length-zip2 f fs (replicate 16 1) e ∙ e;
+      at = λ k l. get_or-zip2 f fs (replicate 16 1) k 0 0 0 (omega arith) l ∙ ap (f (get_or fs k 0)) (get_or-replicate 16 k 1 0 l);
+    }
 
-first_clear : (b : Bool) (m : ℕ) → cond b 1 0 + 2 * m ≡ 0 → (b ≡ false) × (m ≡ 0)
-first_clear true m e = absurd (omega arith)
-first_clear false m e = (refl, omega arith)
+pub tested_side : (us : List Float) → length us ≡ 16 → Tested (zip2 (λ a b. lane (le a b)) (replicate 16 +0) us) (λ k. le +0 (get_or us k nan))
+tested_side us e =
+    let f = λ (a b : Float). lane (le a b) in
+    record {
+      size = length-zip2 f (replicate 16 +0) us (sym e);
+      at = λ k l. get_or-zip2 f (replicate 16 +0) us k +0 nan 0 l (omega arith) ∙ ap (λ (z : Float). f z (get_or us k nan)) (get_or-replicate 16 k +0 +0 l);
+    }
 
-abbrev nears : ℕ → List ℕ → List Float → List Float → List ℕ
-nears n fs us vs =
-    zip2 bit_and
-    (zip2 bit_and (zip2 (λ a b. lane (eqb a b)) fs (replicate n 1)) (zip2 (λ a b. lane (le a b)) (replicate n +0) us))
-    (zip2 (λ a b. lane (le a b)) (replicate n +0) vs)
+pub tested_both : (m n : List ℕ) (b c : ℕ → Bool) → Tested m b → Tested n c → Tested (zip2 bit_and m n) (λ k. b k && c k)
+tested_both m n b c s t =
+    record {
+      size = length-zip2 bit_and m n (s.size ∙ sym t.size) ∙ s.size;
+      at = λ k l. get_or-zip2 bit_and m n k 0 0 0 (omega (arith, s.size)) (omega (arith, t.size)) ∙ (λ i. bit_and (s.at k l i) (t.at k l i)) ∙ lane_and (b k) (c k);
+    }
 
-length_nears : (n : ℕ) (fs : List ℕ) (us vs : List Float) → length fs ≡ n → length us ≡ n → length vs ≡ n → length (nears n fs us vs) ≡ n
-length_nears zero [] us vs ef eu ev = refl
-length_nears zero (f ∷ fs) us vs ef eu ev = absurd (omega arith)
-length_nears (suc n) [] us vs ef eu ev = absurd (omega arith)
-length_nears (suc n) (f ∷ fs) [] vs ef eu ev = absurd (omega arith)
-length_nears (suc n) (f ∷ fs) (u ∷ us) [] ef eu ev = absurd (omega arith)
-length_nears (suc n) (f ∷ fs) (u ∷ us) (v ∷ vs) ef eu ev = ap suc (length_nears n fs us vs (omega arith) (omega arith) (omega arith))
+pub tested_inside : (fs : List ℕ) (us vs ws : List Float) → length fs ≡ 16 → length us ≡ 16 → length vs ≡ 16 → length ws ≡ 16
+    → Tested
+    (zip2 bit_and (zip2 (λ a b. lane (eqb a b)) fs (replicate 16 1))
+    (zip2 bit_and (zip2 (λ a b. lane (le a b)) (replicate 16 +0) us)
+    (zip2 bit_and (zip2 (λ a b. lane (le a b)) (replicate 16 +0) vs) (zip2 (λ a b. lane (le a b)) (replicate 16 +0) ws))))
+    (λ k. eqb (get_or fs k 0) 1 && (le +0 (get_or us k nan) && (le +0 (get_or vs k nan) && le +0 (get_or ws k nan))))
+tested_inside fs us vs ws ef eu ev ew = tested_both _ _ _ _ (tested_flag fs ef) (tested_both _ _ _ _ (tested_side us eu) (tested_both _ _ _ _ (tested_side vs ev) (tested_side ws ew)))
 
-none_near : (n : ℕ) (fs : List ℕ) (us vs : List Float) → length fs ≡ n → length us ≡ n → length vs ≡ n → mask_l (map (top 31) (nears n fs us vs)) ≡ 0
-    → (k : ℕ) → k < n → (eqb (get_or fs k 0) 1 && (le +0 (get_or us k nan) && le +0 (get_or vs k nan))) ≡ false
-none_near zero fs us vs ef eu ev e k l = absurd (omega arith)
-none_near (suc n) [] us vs ef eu ev e k l = absurd (omega arith)
-none_near (suc n) (f ∷ fs) [] vs ef eu ev e k l = absurd (omega arith)
-none_near (suc n) (f ∷ fs) (u ∷ us) [] ef eu ev e k l = absurd (omega arith)
-none_near (suc n) (f ∷ fs) (u ∷ us) (v ∷ vs) ef eu ev e zero l =
-    sym (all_three (eqb f 1) (le +0 u) (le +0 v)) ∙ (first_clear _ (mask_l (map (top 31) (nears n fs us vs))) e).0
-none_near (suc n) (f ∷ fs) (u ∷ us) (v ∷ vs) ef eu ev e (suc k) l =
-    none_near n fs us vs (omega arith) (omega arith) (omega arith) (first_clear _ (mask_l (map (top 31) (nears n fs us vs))) e).1 k (omega arith)
+-- ---- the first that passes
 
-pub no_lane_near : (fs : List ℕ) (us vs : List Float) → length fs ≡ 16 → length us ≡ 16 → length vs ≡ 16 → not (eqb (mask_l (map (top 31) (nears 16 fs us vs)) % 2 ^ 64) 0) ≡ false
-    → (k : ℕ) → k < 16 → (eqb (get_or fs k 0) 1 && (le +0 (get_or us k nan) && le +0 (get_or vs k nan))) ≡ false
-no_lane_near fs us vs ef eu ev e =
-    let ms = map (top 31) (nears 16 fs us vs) in
-    let small : length ms ≤ 64 = omega (arith, length-map (nears 16 fs us vs) (top 31), length_nears 16 fs us vs ef eu ev) in
-    none_near 16 fs us vs ef eu ev (sym (mask_l-mod ms 64 small) ∙ no_bit _ e)
+module _ (m : List ℕ) (b : ℕ → Bool) (t : Tested m b) where
+  abbrev bits : ℕ
+  bits = mask_l (map (top 31) m)
+
+  bits_are : bits % 2 ^ 64 ≡ bits
+  bits_are = mask_l-mod (map (top 31) m) 64 (omega (arith, length-map m (top 31), t.size))
+
+  pass : (k : ℕ) (v : Bool) → k < 16 → top 31 (get_or m k 0) ≡ v → b k ≡ v
+  pass k v l e = sym (ap (top 31) (t.at k l) ∙ lane_top (b k)) ∙ e
+
+  module _ (r : ℕ) (counted : r ≡ prefix_len (λ x. not (top 31 x)) m) where
+    within : r ≤ 16
+    within = omega (arith, counted, t.size, prefix_len-le-length (λ x. not (top 31 x)) m)
+
+    none_before : (k : ℕ) → 0 ≤ k → k < r → b k ≡ false
+    none_before k h l = pass k false (omega (arith, within)) (not-true _ (prefix_len_passes (λ x. not (top 31 x)) m k 0 (omega (arith, counted))))
+
+    first_counted : r ≡ first b 16 0
+    first_counted =
+        sym (past_to b 16 0 r (omega arith) within none_before
+        ∙ ⊎_elim
+        (λ (l : 16 ≤ r). first_end b 16 r l)
+        (λ (l : r < 16). first_stop b 16 r l (pass r true l (ap (λ k. top 31 (get_or m k 0)) counted ∙ not-false _ (prefix_len_stops (λ x. not (top 31 x)) m 0 (omega (arith, counted, t.size))))))
+        (le_or_lt 16 r))
+
+  pub first_none : bits % 2 ^ 64 ≡ 0 → 16 ≡ first b 16 0
+  first_none e = first_counted 16 (sym (leading_from_mask_l (top 31) m (sym bits_are ∙ e) ∙ t.size))
+
+  pub first_some : (bits % 2 ^ 64 ≡ 0 → ⊥) → count_trailing_zeros 64 (bits % 2 ^ 64) ≡ first b 16 0
+  first_some some =
+      ap (count_trailing_zeros 64) bits_are ∙ first_counted _ (trailing_mask_l (top 31) 64 m (omega (arith, t.size)) (omega (arith, bits_are, some)))
+
+  pub none_passes : not (eqb (bits % 2 ^ 64) 0) ≡ false → (k : ℕ) → k < 16 → b k ≡ false
+  none_passes e k l = first_below b 16 0 k (omega arith) (omega (arith, first_none (eqb-true _ 0 (not-false (eqb _ 0) e))))

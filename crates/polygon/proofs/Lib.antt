@@ -12,3 +12,4 @@ pub mod Tables
 pub mod Turns
 pub mod Triangles
 pub mod Rows
+pub mod Quads

@@ -10,10 +10,10 @@ use lib.Ieee.{le}
 use Rattle.std.specs.Prelude.{Option}
 use Rattle.lists.specs.Loops.{first}
 use Rattle.lists.proofs.Stores.{put_back}
-use Rattle.lists.proofs.Searches.{first_from}
 use Rattle.lists.specs.Parts.{Full}
 use Rattle.polygon.specs.Ears.{Pt, Tri, triple, +0, cross2, blocks, is_ear, corner, remove, order}
-use Rattle.polygon.specs.Memo.{hits, Tells, Once, ear_of, Known, word, Sound, Clear, found, Searched, Gone, Held}
+use Rattle.polygon.specs.Memo.{dot_of, inside, hits, hit, Tells, Once, ear_of, Known, word, Sound, Clear, found, Searched, Gone, Held}
+use Rattle.polygon.specs.declared.memo.Dot.{Dot}
 use Rattle.polygon.specs.declared.memo.Finding.TheVariants.{Bent, Blocked}
 use Rattle.polygon.proofs.Keep.{stands_hit, sound_store, sound_start, sound_gone, tells_start, tells_gone, once_start, once_remove, hits_others, ear_bent, ear_found, ear_free, ear_is}
 
@@ -26,13 +26,21 @@ ear_in P left l i a b c e t = ap (λ (q : Tri). ear_of P left q.a q.b q.c) e ∙
 
 -- three flags put out, and put back after the search
 module _ (P : ℕ → Pt) (a b c : ℕ) (l l₁ l₂ l₃ : List ℕ) (e₁ : l₁ ≡ set l a 0) (e₂ : l₂ ≡ set l₁ b 0) (e₃ : l₃ ≡ set l₂ c 0) where
-  pub others_found : (from : ℕ) (k : Option ℕ) → k ≡ found (length l₃) (first (hits l₃ (blocks P a b c)) (length l₃ - from) from) → k ≡ found (length l) (first (hits l (blocks P a b c)) (length l - from) from)
-  others_found from k q =
-      let e : l₃ ≡ set (set (set l a 0) b 0) c 0 = e₃ ∙ ap (λ (m : List ℕ). set m c 0) (e₂ ∙ ap (λ (m : List ℕ). set m b 0) e₁) in
-      let n : length l₃ ≡ length l = ap length e₃ ∙ length-set l₂ c 0 ∙ ap length e₂ ∙ length-set l₁ b 0 ∙ ap length e₁ ∙ length-set l a 0 in
-      q ∙ ap (λ (m : ℕ). found m (first (hits l₃ (blocks P a b c)) (m - from) from)) n
-      ∙ ap (λ (m : List ℕ). found (length l) (first (hits m (blocks P a b c)) (length l - from) from)) e
-      ∙ ap (λ (f : ℕ → Bool). found (length l) (first f (length l - from) from)) (hits_others P a b c l)
+  -- the triangle of the dots is that of the corners
+  module _ (da db dc : Dot) (ea : da ≡ dot_of P a) (eb : db ≡ dot_of P b) (ec : dc ≡ dot_of P c) where
+    others : hits l₃ (inside P da db dc) ≡ hits l (blocks P a b c)
+    others =
+        let e : l₃ ≡ set (set (set l a 0) b 0) c 0 = e₃ ∙ ap (λ (m : List ℕ). set m c 0) (e₂ ∙ ap (λ (m : List ℕ). set m b 0) e₁) in
+        (λ i. hits (e i) (inside P (ea i) (eb i) (ec i))) ∙ hits_others P a b c l
+
+    pub others_clear : (from : ℕ) → Clear P l a b c from → (j : ℕ) → j < from → hits l₃ (inside P da db dc) j ≡ false
+    others_clear from cl j h = ap (λ (f : ℕ → Bool). f j) others ∙ cl j h
+
+    pub others_found : (k : Option ℕ) → k ≡ found (length l₃) (hit l₃ (inside P da db dc)) → k ≡ found (length l) (hit l (blocks P a b c))
+    unfolding hit
+    others_found k q =
+        let n : length l₃ ≡ length l = ap length e₃ ∙ length-set l₂ c 0 ∙ ap length e₂ ∙ length-set l₁ b 0 ∙ ap length e₁ ∙ length-set l a 0 in
+        q ∙ (λ i. found (n i) (first (others i) (n i) 0))
 
   pub others_back : (x y z : ℕ) (l₄ l₅ l₆ : List ℕ) → x ≡ get_or l a 0 → y ≡ get_or l₁ b 0 → z ≡ get_or l₂ c 0 → l₄ ≡ set l₃ c z → l₅ ≡ set l₄ b y → l₆ ≡ set l₅ a x → l₆ ≡ l
   others_back x y z l₄ l₅ l₆ ex ey ez e₄ e₅ e₆ =
@@ -41,18 +49,14 @@ module _ (P : ℕ → Pt) (a b c : ℕ) (l l₁ l₂ l₃ : List ℕ) (e₁ : l�
       e₆ ∙ (λ i. set ((r₁ ∙ e₁) i) a (ex i)) ∙ put_back l a
 
 module _ (P : ℕ → Pt) (left memo : List ℕ) (s : Sound P left memo) (a b c : ℕ) where
-  module _ (from k : ℕ) (y : le (cross2 (P a) (P b) (P c)) +0 ≡ false) (h : from ≤ length left) (cl : Clear P left a b c from)
-      (q : k ≡ first (hits left (blocks P a b c)) (length left - from) from) where
-    -- what the code finds from `from` on is the first of all
-    hit_first : k ≡ first (hits left (blocks P a b c)) (length left) 0
-    hit_first = q ∙ first_from (hits left (blocks P a b c)) (length left) from cl h
-
+  module _ (k : ℕ) (y : le (cross2 (P a) (P b) (P c)) +0 ≡ false) (q : k ≡ hit left (blocks P a b c)) where
     pub search_free : length left ≤ k → true ≡ ear_of P left a b c
-    search_free g = ear_free P left a b c k y hit_first g
+    unfolding hit
+    search_free g = ear_free P left a b c k y q g
 
     pub search_hit : (memo' : List ℕ) → k < length left → memo' ≡ sets memo (b * 3) (a ∷ c ∷ word (Blocked k) ∷ []) → (false ≡ ear_of P left a b c) × Sound P left memo'
-    unfolding Known
-    search_hit memo' g r = (ear_found P left a b c k y hit_first g, rw r (sound_store P left memo a b c (Blocked k) s (stands_hit P left a b c k y hit_first g)))
+    unfolding Known hit
+    search_hit memo' g r = (ear_found P left a b c k y q g, rw r (sound_store P left memo a b c (Blocked k) s (stands_hit P left a b c k y q g)))
 
   -- what is known decides
 

@@ -12,16 +12,16 @@ use Rattle.polygon.specs.declared.memo.Finding.TheVariants.{Unknown, Bent, Block
 abbrev pub xy : List Float → ℕ → Pt
 xy l j = (get_or l (j * 2) nan, get_or l (j * 2 + 1) nan)
 
--- the corner j with where it lies, and its point
+-- where the corner j lies, as the code has it, and as a point
 abbrev pub dot_of : (ℕ → Pt) → ℕ → Dot
-dot_of P j = record { j = j; x = (P j).0; y = (P j).1 }
+dot_of P j = record { x = (P j).0; y = (P j).1 }
 
 abbrev pub spot_of : Dot → Pt
 spot_of d = (d.x, d.y)
 
--- the test of `blocks`, of corners that were read
-unfoldable pub in_way : Dot → Dot → Dot → Dot → Bool
-in_way k a b c = not (eqb k.j a.j) && (not (eqb k.j b.j) && (not (eqb k.j c.j) && point_in_tri (spot_of k) (spot_of a) (spot_of b) (spot_of c)))
+-- the test of `blocks`, of a triangle that was read, none of whose corners is left meanwhile
+abbrev pub inside : (ℕ → Pt) → Dot → Dot → Dot → ℕ → Bool
+inside P a b c j = point_in_tri (P j) (spot_of a) (spot_of b) (spot_of c)
 
 -- `left` holds a 1 for each corner that is left. Corner j is left, and passes the test g
 unfoldable pub hits : List ℕ → (ℕ → Bool) → ℕ → Bool

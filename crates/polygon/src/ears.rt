@@ -4,7 +4,8 @@ ghost use Rattle.std.proofs.lemmas.List.Edits.{sets};
 ghost use Rattle.polygon.specs.Ears.{triple, remove, corner, fan, clip, area, place, order, turn, ear_clip_by, flat};
 ghost use Rattle.polygon.specs.Memo.{xy, Gone, Held};
 
-use crate::memo::{Search, corner_at, dot_at};
+use crate::four::{place_of_ear, put_both};
+use crate::memo::{Search, corner_at, dot_at, place_after};
 use lists::{get, put};
 
 // One triangle, at the t'th place of `out`. `out` and `rev` stay side by side, here and below: a struct with a `&mut` in it would have to say in each function
@@ -33,7 +34,7 @@ fn take_out(idx: &mut [u32], i: usize)
 
 // `rev` says that the corners go round clockwise; it is found once of each polygon whose ears are clipped, and false of a fan. A flag and not a closure: it
 // turns the order here and each triangle in `put_tri`, so it would take two closures that say the same.
-fn place_of(rev: bool, n: usize, i: usize) -> u32
+pub fn place_of(rev: bool, n: usize, i: usize) -> u32
     requires { (n ≤ 2 ^ 31) × (i < n) }
     ensures { result ≡ place rev n i }
 {
@@ -62,7 +63,7 @@ fn area_of(p: &[f32]) -> f32
     let mut s: f32 = 0.0;
     for i in 0..n {
         let a = dot_at(p, i as u32);
-        let b = dot_at(p, ((i + 1) % n) as u32);
+        let b = dot_at(p, place_after(n, i) as u32);
         s += a.x * b.y - b.x * a.y;
     }
     s
@@ -120,13 +121,17 @@ fn clip_all(s: &mut Search, order: &mut [u32], out: &mut [u32], rev: bool)
 }
 
 // The triangles of the polygon whose coordinates are `p`, two a corner, to the front of `out`. `w` is room to work in, five words a corner: the working
-// order, and the two tables of the search. (Fewer would do, and be slower.)
+// order, and the two tables of the search. (Fewer would do, and be slower.) Four corners need no room.
 pub fn ear_clip(p: &[f32], w: &mut [u32], out: &mut [u32])
     requires { (length p.now ≤ 2 ^ 32) × (length p.now ≤ length w.old) }
     ensures { out.new ≡ sets out.old 0 (flat (ear_clip_by (xy p.now) (length p.now / 2))) }
 {
     let n = p.len() / 2;
     let rev = area_of(p) < 0.0;
+    if n == 4 {
+        put_both(out, rev, place_of_ear(p, rev));
+        return;
+    }
     let (order, rest) = w.split_at_mut(n);
     let (left, memo) = rest.split_at_mut(n);
     set_order(order, rev);

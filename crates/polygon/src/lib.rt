@@ -4,6 +4,7 @@
 mod ears;
 mod face;
 mod facing;
+mod four;
 mod memo;
 mod plane;
 mod points;

@@ -1,19 +1,18 @@
 // FORMAT 12.3, ear_clip: whether a corner is an ear. What an earlier search found is kept: a corner is looked at anew only where its neighbours changed.
-ghost use Rattle.std.specs.Prelude.{◌≡◌, false, ◌&&◌, [], ◌∷◌, ℕ, ◌+◌, ◌-◌, ◌*◌, ◌%◌, ◌^◌, ◌≤◌, ◌<◌, eqb, length, get_or, set};
+ghost use Rattle.std.specs.Prelude.{◌≡◌, false, not, ◌&&◌, [], ◌∷◌, ℕ, ◌+◌, ◌-◌, ◌*◌, ◌%◌, ◌^◌, ◌≤◌, ◌<◌, eqb, length, get_or, set};
 ghost use Rattle.std.specs.Float.{nan};
 ghost use Rattle.std.proofs.lemmas.List.Edits.{sets};
 ghost use Rattle.std.specs.Float.Ieee.{le};
 ghost use Rattle.lists.specs.Loops.{pick, first};
 ghost use Rattle.polygon.specs.Ears.{+0, triple, corner, cross2, point_in_tri, blocks, is_ear, first_ear};
-ghost use Rattle.polygon.specs.Memo.{xy, dot_of, spot_of, in_way, hits, Clear, Tells, ear_of, finding, word, Known, Sound, entry, found, Searched};
+ghost use Rattle.polygon.specs.Memo.{xy, dot_of, spot_of, inside, hits, hit, Clear, Tells, ear_of, finding, word, Known, Sound, entry, found, Searched};
 
 use lists::{get, get_or, put};
 use std::simd::prelude::*;
 
-// A corner: its number, and where it lies in the plane.
+// Where a corner lies in the plane.
 #[derive(Clone, Copy)]
 pub struct Dot {
-    pub j: u32,
     pub x: f32,
     pub y: f32,
 }
@@ -39,7 +38,6 @@ pub fn dot_at(p: &[f32], j: u32) -> Dot
 {
     let k = j as usize * 2;
     Dot {
-        j,
         x: get_or(p, k, f32::NAN),
         y: get_or(p, k + 1, f32::NAN),
     }
@@ -62,16 +60,17 @@ fn in_tri(p: Dot, t: Triangle) -> bool
     cross(t.a, t.b, p) >= 0.0 && cross(t.b, t.c, p) >= 0.0 && cross(t.c, t.a, p) >= 0.0
 }
 
+// Whether b is an ear between a and c, where d alone is left beside them.
+pub fn is_ear_beside(a: Dot, b: Dot, c: Dot, d: Dot) -> bool
+    ensures { result ≡ (not (le (cross2 (spot_of a) (spot_of b) (spot_of c)) +0) && not (point_in_tri (spot_of d) (spot_of a) (spot_of b) (spot_of c))) }
+{
+    !(cross(a, b, c) <= 0.0) && !in_tri(d, Triangle { a, b, c })
+}
+
 fn is_bent(p: &[f32], q: Corner) -> bool
     ensures { result ≡ le (cross2 (xy p.now q.a) (xy p.now q.b) (xy p.now q.c)) +0 }
 {
     cross(dot_at(p, q.a), dot_at(p, q.b), dot_at(p, q.c)) <= 0.0
-}
-
-fn is_in_way(k: Dot, t: Triangle) -> bool
-    ensures { result ≡ in_way k t.a t.b t.c }
-{
-    k.j != t.a.j && k.j != t.b.j && k.j != t.c.j && in_tri(k, t)
 }
 
 // Where sixteen corners lie, from the first of `p` on.
@@ -102,7 +101,20 @@ fn is_any_near(left: u32x16, bc: f32x16, ca: f32x16) -> bool
     ensures { result ≡ false → (k : ℕ) → k < 16 → (eqb (get_or left k 0) 1 && (le +0 (get_or bc k nan) && le +0 (get_or ca k nan))) ≡ false }
 {
     let zero = f32x16::splat(0.0);
-    (left.simd_eq(u32x16::splat(1)) & zero.simd_le(bc) & zero.simd_le(ca)).any()
+    (left.simd_eq(u32x16::splat(1)) & (zero.simd_le(bc) & zero.simd_le(ca))).any()
+}
+
+// The first of sixteen corners that is left, its flag being 1, and not to the right of any side; 16 where there is none.
+fn first_inside(left: u32x16, ab: f32x16, bc: f32x16, ca: f32x16) -> usize
+    ensures { result ≡ first (λ k. eqb (get_or left k 0) 1 && (le +0 (get_or ab k nan) && (le +0 (get_or bc k nan) && le +0 (get_or ca k nan)))) 16 0 }
+{
+    let zero = f32x16::splat(0.0);
+    let sides = zero.simd_le(ab) & (zero.simd_le(bc) & zero.simd_le(ca));
+    let set = (left.simd_eq(u32x16::splat(1)) & sides).to_bitmask();
+    if set == 0 {
+        return BLOCK;
+    }
+    set.trailing_zeros() as usize
 }
 
 // The triangle q, which is read once for all corners.
@@ -134,17 +146,17 @@ struct Field<'a> {
 impl<'a> Field<'a> {
     fn is_hit(&self, k: usize) -> bool
         requires { k < 2 ^ 31 }
-        ensures { result ≡ hits self.now.left.now (λ j. in_way (dot_of (xy self.now.p.now) j) self.now.t.a self.now.t.b self.now.t.c) k }
+        ensures { result ≡ hits self.now.left.now (inside (xy self.now.p.now) self.now.t.a self.now.t.b self.now.t.c) k }
     {
-        get(self.left, k) == 1 && is_in_way(dot_at(self.p, k as u32), self.t)
+        get(self.left, k) == 1 && in_tri(dot_at(self.p, k as u32), self.t)
     }
 
-    // The first of the corners from `from` up to `to` that is left and lies in the triangle. Not inlined: in `scan_blocks` it took the registers of
-    // the blocks that are passed (measured).
+    // The first of the corners from `from` up to `to` that is left and lies in the triangle; none before `from` is and does, here and below. Corner by
+    // corner: of fewer than sixteen.
     #[inline(never)]
     fn scan(&self, from: usize, to: usize) -> Option<usize>
-        requires { to ≤ length self.now.left.now }
-        ensures { result ≡ found to (first (hits self.now.left.now (λ j. in_way (dot_of (xy self.now.p.now) j) self.now.t.a self.now.t.b self.now.t.c)) (to - from) from) }
+        requires { (to ≤ length self.now.left.now) × (from ≤ to) × ((j : ℕ) → j < from → hits self.now.left.now (inside (xy self.now.p.now) self.now.t.a self.now.t.b self.now.t.c) j ≡ false) }
+        ensures { result ≡ found to (first (hits self.now.left.now (inside (xy self.now.p.now) self.now.t.a self.now.t.b self.now.t.c)) to 0) }
     {
         (from..to).find(
             |&k|
@@ -157,7 +169,7 @@ impl<'a> Field<'a> {
     // one after another, so in many blocks none is left: those are passed before their coordinates are read.
     fn is_block_near(&self, from: usize) -> bool
         requires { from + 16 ≤ length self.now.left.now }
-        ensures { result ≡ false → (j : ℕ) → from ≤ j → j < from + 16 → hits self.now.left.now (λ i. in_way (dot_of (xy self.now.p.now) i) self.now.t.a self.now.t.b self.now.t.c) j ≡ false }
+        ensures { result ≡ false → (j : ℕ) → from ≤ j → j < from + 16 → hits self.now.left.now (inside (xy self.now.p.now) self.now.t.a self.now.t.b self.now.t.c) j ≡ false }
     {
         let left = u32x16::from_slice(&self.left[from..]);
         if !is_any_left(left) {
@@ -168,20 +180,50 @@ impl<'a> Field<'a> {
         is_any_near(left, crosses(t.b, t.c, x, y), crosses(t.c, t.a, x, y))
     }
 
+    // Which of the block of corners from `from` on is the first that is left and lies in the triangle.
+    fn place_in_block(&self, from: usize) -> usize
+        requires { from + 16 ≤ length self.now.left.now }
+        ensures { from + result ≡ first (hits self.now.left.now (inside (xy self.now.p.now) self.now.t.a self.now.t.b self.now.t.c)) 16 from }
+    {
+        let left = u32x16::from_slice(&self.left[from..]);
+        let (x, y) = dots_in(&self.p[from * 2..]);
+        let t = self.t;
+        let ab = crosses(t.a, t.b, x, y);
+        first_inside(left, ab, crosses(t.b, t.c, x, y), crosses(t.c, t.a, x, y))
+    }
+
+    // That corner. Not inlined, and what `is_block_near` has is worked out anew: in `scan_blocks` it took the registers of the blocks that are passed
+    // (measured).
+    #[inline(never)]
+    fn block_hit(&self, from: usize) -> Option<usize>
+        requires { from + 16 ≤ length self.now.left.now }
+        ensures { result ≡ found (from + 16) (first (hits self.now.left.now (inside (xy self.now.p.now) self.now.t.a self.now.t.b self.now.t.c)) 16 from) }
+    {
+        let k = self.place_in_block(from);
+        if k < BLOCK {
+            return Some(from + k);
+        }
+        None
+    }
+
     // As `scan`, of a block of corners: it is passed as a whole where none of them is near. The last block may be short: then some before it are read again.
     fn scan_block(&self, from: usize, to: usize) -> Option<usize>
-        requires { (from ≤ to) × (to ≤ from + 16) × (to ≤ length self.now.left.now) }
-        ensures { result ≡ found to (first (hits self.now.left.now (λ j. in_way (dot_of (xy self.now.p.now) j) self.now.t.a self.now.t.b self.now.t.c)) (to - from) from) }
+        requires { (from ≤ to) × (to ≤ from + 16) × (to ≤ length self.now.left.now) × ((j : ℕ) → j < from → hits self.now.left.now (inside (xy self.now.p.now) self.now.t.a self.now.t.b self.now.t.c) j ≡ false) }
+        ensures { result ≡ found to (first (hits self.now.left.now (inside (xy self.now.p.now) self.now.t.a self.now.t.b self.now.t.c)) to 0) }
     {
-        if BLOCK <= to && !self.is_block_near(to - BLOCK) {
+        if to < BLOCK {
+            return self.scan(from, to);
+        }
+        if !self.is_block_near(to - BLOCK) {
             return None;
         }
-        self.scan(from, to)
+        self.block_hit(to - BLOCK)
     }
 
     // As `scan`, of all corners from `from` on, block by block. The loop carries that none lies before `k`: a `find_map` would say it of each block alone.
     fn scan_blocks(&self, from: usize) -> Option<usize>
-        ensures { result ≡ found (length self.now.left.now) (first (hits self.now.left.now (λ j. in_way (dot_of (xy self.now.p.now) j) self.now.t.a self.now.t.b self.now.t.c)) (length self.now.left.now - from) from) }
+        requires { (j : ℕ) → j < from → hits self.now.left.now (inside (xy self.now.p.now) self.now.t.a self.now.t.b self.now.t.c) j ≡ false }
+        ensures { result ≡ found (length self.now.left.now) (hit self.now.left.now (inside (xy self.now.p.now) self.now.t.a self.now.t.b self.now.t.c)) }
     {
         let n = self.left.len();
         for k in (from..n).step_by(BLOCK) {
@@ -213,7 +255,7 @@ fn place_before(m: usize, i: usize) -> usize
     i - 1
 }
 
-fn place_after(m: usize, i: usize) -> usize
+pub fn place_after(m: usize, i: usize) -> usize
     requires { i < m }
     ensures { result ≡ (i + 1) % m }
 {
@@ -311,10 +353,11 @@ impl<'p, 'w> Search<'p, 'w> {
         put(self.memo, k + 2, word_of(f));
     }
 
-    // The first corner from `from` on that is left and lies in the triangle q. The flags of its corners are put out meanwhile: they are always near, and
-    // would keep their blocks from being passed.
+    // The first corner that is left and lies in the triangle q, where none before `from` is and does. The flags of its corners are put out meanwhile: so it
+    // is none of them, and they do not keep their blocks from being passed.
     fn other_hit(&mut self, from: usize, q: Corner) -> Option<usize>
-        ensures { (result ≡ found (length self.old.left.now) (first (hits self.old.left.now (blocks (xy self.old.p.now) q.a q.b q.c)) (length self.old.left.now - from) from))
+        requires { Clear (xy self.old.p.now) self.old.left.now q.a q.b q.c from }
+        ensures { (result ≡ found (length self.old.left.now) (hit self.old.left.now (blocks (xy self.old.p.now) q.a q.b q.c)))
             × (self.new.left.now ≡ self.old.left.now) × (self.new.memo.now ≡ self.old.memo.now) × (self.new.p ≡ self.old.p) }
     {
         let left = &mut *self.left;

@@ -1,5 +1,5 @@
-use Rattle.polygon.proofs.Lanes.{no_flag}
+use Rattle.polygon.proofs.Lanes.{tested_flag, none_passes}
 use Rattle.polygon.proofs.memo.is_any_left.Goals as goal
 
 pub returns : goal.returns
-returns c = no_flag c.args.left c.fits-left.0
+returns c = none_passes _ _ (tested_flag c.args.left c.fits-left.0)

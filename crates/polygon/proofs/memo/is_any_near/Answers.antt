@@ -1,5 +1,5 @@
-use Rattle.polygon.proofs.Lanes.{no_lane_near}
+use Rattle.polygon.proofs.Lanes.{tested_flag, tested_side, tested_both, none_passes}
 use Rattle.polygon.proofs.memo.is_any_near.Goals as goal
 
 pub returns : goal.returns
-returns c = no_lane_near c.args.left c.args.bc c.args.ca c.fits-left.0 c.fits-bc.0 c.fits-ca.0
+returns c = none_passes _ _ (tested_both _ _ _ _ (tested_flag c.args.left c.fits-left.0) (tested_both _ _ _ _ (tested_side c.args.bc c.fits-bc.0) (tested_side c.args.ca c.fits-ca.0)))

@@ -1,6 +1,6 @@
 use Rattle.std.proofs.Common.{◌≡◌, true, false, rules, tests}
 use Rattle.std.proofs.lemmas.Iterator.{first_from_Range, serves_from_Range}
-use Rattle.polygon.specs.Memo.{xy, dot_of, in_way, hits}
+use Rattle.polygon.specs.Memo.{xy, inside, hits}
 use Rattle.polygon.proofs.Blocks.{found_by}
 use Rattle.polygon.proofs.memo.Field.scan.Goals as goal
 
@@ -9,8 +9,8 @@ find-requires c = record { can = tt; finite = tt; callable = serves_from_Range (
 
 pub returns : goal.returns
 returns c =
-    let f = hits c.args.self.now.left.now (λ j. in_way (dot_of (xy c.args.self.now.p.now) j) c.args.self.now.t.a c.args.self.now.t.b c.args.self.now.t.c) in
-    found_by f c.args.from c.args.to _
+    let f = hits c.args.self.now.left.now (inside (xy c.args.self.now.p.now) c.args.self.now.t.a c.args.self.now.t.b c.args.self.now.t.c) in
+    found_by f c.args.from c.args.to _ c.requires.1 c.requires.2
     (first_from_Range _ _ _ _ (λ i. f i ≡ true) (λ i. f i ≡ false) c.find.ensures.ran
     (λ x q k. search (rules, tests))
     (λ x q k. (search rules, search (rules, tests))))
