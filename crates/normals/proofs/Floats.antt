@@ -3,11 +3,12 @@ use mathlib.Core.Path.{◌≡◌, refl, sym, ap, ◌∙◌}
 use mathlib.Core.Logic.{◌⊎◌, inl, inr, ⊎_elim}
 use mathlib.Core.Bool.{Bool, false, cond}
 use mathlib.Core.List.{List}
-use Prim.Native.Nat.{ℕ, ◌+◌, ◌*◌, ◌≤◌, ◌<◌}
+use Prim.Native.Nat.{ℕ, ◌+◌, ◌-◌, ◌*◌, ◌≤◌, ◌<◌}
 use native.Mathlib.Nat.{add-zero}
 use native.Mathlib.Omega.{arith}
 use lib.Dec.{eqb}
-use lib.ListN.{length, get_or}
+use lib.ListN.{length, get_or, drop}
+use lib.Seq.{drop-drop}
 use lib.Ieee.{Float, nan, inf, fin, binary32, add, mul, lt}
 use Rattle.math.specs.declared.vector.V3.{V3}
 use Rattle.std.specs.Prelude.{Option}
@@ -17,7 +18,7 @@ use Rattle.block.specs.declared.crease.CreaseRule.{CreaseRule}
 use Rattle.mesh.specs.Normals.{is_near, near_by, or_else}
 use Rattle.tables.specs.declared.layout.Plan.{Plan}
 use Rattle.lists.specs.Parts.{spliced, Out}
-use Rattle.lists.proofs.Splices.{put_size, put_at, put_out}
+use Rattle.lists.proofs.Splices.{put_size, put_at, put_out, put_above}
 use Rattle.lists.proofs.Numbers.{last_or}
 use Rattle.normals.specs.Rows.{normal_in, unit_in, vector, no_unit, Mirrored, Summed}
 use Rattle.normals.specs.Written.{three}
@@ -64,6 +65,12 @@ module _ (d : List Float) (a : ℕ) (v : V3) {e : List Float} (q : e ≡ spliced
 
   pub vector_size : length e ≡ length d
   vector_size = put_size d a (three v) q refl h
+
+  pub vector_above : (n : ℕ) → a + 3 ≤ n → drop n e ≡ drop n d
+  vector_above n l =
+      let k : a + 3 + (n - (a + 3)) ≡ n = omega arith in
+      ap (λ (j : ℕ). drop j e) (sym k) ∙ sym (drop-drop (n - (a + 3)) (a + 3) e) ∙ ap (drop (n - (a + 3))) (put_above d a (three v) q refl h)
+      ∙ drop-drop (n - (a + 3)) (a + 3) d ∙ ap (λ (j : ℕ). drop j d) k
 
 -- ---- the rows
 

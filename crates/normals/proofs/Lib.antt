@@ -9,4 +9,5 @@ mod Floats
 mod Summing
 mod Soups
 mod Begun
+mod Waiting
 pub mod Joined

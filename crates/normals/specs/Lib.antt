@@ -1,4 +1,5 @@
 -- Corner normals from tables: faces by number, rows of faces, and what is written.
 pub mod Group
 pub mod Rows
+pub mod Sums
 pub mod Written

@@ -1,5 +1,5 @@
 -- FORMAT 10.2, generate_normals: a corner's normal by the tables, and what is written: the generated normals of the soup, three floats a corner.
-use Rattle.std.specs.Prelude.{◌≡◌, Bool, ◌&&◌, List, [], ◌∷◌, ◌++◌, map, ℕ, ◌*◌, ◌≤◌, eqb, Float, length, take, drop}
+use Rattle.std.specs.Prelude.{◌≡◌, Bool, List, [], ◌∷◌, ◌++◌, map, ℕ, ◌*◌, ◌≤◌, Float, length, take, drop}
 use Rattle.math.specs.declared.vector.V3.{V3}
 use Rattle.math.specs.Vector.{y_axis, unit_of}
 use Rattle.block.specs.declared.crease.CreaseRule.{CreaseRule}
@@ -24,10 +24,6 @@ corner_normal_in w t rule c = normal_at w t rule (owner_in w t c) (gather_in w t
 -- the sum at corner c by the crease rule
 unfoldable pub corner_sum_in : List ℕ → Plan → CreaseRule → ℕ → V3
 corner_sum_in w t rule c = crease_sum rule (owner_in w t c) (normal_in w t (owner_in w t c)) (hits_at w t (gather_in w t c))
-
--- whether corners c and d are of one face and gathered under one number
-unfoldable pub again : List ℕ → Plan → ℕ → ℕ → Bool
-again w t c d = eqb (gather_in w t c) (gather_in w t d) && eqb (owner_in w t c) (owner_in w t d)
 
 -- the floats of a vector; of vectors, one after another
 abbrev pub three : V3 → List Float
@@ -55,7 +51,3 @@ pub record Begun (d e : List Float) (w : List ℕ) (t : Plan) (rule : CreaseRule
   pub is : e ≡ spread (tab (corner_normal_in w t rule) n 0) ++ drop (3 * n) d
   pub size : length e ≡ length d
   pub summed : Summed w t rule e
-
--- from n normals to m: where the first n are made, in whatever floats, the first m are
-abbrev pub Continued : List Float → List Float → List ℕ → Plan → CreaseRule → ℕ → ℕ → Type 0
-Continued e e' w t rule n m = (d : List Float) → 3 * t.count ≤ length d → Begun d e w t rule n → Begun d e' w t rule m

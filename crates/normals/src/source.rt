@@ -6,7 +6,6 @@ ghost use Rattle.mesh.specs.Normals.{sum_all, or_else};
 ghost use Rattle.tables.specs.Soups.{gather_in, owner_in};
 ghost use Rattle.normals.specs.Group.{below, gathers_in};
 ghost use Rattle.normals.specs.Rows.{normal_in, hit_of, hits_at, Ready};
-ghost use Rattle.normals.specs.Written.{again};
 
 use crate::vectors::{load, load_unit};
 use block::{CornerNumber, PointNumber};
@@ -94,13 +93,12 @@ impl<'a> Source<'a> {
         self.tables.owner_of(c)
     }
 
-    // Whether two corners are of one face and gathered under one number.
-    #[tactic(auto, unfolding(crate::specs::Written::again))]
-    pub fn is_again(&self, c: CornerNumber, d: CornerNumber) -> bool
-        requires { (c.0 < self.now.tables.plan.now.count) × (d.0 < self.now.tables.plan.now.count) }
-        ensures { result ≡ again self.now.tables.work.now self.now.tables.plan.now c.0 d.0 }
+    // The unit vector of face g, or (0, 1, 0).
+    pub fn own_normal(&self, g: usize) -> V3
+        requires { g < self.now.tables.plan.now.faces }
+        ensures { result ≡ or_else (unit_of (normal_in self.now.tables.work.now self.now.tables.plan.now g)) y_axis }
     {
-        self.gather_of(c).0 == self.gather_of(d).0 && self.owner_of(c) == self.owner_of(d)
+        self.unit_of(g).unwrap_or(Y_AXIS)
     }
 
     // The normal of a corner of face own, whose sum has the unit vector s.
@@ -108,6 +106,6 @@ impl<'a> Source<'a> {
         requires { own < self.now.tables.plan.now.faces }
         ensures { result ≡ or_else s (or_else (unit_of (normal_in self.now.tables.work.now self.now.tables.plan.now own)) y_axis) }
     {
-        s.unwrap_or(self.unit_of(own).unwrap_or(Y_AXIS))
+        s.unwrap_or(self.own_normal(own))
     }
 }
