@@ -103,7 +103,7 @@ module _ {t : CornerTables} {w m : List ℕ} (Q : Laid t (length w)) (S : Same t
     unfolding words_at
     words_same = λ i. words3 (normal_same i) ++ words4 (colour_same i) ++ words2 (texture_same i)
 
-    key_same : (widths : Widths) → corner_key widths (point_at m t c) (words_at L a m t c) ≡ key_in L a widths w t c
+    key_same : (widths : Widths) → key_in L a widths m t c ≡ key_in L a widths w t c
     unfolding key_in
     key_same widths = ap₂ (corner_key widths) point_same words_same
 
@@ -168,12 +168,13 @@ module _ {L : Lent} {a : Attributes} {widths : Widths} {t : CornerTables} {z : S
           (rw (point_same R.laid U.same c h) (R.points c h)) g
 
       -- one corner more
-      module _ {s' : Store} {m' : List ℕ} {n' : ℕ} (N : Numbered widths t n c (words_at L a m t c) s m s' m' n') where
+      module _ {l : List ℕ} {s' : Store} {m' : List ℕ} {n' : ℕ} (N : Numbered widths t n c l s m s' m' n')
+          (e : corner_key widths (point_at m t c) l ≡ key_in L a widths m t c) where
         front : Kept t.heads m N.table
         front = record { len = N.vertexed.len; front = N.vertexed.front }
 
-        is : corner_key widths (point_at m t c) (words_at L a m t c) ≡ key_in L a widths w t c
-        is = key_same R.laid U.same c h L a widths
+        is : corner_key widths (point_at m t c) l ≡ key_in L a widths w t c
+        is = e ∙ key_same R.laid U.same c h L a widths
 
         pub turned_next : Turned L a widths t z w (c + 1) n' s' m'
         unfolding vertices_in

@@ -1,7 +1,10 @@
 // The point of a corner and the words of its key (FORMAT 7, 11): those of the normal, the colour and the texture.
-ghost use Rattle.std.specs.Prelude.{◌≡◌, ◌+◌, ◌*◌, ◌≤◌, ◌<◌, length};
+ghost use Rattle.std.specs.Prelude.{◌≡◌, ◌+◌, ◌*◌, ◌≤◌, ◌<◌, length, take};
 ghost use Rattle.corners.specs.Laid.{Laid};
-ghost use Rattle.corners.specs.Corner.{point_at, place_at, number_at, texture_at, generated_at, normal_at, colour_at, words_at};
+ghost use Rattle.corners.specs.Corner.{point_at, place_at, number_at, texture_at, generated_at, normal_at, colour_at, key_in};
+ghost use Rattle.mesh.specs.Words.{words2, words3, words4};
+ghost use Rattle.vertices.specs.Places.{normal_words, colour_words, texture_words};
+ghost use Rattle.vertices.specs.Search.{corner_key};
 ghost use Rattle.corners.specs.Given.{lent_in};
 
 use crate::attributes::Given;
@@ -9,7 +12,7 @@ use crate::laid::CornerTables;
 use bits::{Words2, Words3, Words4};
 use block::{CornerNumber, PointNumber, get4};
 use tables::wide;
-use vertices::KEY_WORDS;
+use vertices::{KEY_WORDS, Widths};
 
 // A corner, with the tables that say what it is.
 #[derive(Clone, Copy)]
@@ -86,13 +89,48 @@ impl<'a> Corner<'a> {
         )
     }
 
-    pub fn key(&self, g: &Given<'_>) -> [u32; KEY_WORDS]
+    // The three that follow: an attribute of which no word is made is not looked up.
+    #[tactic(auto, using(crate::proofs::Mades::same_none))]
+    fn made_normal(&self, g: &Given<'_>, w: usize) -> Words3
         requires { 3 * self.now.tables.now.count ≤ length g.now.floats.now }
-        ensures { result ≡ words_at (lent_in g.now) g.now.attributes self.now.work.now self.now.tables.now self.now.c.0 }
+        ensures { take w (words3 result) ≡ take w (words3 (normal_at (lent_in g.now) g.now.attributes self.now.work.now self.now.tables.now self.now.c.0)) }
     {
-        let n = self.normal(g);
-        let k = self.colour(g);
-        let x = self.texture();
+        if w == 0 {
+            return Words3::default();
+        }
+        self.normal(g)
+    }
+
+    #[tactic(auto, using(crate::proofs::Mades::same_none))]
+    fn made_colour(&self, g: &Given<'_>, w: usize) -> Words4
+        ensures { take w (words4 result) ≡ take w (words4 (colour_at (lent_in g.now) g.now.attributes self.now.work.now self.now.tables.now self.now.c.0)) }
+    {
+        if w == 0 {
+            return Words4::default();
+        }
+        self.colour(g)
+    }
+
+    #[tactic(auto, using(crate::proofs::Mades::same_none))]
+    fn made_texture(&self, w: usize) -> Words2
+        ensures { take w (words2 result) ≡ take w (words2 (texture_at self.now.work.now self.now.tables.now self.now.c.0)) }
+    {
+        if w == 0 {
+            return Words2 { s: 0, t: 0 };
+        }
+        self.texture()
+    }
+
+    // The words of its key, of which those that are not made are any.
+    pub fn key(&self, g: &Given<'_>, w: Widths) -> [u32; KEY_WORDS]
+        requires { (3 * self.now.tables.now.count ≤ length g.now.floats.now)
+            × ((w.normal ≤ normal_words) × (w.colour ≤ colour_words) × (w.texture ≤ texture_words)) }
+        ensures { corner_key w (point_at self.now.work.now self.now.tables.now self.now.c.0) result
+            ≡ key_in (lent_in g.now) g.now.attributes w self.now.work.now self.now.tables.now self.now.c.0 }
+    {
+        let n = self.made_normal(g, w.normal);
+        let k = self.made_colour(g, w.colour);
+        let x = self.made_texture(w.texture);
         [n.x, n.y, n.z, k.r, k.g, k.b, k.a, x.s, x.t]
     }
 }

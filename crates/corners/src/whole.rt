@@ -72,7 +72,7 @@ pub fn all_vertices(
             tables: &t,
             c,
         };
-        let key = corner.key(g);
+        let key = corner.key(g, w);
         n = number_corner(slices, work, w, t, n, c, &key);
     }
     n

@@ -1,5 +1,5 @@
 -- Parts of words: compared one word after another, and read as the words of a key. One fact over the number of words.
-use mathlib.Core.Path.{◌≡◌, refl, sym, ap}
+use mathlib.Core.Path.{◌≡◌, refl, sym, ap, ◌∙◌}
 use mathlib.Core.Bool.{Bool, true, false, ◌&&◌}
 use mathlib.Core.List.{List, [], ◌∷◌}
 use Prim.Native.Nat.{ℕ, zero, suc, ◌+◌, ◌*◌, ◌-◌, ◌≤◌, ◌<◌}
@@ -7,7 +7,7 @@ use native.Mathlib.Nat.{le_of_suc-le-suc, not-suc-le-zero, suc_inj, suc-ne-zero,
 use native.Mathlib.Omega.{arith}
 use borrow.Author.Tests.{eq-eqb, ne_eqb}
 use lib.Dec.{eqb}
-use lib.ListN.{length, get_or, take}
+use lib.ListN.{length, get_or, take, drop}
 use lib.Seq.{drop-cons}
 use Rattle.lists.specs.Lists.{same_words}
 use Rattle.lists.proofs.Lists.{T_true, same_words_self, drop_three}
@@ -28,6 +28,19 @@ seg_next l a n t h k =
 pub seg_three : (l : List ℕ) (a : ℕ) → a + 3 ≤ length l → seg l a 3 ≡ get_or l a 0 ∷ get_or l (a + 1) 0 ∷ get_or l (a + 2) 0 ∷ []
 unfolding seg
 seg_three l a h = ap (take 3) (drop_three 0 l a h)
+
+pub seg_two : (l : List ℕ) (a : ℕ) → a + 2 ≤ length l → seg l a 2 ≡ get_or l a 0 ∷ get_or l (a + 1) 0 ∷ []
+unfolding seg
+seg_two l a h =
+    let e : suc a ≡ a + 1 = omega arith in
+    ap (take 2) (drop-cons l a 0 (omega arith) ∙ ap (λ (r : List ℕ). get_or l a 0 ∷ r) (ap (λ (k : ℕ). drop k l) e ∙ drop-cons l (a + 1) 0 (omega arith)))
+
+pub seg_four : (l : List ℕ) (a : ℕ) → a + 4 ≤ length l
+    → seg l a 4 ≡ get_or l a 0 ∷ get_or l (a + 1) 0 ∷ get_or l (a + 2) 0 ∷ get_or l (a + 3) 0 ∷ []
+unfolding seg
+seg_four l a h =
+    ap (take 4) (drop_three 0 l a (omega arith)
+    ∙ ap (λ (r : List ℕ). get_or l a 0 ∷ get_or l (a + 1) 0 ∷ get_or l (a + 2) 0 ∷ r) (drop-cons l (a + 3) 0 (omega arith)))
 
 -- ---- the loop
 

@@ -89,7 +89,7 @@ module _ (w : Widths) (v : ℕ) (l : List ℕ) (d : (w.normal ≤ normal_words) 
   corner_trim = λ i. record { point = v; normal = three (corner_normal_lem i); colour = four (corner_colour i); texture = two (corner_texture i) }
 
 -- the words of a key: what the widths take of it
-corner_key_lem : (w : Widths) (k : Key) (l : List ℕ) → (w.normal ≤ normal_words) × (w.colour ≤ colour_words) × (w.texture ≤ texture_words)
+pub corner_key_lem : (w : Widths) (k : Key) (l : List ℕ) → (w.normal ≤ normal_words) × (w.colour ≤ colour_words) × (w.texture ≤ texture_words)
     → l ≡ words3 k.normal ++ words4 k.colour ++ words2 k.texture → corner_key w k.point l ≡ trimmed w k
 unfolding corner_key trimmed normal_of colour_of texture_of seg
 corner_key_lem w k l d e =

@@ -6,7 +6,10 @@ ghost use Rattle.vertices.specs.Search.{corner_key};
 ghost use Rattle.vertices.specs.Adding.{linked, Appended, Ready, Vertexed, count_after};
 
 use crate::parts::put_row;
-use crate::places::{Bucket, COLOUR_START, Chains, CornerKey, TEXTURE_START, VertexSlices, Widths};
+use crate::places::{
+    Bucket, COLOUR_START, COLOUR_WORDS, Chains, CornerKey, NORMAL_WORDS, TEXTURE_START,
+    TEXTURE_WORDS, VertexSlices, Widths,
+};
 use block::{PointNumber, VertexNumber};
 use lists::word_of;
 use tables::narrow;
@@ -39,10 +42,24 @@ pub fn append(
 {
     let i = n.0;
     let at = t.points + 3 * key.point.0;
-    put_row(slices.positions, 3, i, work, at);
-    put_row(slices.normals, w.normal, i, key.words, 0);
-    put_row(slices.colours, w.colour, i, key.words, COLOUR_START);
-    put_row(slices.textures, w.texture, i, key.words, TEXTURE_START);
+    put_row(slices.positions, 3, 3, i, work, at);
+    put_row(slices.normals, NORMAL_WORDS, w.normal, i, key.words, 0);
+    put_row(
+        slices.colours,
+        COLOUR_WORDS,
+        w.colour,
+        i,
+        key.words,
+        COLOUR_START,
+    );
+    put_row(
+        slices.textures,
+        TEXTURE_WORDS,
+        w.texture,
+        i,
+        key.words,
+        TEXTURE_START,
+    );
     slices.sources[i] = narrow(key.point.0);
     link(work, t, n, bucket);
 }

@@ -7,7 +7,10 @@ ghost use Rattle.vertices.specs.Hash.{bucket_of};
 ghost use Rattle.vertices.specs.Search.{known_by, key_at, corner_key, place_of, bucket_at, Chained};
 
 use crate::parts::same_row;
-use crate::places::{Bucket, COLOUR_START, Chains, CornerKey, TEXTURE_START, VertexSlices, Widths};
+use crate::places::{
+    Bucket, COLOUR_START, COLOUR_WORDS, Chains, CornerKey, NORMAL_WORDS, TEXTURE_START,
+    TEXTURE_WORDS, VertexSlices, Widths,
+};
 use block::VertexNumber;
 use lists::named_by;
 use tables::wide;
@@ -28,10 +31,11 @@ impl VertexSlices<'_> {
         ensures { result ≡ same_key (corner_key w key.now.point.0 key.now.words.now) (key_at w (store_in self.now) i.0) }
     {
         let k = i.0;
+        let l = key.words;
         key.point.0 == wide(self.sources[k])
-            && same_row(key.words, 0, self.normals, w.normal, k)
-            && same_row(key.words, COLOUR_START, self.colours, w.colour, k)
-            && same_row(key.words, TEXTURE_START, self.textures, w.texture, k)
+            && same_row(l, 0, self.normals, NORMAL_WORDS, w.normal, k)
+            && same_row(l, COLOUR_START, self.colours, COLOUR_WORDS, w.colour, k)
+            && same_row(l, TEXTURE_START, self.textures, TEXTURE_WORDS, w.texture, k)
     }
 
     // The vertex, if there is one, among the first n that has the point and the words of a corner. Only the chain of the vertices in the key's bucket is

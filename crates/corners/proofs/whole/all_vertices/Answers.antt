@@ -17,7 +17,7 @@ number_corner-n-requires c = let U = c.loop-i.invariant.1 _ c.fill.ensures c.req
 pub loop-i-preserved : goal.loop-i-preserved
 loop-i-preserved c =
     let I = c.loop-i.invariant in
-    (slices_then I.0 c.number_corner-n.ensures.same, λ l F R. turned_next (I.1 l F R) c.loop-i-test.true (rw c.key-key.ensures at c.number_corner-n.ensures.numbered))
+    (slices_then I.0 c.number_corner-n.ensures.same, λ l F R. turned_next (I.1 l F R) c.loop-i-test.true c.number_corner-n.ensures.numbered c.key-key.ensures)
 
 pub returns-clause-cornered : goal.returns-clause-cornered
 returns-clause-cornered c = turned_all (c.loop-i.invariant.1 _ c.fill.ensures c.requires) (omega (arith, c.loop-i-test.false))

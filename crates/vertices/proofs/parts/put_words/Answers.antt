@@ -3,13 +3,23 @@ use Prim.Native.Nat.{◌+◌, ◌-◌}
 use native.Mathlib.Omega.{arith}
 use Rattle.lists.proofs.Keep.{length_seg, part_seg}
 use Rattle.lists.proofs.Splices.{mid_spliced}
-use Rattle.lists.proofs.Words.{seg_three}
+use Rattle.lists.proofs.Words.{seg_two, seg_three, seg_four}
 use Rattle.vertices.proofs.parts.put_words.Goals as goal
 
 pub returns-then-n-eq3 : goal.returns-then-n-eq3
 returns-then-n-eq3 c =
     rw (c.if-n-eq3.true, seg_three c.args.src.now c.args.j (omega (arith, c.requires.1, c.if-n-eq3.true)))
     c.put_all.ensures
+
+pub returns-then-n-eq4 : goal.returns-then-n-eq4
+returns-then-n-eq4 c =
+    rw (c.if-n-eq4.true, seg_four c.args.src.now c.args.j (omega (arith, c.requires.1, c.if-n-eq4.true)))
+    c.put_all-then-n-eq4.ensures
+
+pub returns-then-n-eq2 : goal.returns-then-n-eq2
+returns-then-n-eq2 c =
+    rw (c.if-n-eq2.true, seg_two c.args.src.now c.args.j (omega (arith, c.requires.1, c.if-n-eq2.true)))
+    c.put_all-then-n-eq2.ensures
 
 pub returns : goal.returns
 returns c =

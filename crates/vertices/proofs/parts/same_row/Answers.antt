@@ -1,18 +1,9 @@
-use mathlib.Core.Path.{sym, ◌∙◌}
-use Rattle.lists.proofs.Words.{same_next, same_differ, same_end}
+use Prim.Native.Nat.{◌*◌}
+use mathlib.Core.Path.{refl}
+use Rattle.lists.specs.Lists.{same_words}
+use Rattle.lists.proofs.Words.{seg_none}
 use Rattle.vertices.proofs.parts.same_row.Goals as goal
 
-pub returns-then-key-j : goal.returns-then-key-j
-returns-then-key-j c =
-    let P = c.requires in
-    sym (c.loop-t.invariant ∙ same_differ _ _ _ _ _ _ P.0 P.1 c.loop-t-test.true c.if-key-j.true)
-
-pub loop-t-preserved : goal.loop-t-preserved
-loop-t-preserved c =
-    let P = c.requires in
-    c.loop-t.invariant ∙ same_next _ _ _ _ _ _ P.0 P.1 c.loop-t-test.true c.if-key-j.false
-
-pub returns : goal.returns
-returns c =
-    let P = c.requires in
-    sym (c.loop-t.invariant ∙ same_end _ _ _ _ _ _ P.0 P.1 c.loop-t-test.false)
+pub returns-then-w-eq0 : goal.returns-then-w-eq0
+unfolding same_words
+returns-then-w-eq0 c = rw (c.if-w-eq0.true, seg_none c.args.key.now c.args.j, seg_none c.args.l.now (0 * c.args.i)) refl

@@ -1,8 +1,8 @@
-use mathlib.Core.List.{◌++◌}
-use Rattle.mesh.specs.Words.{words2, words3, words4}
-use Rattle.corners.specs.Corner.{words_at}
+use Rattle.corners.specs.Corner.{words_at, key_in}
+use Rattle.corners.proofs.Mades.{same_made}
 use Rattle.corners.proofs.key.Corner.key.Goals as goal
 
 pub returns : goal.returns
-unfolding words_at
-returns c = λ i. words3 (c.normal-n.ensures i) ++ words4 (c.colour-k.ensures i) ++ words2 (c.texture-x.ensures i)
+unfolding key_in words_at
+returns c =
+    same_made _ _ _ _ _ _ _ _ c.requires.1 c.made_normal-n.ensures c.made_colour-k.ensures c.made_texture-x.ensures
