@@ -93,6 +93,7 @@ fn rows() -> Vec<(&'static str, Made)> {
         ("comb", Box::new(|_, n| blocks::plates(&[outlines::comb(n / 2)]))),
         ("combs in each other", Box::new(|_, n| blocks::plates(&[outlines::zipper(n / 2)]))),
         ("spiral", Box::new(|_, n| blocks::plates(&[outlines::spiral(n / 2)]))),
+        ("faces of 100 corners over 47 points, own face", Box::new(blocks::tangled)),
     ]
 }
 

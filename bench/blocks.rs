@@ -237,6 +237,17 @@ pub fn three_points(maker: &mut Maker, entries: usize) -> Shape {
     faces(CREASE, &points, &index)
 }
 
+/// Faces of a hundred corners over 47 points, not said to be convex, as `search` found them: a face names points again and
+/// again and crosses itself, so that most of its corners are blocked at once and few are ears.
+pub fn tangled(maker: &mut Maker, entries: usize) -> Shape {
+    let points = maker.values(3 * 47, Taste::Real);
+    let any = |_| (0..100).map(|_| maker.rng.below(47) as i32).collect();
+    let index = listed((0..entries / 101).map(any));
+    let mut shape = faces(OWN, &points, &index);
+    shape.flags[flag::CONVEX] = false;
+    shape
+}
+
 /// Triangles of any points, with colours, normals and texture at each corner.
 pub fn soup(maker: &mut Maker, entries: usize) -> Shape {
     let count = entries / 4;
