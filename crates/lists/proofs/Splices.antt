@@ -1,6 +1,6 @@
 -- A part of a list replaced: by a part that was lent, by stores, and at the end of what is made so far; and what is there then.
 use mathlib.Core.Path.{◌≡◌, refl, sym, ap, ap₂, ◌∙◌}
-use mathlib.Core.Logic.{⊎_elim}
+use mathlib.Core.Logic.{inr, ⊎_elim}
 use mathlib.Core.List.{List, [], ◌∷◌, ◌++◌, append_assoc, append-nil}
 use Prim.Native.Nat.{ℕ, ◌+◌, ◌-◌, ◌≤◌, ◌<◌}
 use native.Mathlib.Nat.{add-zero, add_assoc, zero-add}
@@ -171,6 +171,9 @@ put_same l v {a = a} {n = n} h e = record { at = λ j b. put_at l a (replicate n
 -- a store outside a table
 pub table_miss : {f : ℕ → ℕ} (w : List ℕ) (a n i v : ℕ) → ((j : ℕ) → j < n → a + j ≡ i → ⊥) → TableOf w a n f → TableOf (set w i v) a n f
 table_miss w a n i v h T = record { at = λ j b. set_miss w i v (a + j) (h j b) ∙ T.at j b }
+
+pub table_put : {f : ℕ → ℕ} (w : List ℕ) {w' : List ℕ} (a n b : ℕ) (p : List ℕ) → w' ≡ spliced w b p → b + length p ≤ length w → b + length p ≤ a → TableOf w a n f → TableOf w' a n f
+table_put w a n b p e h l T = record { at = λ j q. put_out w b p e refl h 0 (a + j) (inr (omega arith)) ∙ T.at j q }
 
 -- what stands before a splice
 pub put_behind : {A : Type 0} (l : List A) {m : List A} (a : ℕ) (p : List A) → m ≡ spliced l a p → a ≤ length l → take a m ≡ take a l

@@ -1,6 +1,7 @@
 -- The theorem that joins what is written to the mesh's definition, and the laws of the functions.
 mod Counting
 mod Grouping
+mod Rings
 mod Walks
 mod Arms
 pub mod Fills
