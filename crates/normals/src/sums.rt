@@ -35,11 +35,11 @@ fn near_step(floats: &[f32], row: usize, g: usize, own: usize, u: V3, bound: f32
     ensures total { result.total ≡ near_by bound own u g (Some (vector floats.now (row + 3))) s.total (vector floats.now row) }
     ensures alone { result.alone ≡ true → (s.alone ≡ true) × (result.total ≡ s.total) }
 {
+    if g == own {
+        return s;
+    }
     let v = get3(floats, row + 3);
     if math::dot(u, v) > bound {
-        if g == own {
-            return s;
-        }
         return Sum {
             total: math::add(s.total, get3(floats, row)),
             alone: false,
