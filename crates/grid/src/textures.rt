@@ -35,25 +35,19 @@ impl<'a> GridBlock<'a> {
         }
     }
 
-    // A point's number serves as its place, and there is no coordIndex.
-    fn texture_of(&self, p: PointNumber) -> Words2
-        requires { p.0 < x_dimension self.now.header * z_dimension self.now.header }
-        ensures { result ≡ grid_texture self.now.block.now self.now.header self.now.settings p.0 }
-    {
-        // Made here, and not held by GridBlock: points and faces ask for no coordIndex, and each clause of theirs would name the block through it.
-        let source = Source::of(self.block, &self.block[0..0], self.header, self.settings);
-        source.corner_texture(p.0, self.default_of(p))
-    }
-
     // The textures of all corners, from place `textures` on: the plan says where their points stand.
     pub fn put_textures(&self, work: &mut [u32], t: Plan, textures: usize)
         requires { Placed self.now.header work.old t textures }
         ensures { work.new ≡ spliced work.old textures (texture_words (λ (c : ℕ). grid_texture self.now.block.now self.now.header self.now.settings (point_in work.old t c)) t.count) }
     {
+        // Made here, and not held by GridBlock: points and faces ask for no coordIndex, and each clause of theirs would name the block through it.
+        let source = Source::of(self.block, &self.block[0..0], self.header, self.settings);
         // A loop of its own, as in texture and extrusion: each reads other tables of `work`, and a shared one would take this body back as a closure.
         for c in 0..t.count {
+            // A point's number serves as its place.
             let p = PointNumber(wide(work[t.corners + c]));
-            put2(work, textures + 2 * c, self.texture_of(p));
+            let w = source.corner_texture(p.0, self.default_of(p));
+            put2(work, textures + 2 * c, w);
         }
     }
 }
