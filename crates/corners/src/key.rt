@@ -4,10 +4,10 @@ ghost use Rattle.corners.specs.Laid.{Laid};
 ghost use Rattle.corners.specs.Corner.{point_at, place_at, number_at, texture_at, generated_at, normal_at, colour_at, words_at};
 ghost use Rattle.corners.specs.Given.{lent_in};
 
-use crate::attributes::Given;
+use crate::attributed::Attributed;
 use crate::laid::CornerTables;
 use bits::{Words2, Words3, Words4};
-use block::{CornerNumber, PointNumber, get4};
+use block::{CornerNumber, PointNumber};
 use tables::wide;
 use vertices::KEY_WORDS;
 
@@ -58,37 +58,29 @@ impl<'a> Corner<'a> {
 
     // Its normal as it goes into the key: supplied, or generated.
     #[tactic(auto, unfolding(crate::specs::Corner::normal_at))]
-    fn normal(&self, g: &Given<'_>) -> Words3
-        requires { 3 * self.now.tables.now.count ≤ length g.now.floats.now }
-        ensures { result ≡ normal_at (lent_in g.now) g.now.attributes self.now.work.now self.now.tables.now self.now.c.0 }
+    fn normal(&self, g: &Attributed<'_>) -> Words3
+        requires { 3 * self.now.tables.now.count ≤ length g.now.given.now.floats.now }
+        ensures { result ≡ normal_at (lent_in g.now.given.now) g.now.given.now.attributes self.now.work.now self.now.tables.now self.now.c.0 }
     {
-        let a = g.attributes;
-        let Some(s) = a.normals else {
-            return generated_of(g.floats, self.c);
-        };
-        let none = Words3::default();
-        block::get(g.block, g.coord, s, self.place(), self.number(), none)
+        if g.given.attributes.normals.is_some() {
+            let none = Words3::default();
+            return g.normals.get(self.place(), self.number(), none);
+        }
+        generated_of(g.given.floats, self.c)
     }
 
     #[tactic(auto, unfolding(crate::specs::Corner::colour_at))]
-    fn colour(&self, g: &Given<'_>) -> Words4
-        ensures { result ≡ colour_at (lent_in g.now) g.now.attributes self.now.work.now self.now.tables.now self.now.c.0 }
+    fn colour(&self, g: &Attributed<'_>) -> Words4
+        ensures { result ≡ colour_at (lent_in g.now.given.now) g.now.given.now.attributes self.now.work.now self.now.tables.now self.now.c.0 }
     {
-        let a = g.attributes;
-        get4(
-            g.block,
-            g.coord,
-            a.colours,
-            a.alpha,
-            self.place(),
-            self.number(),
-            a.missing,
-        )
+        let a = g.given.attributes;
+        g.colours
+            .get4(a.alpha, self.place(), self.number(), a.missing)
     }
 
-    pub fn key(&self, g: &Given<'_>) -> [u32; KEY_WORDS]
-        requires { 3 * self.now.tables.now.count ≤ length g.now.floats.now }
-        ensures { result ≡ words_at (lent_in g.now) g.now.attributes self.now.work.now self.now.tables.now self.now.c.0 }
+    pub fn key(&self, g: &Attributed<'_>) -> [u32; KEY_WORDS]
+        requires { 3 * self.now.tables.now.count ≤ length g.now.given.now.floats.now }
+        ensures { result ≡ words_at (lent_in g.now.given.now) g.now.given.now.attributes self.now.work.now self.now.tables.now self.now.c.0 }
     {
         let n = self.normal(g);
         let k = self.colour(g);
