@@ -5,7 +5,8 @@ ghost use Rattle.corners.specs.Given.{CutOf};
 use crate::attributes::Given;
 use block::Attribute;
 
-// Where the block supplies no normals, the colours stand for them and go unread.
+// Where the block supplies no normals, the colours stand for them and go unread. No Option: `given` says whether there are normals, and another word for it
+// would have to agree.
 #[derive(Clone, Copy)]
 pub struct Attributed<'a> {
     pub given: &'a Given<'a>,

@@ -84,7 +84,7 @@ impl<'a> Textured<'a> {
         requires { Cornered self.now.source.header t textures work.old }
         ensures { work.new ≡ spliced work.old textures (texture_words (extrusion_texture (extrusion_of self.now.source.block.now) work.old t) t.count) }
     {
-        // A loop of its own, as in texture and grid: each reads other tables of `work`, and a shared one would take this body back as a closure.
+        // A loop of its own, as in texture: each reads other tables of `work`, and a shared one would take this body back as a closure. Grid's reads none.
         for c in 0..t.count {
             let p = PointNumber(wide(work[t.corners + c]));
             let f = wide(work[t.owners + c]);

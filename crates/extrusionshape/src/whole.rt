@@ -14,7 +14,7 @@ use sizes::{AcceptedBlock, Net, extrusion_sizes};
 use tables::plan_of;
 
 // The mesh of an accepted extrusion, into the six slices; the working slices are left with zeros. An extrusion has no coordIndex: an
-// empty slice goes for it, as at `block::get`.
+// empty slice goes for it, as at `block::Attribute`.
 pub fn make_extrusion(a: &AcceptedBlock<'_>, b: &mut Buffers<'_>) -> Counts
     requires { Called Extrusion a.now b.old }
     ensures same { Same b.old b.new }

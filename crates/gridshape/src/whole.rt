@@ -15,7 +15,7 @@ use sizes::{AcceptedBlock, Net, grid_sizes};
 use tables::plan_of;
 
 // The mesh of an accepted grid, into the six slices; the working slices are left with zeros. A grid is always convex, and has no coordIndex:
-// an empty slice goes for it, as at `block::get`.
+// an empty slice goes for it, as at `block::Attribute`.
 pub fn make_grid(a: &AcceptedBlock<'_>, missing: Words4, b: &mut Buffers<'_>) -> Counts
     requires { Called Grid a.now b.old }
     ensures same { Same b.old b.new }

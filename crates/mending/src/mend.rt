@@ -172,7 +172,7 @@ fn square_of(w: Words3) -> f32
     math::dot(n, n)
 }
 
-// Whether the square of a length is 1 but for some roundings, as that of a vector that was scaled is: a normal of that length is kept, which takes no root.
+// Whether the square of a length is 1 but for some roundings, as that of a vector that was scaled is: a normal of that length is kept, whatever its root is.
 #[tactic(auto, unfolding(crate::specs::Mend::near_one))]
 fn is_near_one(square: f32) -> bool
     ensures { result ≡ near_one (to_bits binary32 square) }

@@ -14,6 +14,7 @@ use block::{CornerNumber, CreaseRule, PointNumber};
 use math::{V3, Y_AXIS};
 
 // A corner whose sum is that of several faces, or the number of corners where there is no such corner left; and what is known of the last two sums.
+// No Option: the walk goes on behind the corner, be it there or not.
 #[derive(Clone, Copy)]
 pub struct Stop {
     pub corner: usize,
@@ -100,6 +101,7 @@ impl<'a> Source<'a> {
         requires { Summed self.now.tables.work.now self.now.tables.plan.now (Bound bound) floats.old × (3 * self.now.tables.plan.now.count ≤ length floats.old) }
         ensures { floats.new ≡ spread (tab (corner_normal_in self.now.tables.work.now self.now.tables.plan.now (Bound bound)) self.now.tables.plan.now.count 0) ++ drop (3 * self.now.tables.plan.now.count) floats.old }
     {
+        // Of no corner: no face has the number of the faces, so neither sum is ever taken.
         let none = Known {
             number: PointNumber(0),
             face: self.tables.plan.faces,

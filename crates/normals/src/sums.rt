@@ -79,7 +79,8 @@ impl<'a> Near<'a> {
         s
     }
 
-    // The unit vector of face g: whether it has one, by its row, and the vector as floats.
+    // The unit vector of face g: whether it has one, by its row, and the vector as floats. Not `source.unit_of`: a word that becomes an f32 is first looked at
+    // whether it is a NaN.
     fn unit_of(&self, g: usize) -> Option<V3>
         requires { g < self.now.source.tables.plan.now.faces }
         ensures { result ≡ unit_of (normal_in self.now.source.tables.work.now self.now.source.tables.plan.now g) }

@@ -1,4 +1,4 @@
-// FORMAT 12.3, ear_clip, of four corners: most faces whose ears are clipped have no more, and there is but one corner beside the three of a triangle.
+// FORMAT 12.3, ear_clip, of four corners: there is but one corner beside the three of a triangle, so no table is needed.
 ghost use Rattle.std.specs.Prelude.{◌≡◌, ◌∷◌, map, ◌+◌, ◌<◌, ltb};
 ghost use Rattle.std.proofs.lemmas.List.Edits.{sets};
 ghost use Rattle.lists.specs.Loops.{pick};
@@ -8,6 +8,7 @@ ghost use Rattle.polygon.specs.Memo.{xy};
 use crate::ears::{place_of, put_tri};
 use crate::memo::{dot_at, is_ear_beside};
 
+// Whether corner i of the four is an ear.
 fn is_ear_of_four(p: &[f32], rev: bool, i: usize) -> bool
     requires { i < 4 }
     ensures { result ≡ is_ear (xy p.now) (order rev 4) i }

@@ -151,8 +151,8 @@ impl<'a> Field<'a> {
         get(self.left, k) == 1 && in_tri(dot_at(self.p, k as u32), self.t)
     }
 
-    // The first of the corners from `from` up to `to` that is left and lies in the triangle; none before `from` is and does, here and below. Corner by
-    // corner: of fewer than sixteen.
+    // The first of the corners from `from` up to `to` that is left and lies in the triangle, where no corner before `from` does, here and below. Corner by
+    // corner, of fewer than sixteen. Not inlined, as `block_hit`.
     #[inline(never)]
     fn scan(&self, from: usize, to: usize) -> Option<usize>
         requires { (to ≤ length self.now.left.now) × (from ≤ to) × ((j : ℕ) → j < from → hits self.now.left.now (inside (xy self.now.p.now) self.now.t.a self.now.t.b self.now.t.c) j ≡ false) }

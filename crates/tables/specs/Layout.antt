@@ -4,7 +4,8 @@ use Rattle.block.specs.Edition.{most}
 use Rattle.tables.specs.declared.layout.Plan.{Plan}
 
 -- points 3P, corners C, first corners F + 1, vertex numbers C, places C, face numbers F, owners C, rows 7F, heads P, nexts C;
--- and sums 4P, four words for each number that corners are gathered by, for what a crease rule makes once for all corners of one number.
+-- and sums 4P, four words for each number that corners are gathered by, for what a crease rule makes once for all corners of one number;
+-- before that, what each point's corners are gathered by stands there while the faces are grouped.
 -- Points stand in rings of `ring` (FORMAT 10.2), or in none
 unfoldable pub plan_of : ℕ → ℕ → ℕ → ℕ → Plan
 plan_of spots count faces ring =

@@ -41,7 +41,7 @@ impl<'a> Source<'a> {
         ensures { work.new ≡ spliced work.old textures
             (texture_words (set_texture self.now.block.now self.now.coord.now self.now.header self.now.settings fit work.old t) t.count) }
     {
-        // A loop of its own, as in grid and extrusion: each reads other tables of `work`, and a shared one would take this body back as a closure.
+        // A loop of its own, as in extrusion: each reads other tables of `work`, and a shared one would take this body back as a closure. Grid's reads none.
         for c in 0..t.count {
             let p = PointNumber(wide(work[t.corners + c]));
             let place = wide(work[t.places + c]);
