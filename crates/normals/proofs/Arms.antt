@@ -11,7 +11,7 @@ use Rattle.std.specs.Prelude.{Option}
 use Rattle.std.specs.Prelude.{Some, None}
 use Rattle.math.specs.Vector.{vadd, vdot, unit_of}
 use Rattle.block.specs.declared.crease.CreaseRule.TheVariants.{Bound}
-use Rattle.mesh.specs.Normals.{Hit, is_near, sum_near, near_sum, crease_sum}
+use Rattle.mesh.specs.Normals.{Hit, is_near, sum_near, near_sum, crease_sum, or_else}
 use Rattle.mesh.specs.Normals.{near_by}
 
 module _ (b : Float) (own : ℕ) (u : V3) (g : ℕ) (s n : V3) where
@@ -42,3 +42,12 @@ module _ (b : Float) (own : ℕ) (n : V3) (hs : List Hit) (k : (Option V3)) (h :
   pub sum_none : k ≡ None → r ≡ n → r ≡ crease_sum (Bound b) own n hs
   unfolding crease_sum near_sum
   sum_none i q = rw (← h, i) q
+
+-- one vector or else another
+pub else_some : (k : (Option V3)) (u y : V3) → k ≡ Some u → u ≡ or_else k y
+unfolding or_else
+else_some k u y e = rw e refl
+
+pub else_none : (k : (Option V3)) (y : V3) → k ≡ None → y ≡ or_else k y
+unfolding or_else
+else_none k y e = rw e refl

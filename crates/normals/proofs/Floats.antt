@@ -6,6 +6,7 @@ use mathlib.Core.List.{List}
 use Prim.Native.Nat.{ℕ, ◌+◌, ◌-◌, ◌*◌, ◌≤◌, ◌<◌}
 use native.Mathlib.Nat.{add-zero}
 use native.Mathlib.Omega.{arith}
+use borrow.Author.Tests.{eq-eqb, ne_eqb}
 use lib.Dec.{eqb}
 use lib.ListN.{length, get_or, drop}
 use lib.Seq.{drop-drop}
@@ -20,7 +21,7 @@ use Rattle.tables.specs.declared.layout.Plan.{Plan}
 use Rattle.lists.specs.Parts.{spliced, Out}
 use Rattle.lists.proofs.Splices.{put_size, put_at, put_out, put_above}
 use Rattle.lists.proofs.Numbers.{last_or}
-use Rattle.normals.specs.Rows.{normal_in, unit_in, vector, no_unit, Mirrored, Summed}
+use Rattle.normals.specs.Rows.{at3, unit_at, normal_in, unit_in, vector, no_unit, Mirrored, Summed}
 use Rattle.normals.specs.Written.{three}
 
 -- ---- no unit vector is near to nothing
@@ -45,6 +46,22 @@ pub near_mirrored : (b : Float) (own : ℕ) (u : V3) (g : ℕ) (k : (Option V3))
 unfolding near_by is_near or_else
 near_mirrored b own u g (Some v) s n = refl
 near_mirrored b own u g None s n = ap (λ (r : Bool). cond (eqb g own) s (cond r (vadd s n) s)) (far b u)
+
+-- ---- a unit vector by its flag, from the words and from the floats
+
+module _ (w : List ℕ) (a : ℕ) where
+  pub flag_none : get_or w a 0 ≡ 0 → unit_at w a ≡ None
+  unfolding unit_at
+  flag_none e = rw (eq-eqb (get_or w a 0) 0 e) refl
+
+  module _ (n : get_or w a 0 ≡ 0 → ⊥) where
+    flag_some : unit_at w a ≡ Some (at3 w (a + 1))
+    unfolding unit_at
+    flag_some = rw (ne_eqb (get_or w a 0) 0 n) refl
+
+    pub unit_mirrored : (v : V3) → v ≡ or_else (unit_at w a) no_unit → Some v ≡ unit_at w a
+    unfolding or_else
+    unit_mirrored v e = ap Some (e ∙ ap (λ (k : (Option V3)). or_else k no_unit) flag_some) ∙ sym flag_some
 
 -- ---- a vector put at a
 

@@ -101,11 +101,14 @@ impl<'a> Source<'a> {
         self.unit_of(g).unwrap_or(Y_AXIS)
     }
 
-    // The normal of a corner of face own, whose sum has the unit vector s.
+    // The normal of a corner of face own, whose sum has the unit vector s. No `unwrap_or`: the row would be read for each corner, and few are without one.
     pub fn normal_by(&self, own: usize, s: Option<V3>) -> V3
         requires { own < self.now.tables.plan.now.faces }
         ensures { result ≡ or_else s (or_else (unit_of (normal_in self.now.tables.work.now self.now.tables.plan.now own)) y_axis) }
     {
-        s.unwrap_or(self.own_normal(own))
+        if let Some(v) = s {
+            return v;
+        }
+        self.own_normal(own)
     }
 }

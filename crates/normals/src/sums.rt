@@ -2,6 +2,7 @@
 ghost use Rattle.std.specs.Prelude.{◌≡◌, true, ◌+◌, ◌≤◌, ◌<◌, length};
 ghost use Rattle.std.specs.Prelude.{Some};
 ghost use Rattle.block.specs.declared.crease.CreaseRule.TheVariants.{Bound};
+ghost use Rattle.math.specs.Vector.{unit_of};
 ghost use Rattle.mesh.specs.Normals.{near_by, sum_near, crease_sum};
 ghost use Rattle.tables.specs.Soups.{gather_in, owner_in};
 ghost use Rattle.normals.specs.Rows.{vector, normal_in, hits_at, Mirrored};
@@ -34,11 +35,11 @@ fn near_step(floats: &[f32], row: usize, g: usize, own: usize, u: V3, bound: f32
     ensures total { result.total ≡ near_by bound own u g (Some (vector floats.now (row + 3))) s.total (vector floats.now row) }
     ensures alone { result.alone ≡ true → (s.alone ≡ true) × (result.total ≡ s.total) }
 {
+    if g == own {
+        return s;
+    }
     let v = get3(floats, row + 3);
     if math::dot(u, v) > bound {
-        if g == own {
-            return s;
-        }
         return Sum {
             total: math::add(s.total, get3(floats, row)),
             alone: false,
@@ -78,6 +79,18 @@ impl<'a> Near<'a> {
         s
     }
 
+    // The unit vector of face g: whether it has one, by its row, and the vector as floats.
+    fn unit_of(&self, g: usize) -> Option<V3>
+        requires { g < self.now.source.tables.plan.now.faces }
+        ensures { result ≡ unit_of (normal_in self.now.source.tables.work.now self.now.source.tables.plan.now g) }
+    {
+        let t = self.source.tables.plan;
+        if self.source.tables.work[t.rows + 7 * g + 3] == 0 {
+            return None;
+        }
+        Some(get3(self.floats, 3 * t.count + 6 * g + 3))
+    }
+
     // The sum at the corners of face own that are gathered by p.
     fn sum_of(&self, p: PointNumber, own: usize) -> Sum
         requires { (p.0 < self.now.source.tables.plan.now.spots) × (own < self.now.source.tables.plan.now.faces) }
@@ -85,7 +98,7 @@ impl<'a> Near<'a> {
             (hits_at self.now.source.tables.work.now self.now.source.tables.plan.now p.0) }
         ensures alone { result.alone ≡ true → result.total ≡ normal_in self.now.source.tables.work.now self.now.source.tables.plan.now own }
     {
-        let Some(u) = self.source.unit_of(own) else {
+        let Some(u) = self.unit_of(own) else {
             return Sum {
                 total: self.source.normal_of(own),
                 alone: true,

@@ -2,9 +2,9 @@
 ghost use Rattle.std.specs.Prelude.{◌≡◌, [], ◌∷◌, map, ◌^◌, ◌≤◌, ◌<◌, length};
 ghost use Rattle.std.proofs.lemmas.List.Edits.{sets};
 ghost use Rattle.polygon.specs.Points.{spots};
-ghost use Rattle.polygon.specs.Plane.{entry, handed, most, axis_of, projected, projection, flat2};
+ghost use Rattle.polygon.specs.Plane.{entry, handed, most, axis_of, projection, flat2};
 
-use crate::points::spot;
+use crate::points::entry_at;
 use block::PointNumber;
 use lists::put;
 use math::V3;
@@ -52,40 +52,38 @@ fn axis_of(n: V3) -> u32
     2
 }
 
-// `flip` says that the face is seen from behind; it is found once of each face. A flag and not a closure: it only swaps the two coordinates, and both
-// orders stand here.
-fn put_projected(out: &mut [f32], k: usize, p: V3, axis: u32, flip: bool)
-    requires { (k < 2 ^ 40) × (axis < 3) }
-    ensures { out.new ≡ sets out.old k (flat2 (projected axis flip p ∷ [])) }
+// Where one point lies in the plane, to place k.
+fn put_pair(out: &mut [f32], k: usize, x: f32, y: f32)
+    requires { k < 2 ^ 40 }
+    ensures { out.new ≡ sets out.old k (flat2 ((x, y) ∷ [])) }
 {
-    let u = entry_of(p, (axis + 1) % 3);
-    let v = entry_of(p, (axis + 2) % 3);
-    if flip {
-        put(out, k, v);
-        put(out, k + 1, u);
-    } else {
-        put(out, k, u);
-        put(out, k + 1, v);
-    }
+    put(out, k, x);
+    put(out, k + 1, y);
 }
 
-fn put_projection(points: &[u32], names: &[u32], axis: u32, flip: bool, out: &mut [f32])
-    requires { (axis < 3) × (length names.now ≤ 2 ^ 31) }
-    ensures { out.new ≡ sets out.old 0 (flat2 (map (projected axis flip) (spots points.now names.now))) }
+// The entries u and v of each point: no more is read of it.
+fn put_entries(points: &[u32], names: &[u32], u: u32, v: u32, out: &mut [f32])
+    requires { (u < 3) × (v < 3) × (length names.now ≤ 2 ^ 31) }
+    ensures { out.new ≡ sets out.old 0 (flat2 (map (λ p. (entry p u, entry p v)) (spots points.now names.now))) }
 {
     for (i, name) in names.iter().enumerate() {
-        let p = spot(points, PointNumber(*name as usize));
-        put_projected(out, i * 2, p, axis, flip);
+        let p = PointNumber(*name as usize);
+        put_pair(out, i * 2, entry_at(points, p, u), entry_at(points, p, v));
     }
 }
 
-// The coordinates of a face's points in the plane, two a corner, to the front of `plane`.
+// The coordinates of a face's points in the plane, two a corner, to the front of `plane`. The face is seen from behind where the two are exchanged.
 pub fn project(points: &[u32], names: &[u32], normal: V3, ccw: bool, plane: &mut [f32])
     requires { length names.now ≤ 2 ^ 31 }
     ensures { plane.new ≡ sets plane.old 0 (flat2 (projection ccw normal (spots points.now names.now))) }
 {
     let n = handed_of(ccw, normal);
     let axis = axis_of(n);
-    let flip = entry_of(n, axis) < 0.0;
-    put_projection(points, names, axis, flip, plane);
+    let u = (axis + 1) % 3;
+    let v = (axis + 2) % 3;
+    if entry_of(n, axis) < 0.0 {
+        put_entries(points, names, v, u, plane);
+    } else {
+        put_entries(points, names, u, v, plane);
+    }
 }

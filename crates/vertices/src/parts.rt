@@ -45,8 +45,8 @@ pub fn same_row(key: &[u32], j: usize, l: &[u32], n: usize, w: usize, i: usize) 
     is_other_row(key, j, l, w, i)
 }
 
-// The n words of src from j, into dst from at. As many as an attribute has go one by one: as a copy of n words they take near twice as long (measured by
-// themselves).
+// The n words of src from j, into dst from at. As many as an attribute has go one by one: three of them, as a copy of n words, take near twice as long
+// (measured by themselves).
 #[inline(always)]
 fn put_words(dst: &mut [u32], at: usize, src: &[u32], j: usize, n: usize)
     requires { (at + n ≤ length dst.old) × (j + n ≤ length src.now) }
