@@ -14,6 +14,9 @@ pub mod Lists
 pub mod Totals
 pub mod Rows
 pub mod Below
+pub mod Found
+pub mod Removal
+pub mod Counts
 pub mod Words
 pub mod Pieces
 pub mod Squares

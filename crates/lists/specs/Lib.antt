@@ -3,4 +3,6 @@ pub mod Loops
 pub mod Parts
 pub mod Lists
 pub mod Named
+pub mod Searches
+pub mod Counts
 pub mod Updates

@@ -1,4 +1,5 @@
--- How the lists of a mesh are made: numbered pieces joined, rows, keys without repeats in the order of first meeting, and words compared.
+-- How the lists of a mesh are made: numbered pieces joined, rows, keys without repeats in the order of first meeting, words compared, numbers all below one,
+-- and a list without one of its places.
 use Rattle.std.specs.Prelude.{Bool, true, false, ◌&&◌, ◌||◌, cond, List, [], ◌∷◌, ◌++◌, ℕ, zero, suc, ◌+◌, eqb, ltb}
 use Rattle.lists.specs.Loops.{tab}
 
@@ -57,3 +58,9 @@ tabs f n m = flat (tab (λ i. tab (f i) m 0) n 0)
 unfoldable pub all_below : ℕ → List ℕ → Bool
 all_below p [] = true
 all_below p (w ∷ ws) = ltb w p && all_below p ws
+
+-- FORMAT 12.3, ear_clip (idx.remove): the list without its place i
+unfoldable pub remove : {A : Type 0} → ℕ → List A → List A
+remove i [] = []
+remove zero (x ∷ xs) = xs
+remove (suc i) (x ∷ xs) = x ∷ remove i xs

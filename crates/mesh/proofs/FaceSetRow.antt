@@ -14,7 +14,7 @@ use Rattle.lists.specs.Loops.{any, tab, run, first}
 use Rattle.polygon.specs.Points.{spot, spots}
 use Rattle.polygon.specs.Facing.{newell_from, newell}
 use Rattle.polygon.specs.Plane.{handed, axis_of, flip_of, projected, projection}
-use Rattle.polygon.specs.Ears.{fan_from, fan, cross2, point_in_tri, blocks, is_ear, first_ear, remove, goes, clip, area_term, area, is_reversed, place as turned, order, turn, ear_clip_by, ear_clip}
+use Rattle.polygon.specs.Ears.{fan_from, fan, cross2, point_in_tri, blocks, is_ear, first_ear, goes, clip, area_term, area, is_reversed, place as turned, order, turn, ear_clip_by, ear_clip}
 use Rattle.polygon.specs.Face.{face_tris, triangles}
 use Rattle.block.specs.Edition.{edition1, edition_of}
 use Rattle.block.specs.Header.{counts_of, header_of}
@@ -25,7 +25,7 @@ use Rattle.block.specs.Texture.{uv_words}
 use Rattle.block.specs.Runs.{ends_run, runs_from, kept}
 use Rattle.block.specs.Stream.{itself, chosen, number_in, number_at}
 use Rattle.block.specs.Value.{value_at}
-use Rattle.lists.specs.Lists.{map_n, join_n, has, place, meet, firsts, same_words, flat, all_below}
+use Rattle.lists.specs.Lists.{map_n, join_n, has, place, meet, firsts, same_words, flat, all_below, remove}
 use Rattle.mesh.specs.Words.{point_words}
 use Rattle.mesh.specs.Normals.{outline, facing, hits, hits_of, incident, crease_sum, or_else, generated, corner_normal}
 use Rattle.mesh.specs.Vertices.{same_key, key_of, keys_of, vertices, wound, locals, face_indices, indices_of}

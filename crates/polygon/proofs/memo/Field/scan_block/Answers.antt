@@ -4,7 +4,7 @@ use Prim.Native.Nat.{◌≤◌, ◌<◌}
 use native.Mathlib.Omega.{arith}
 use Rattle.lists.proofs.Numbers.{le_or_lt}
 use Rattle.polygon.specs.Memo.{xy, inside, hits}
-use Rattle.polygon.proofs.Blocks.{none_here, last_block}
+use Rattle.lists.proofs.Found.{none_here, last_block}
 use Rattle.polygon.proofs.memo.Field.scan_block.Goals as goal
 
 pub returns-then-not-is_block_near : goal.returns-then-not-is_block_near
