@@ -15,7 +15,7 @@ pub struct Place {
 
 impl Place {
     // The bytes that lie there.
-    pub fn part(self, block: &[u8]) -> &[u8]
+    pub(crate) fn part(self, block: &[u8]) -> &[u8]
         ensures { result.now ≡ take self.len (drop self.at block.now) }
     {
         bits::part(block, self.at, self.len)

@@ -27,8 +27,7 @@ pub use runs::{
 };
 pub use settings::{Settings, finite_transform, read_settings};
 pub use stream::{
-    Stream, chosen_list, color_stream, get, get4, normal_stream, number_at, number_in,
-    texture_stream,
+    Attribute, Stream, chosen_list, color_stream, normal_stream, number_at, texture_stream,
 };
 pub use texture::{Pair, TexTransform, uv};
 pub use topology::Topology;

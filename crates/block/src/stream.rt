@@ -1,6 +1,6 @@
 // Which value of an attribute a corner reads (FORMAT 7.1; Stream::get).
 ghost use Rattle.std.specs.Prelude.{◌≡◌, ◌<◌, true};
-ghost use Rattle.block.specs.Stream.{index_bytes, stream_of, is_negative, chosen, number_in, number_at, found_at, get_at, get4_at};
+ghost use Rattle.block.specs.Stream.{index_bytes, stream_of, is_negative, chosen, number_in, number_at, values_in, index_in, found_at, get_at, get4_at};
 
 use crate::extents::{Place, list_place};
 use crate::header::Header;
@@ -76,7 +76,7 @@ pub fn chosen_list<'a>(own: &'a [u8], coord: &'a [u8]) -> &'a [u8]
 }
 
 // The number at place `k` of a list, or `k` itself where the list is empty. What no u32 holds is beyond every list of values.
-pub fn number_in(list: &[u8], k: usize) -> Option<u32>
+fn number_in(list: &[u8], k: usize) -> Option<u32>
     ensures { result ≡ number_in list.now k }
 {
     let n = list.len() / 4;
@@ -106,49 +106,52 @@ pub fn number_at<'a>(
     number_in(own, face)
 }
 
-// The same for an attribute of a block.
-fn found_at<'a>(
-    block: &'a [u8],
-    coord: &'a [u8],
-    s: Stream,
-    place: usize,
-    face: usize,
-) -> Option<u32>
-    ensures { result ≡ found_at block.now coord.now s place face }
-{
-    number_at(s.index.part(block), coord, s.per_vertex, place, face)
+// An attribute of a block, its bytes cut out once for all corners: those of its values, and those of its own index list.
+// `block` and `coord` are two slices, and no struct with the fact that `coord` is the block's list 1, which facesetshape and primitiveshape ask: a grid and an
+// extrusion have no coordIndex, and an empty slice goes for it. Nor are they a struct without the fact: whoever lists runs reads `coord` alone.
+#[derive(Clone, Copy)]
+pub struct Attribute<'a> {
+    pub block: &'a [u8],
+    pub coord: &'a [u8],
+    pub stream: Stream,
+    values: &'a [u8],
+    own: &'a [u8],
+    ghost values_are: { values.now ≡ values_in block.now stream },
+    ghost own_is: { own.now ≡ index_in block.now stream },
 }
 
-// What an attribute has at a corner. `block` and `coord` are two slices here and above, and no struct with the fact that `coord` is the block's list 1, which
-// facesetshape and primitiveshape ask: a grid and an extrusion have no coordIndex, and an empty slice goes for it. Nor are they a struct without the fact:
-// whoever lists runs reads `coord` alone. `place` and `face` are two numbers, and `number_at` reads the one or the other: a struct of both would be built
-// at each call only to be taken apart.
-pub fn get<'a, V: Value>(
-    block: &'a [u8],
-    coord: &'a [u8],
-    s: Stream,
-    place: usize,
-    face: usize,
-    missing: V,
-) -> V
-    ensures { result ≡ get_at V.made V.width block.now coord.now s place face missing }
-{
-    let found = found_at(block, coord, s, place, face);
-    value_or(s.values.part(block), found, missing)
-}
+impl<'a> Attribute<'a> {
+    pub fn of(block: &'a [u8], coord: &'a [u8], stream: Stream) -> Attribute<'a>
+        ensures { (result.block.now ≡ block.now) × (result.coord.now ≡ coord.now) × (result.stream ≡ stream) }
+    {
+        Attribute {
+            block,
+            coord,
+            stream,
+            values: stream.values.part(block),
+            own: stream.index.part(block),
+        }
+    }
 
-// A colour, of 4 words or of 3.
-pub fn get4<'a>(
-    block: &'a [u8],
-    coord: &'a [u8],
-    s: Stream,
-    alpha: bool,
-    place: usize,
-    face: usize,
-    missing: Words4,
-) -> Words4
-    ensures { result ≡ get4_at block.now coord.now s alpha place face missing }
-{
-    let found = found_at(block, coord, s, place, face);
-    value4(s.values.part(block), alpha, found, missing)
+    // The number of the value that a corner reads. `place` and `face` are two numbers, and `number_at` reads the one or the other: a struct of both would be
+    // built at each call only to be taken apart.
+    fn found_at(&self, place: usize, face: usize) -> Option<u32>
+        ensures { result ≡ found_at self.now.block.now self.now.coord.now self.now.stream place face }
+    {
+        number_at(self.own, self.coord, self.stream.per_vertex, place, face)
+    }
+
+    // What the attribute has at a corner.
+    pub fn get<V: Value>(&self, place: usize, face: usize, missing: V) -> V
+        ensures { result ≡ get_at V.made V.width self.now.block.now self.now.coord.now self.now.stream place face missing }
+    {
+        value_or(self.values, self.found_at(place, face), missing)
+    }
+
+    // A colour, of 4 words or of 3.
+    pub fn get4(&self, alpha: bool, place: usize, face: usize, missing: Words4) -> Words4
+        ensures { result ≡ get4_at self.now.block.now self.now.coord.now self.now.stream alpha place face missing }
+    {
+        value4(self.values, alpha, self.found_at(place, face), missing)
+    }
 }

@@ -7,10 +7,10 @@ ghost use Rattle.vertices.specs.Places.{normal_words, colour_words, texture_word
 ghost use Rattle.vertices.specs.Search.{corner_key};
 ghost use Rattle.corners.specs.Given.{lent_in};
 
-use crate::attributes::Given;
+use crate::attributed::Attributed;
 use crate::laid::CornerTables;
 use bits::{Words2, Words3, Words4};
-use block::{CornerNumber, PointNumber, get4};
+use block::{CornerNumber, PointNumber};
 use tables::wide;
 use vertices::{KEY_WORDS, Widths};
 
@@ -61,39 +61,31 @@ impl<'a> Corner<'a> {
 
     // Its normal as it goes into the key: supplied, or generated.
     #[tactic(auto, unfolding(crate::specs::Corner::normal_at))]
-    fn normal(&self, g: &Given<'_>) -> Words3
-        requires { 3 * self.now.tables.now.count ≤ length g.now.floats.now }
-        ensures { result ≡ normal_at (lent_in g.now) g.now.attributes self.now.work.now self.now.tables.now self.now.c.0 }
+    fn normal(&self, g: &Attributed<'_>) -> Words3
+        requires { 3 * self.now.tables.now.count ≤ length g.now.given.now.floats.now }
+        ensures { result ≡ normal_at (lent_in g.now.given.now) g.now.given.now.attributes self.now.work.now self.now.tables.now self.now.c.0 }
     {
-        let a = g.attributes;
-        let Some(s) = a.normals else {
-            return generated_of(g.floats, self.c);
-        };
-        let none = Words3::default();
-        block::get(g.block, g.coord, s, self.place(), self.number(), none)
+        if g.given.attributes.normals.is_some() {
+            let none = Words3::default();
+            return g.normals.get(self.place(), self.number(), none);
+        }
+        generated_of(g.given.floats, self.c)
     }
 
     #[tactic(auto, unfolding(crate::specs::Corner::colour_at))]
-    fn colour(&self, g: &Given<'_>) -> Words4
-        ensures { result ≡ colour_at (lent_in g.now) g.now.attributes self.now.work.now self.now.tables.now self.now.c.0 }
+    fn colour(&self, g: &Attributed<'_>) -> Words4
+        ensures { result ≡ colour_at (lent_in g.now.given.now) g.now.given.now.attributes self.now.work.now self.now.tables.now self.now.c.0 }
     {
-        let a = g.attributes;
-        get4(
-            g.block,
-            g.coord,
-            a.colours,
-            a.alpha,
-            self.place(),
-            self.number(),
-            a.missing,
-        )
+        let a = g.given.attributes;
+        g.colours
+            .get4(a.alpha, self.place(), self.number(), a.missing)
     }
 
     // The three that follow: an attribute of which no word is made is not looked up.
     #[tactic(auto, using(crate::proofs::Mades::same_none))]
-    fn made_normal(&self, g: &Given<'_>, w: usize) -> Words3
-        requires { 3 * self.now.tables.now.count ≤ length g.now.floats.now }
-        ensures { take w (words3 result) ≡ take w (words3 (normal_at (lent_in g.now) g.now.attributes self.now.work.now self.now.tables.now self.now.c.0)) }
+    fn made_normal(&self, g: &Attributed<'_>, w: usize) -> Words3
+        requires { 3 * self.now.tables.now.count ≤ length g.now.given.now.floats.now }
+        ensures { take w (words3 result) ≡ take w (words3 (normal_at (lent_in g.now.given.now) g.now.given.now.attributes self.now.work.now self.now.tables.now self.now.c.0)) }
     {
         if w == 0 {
             return Words3::default();
@@ -102,8 +94,8 @@ impl<'a> Corner<'a> {
     }
 
     #[tactic(auto, using(crate::proofs::Mades::same_none))]
-    fn made_colour(&self, g: &Given<'_>, w: usize) -> Words4
-        ensures { take w (words4 result) ≡ take w (words4 (colour_at (lent_in g.now) g.now.attributes self.now.work.now self.now.tables.now self.now.c.0)) }
+    fn made_colour(&self, g: &Attributed<'_>, w: usize) -> Words4
+        ensures { take w (words4 result) ≡ take w (words4 (colour_at (lent_in g.now.given.now) g.now.given.now.attributes self.now.work.now self.now.tables.now self.now.c.0)) }
     {
         if w == 0 {
             return Words4::default();
@@ -122,11 +114,11 @@ impl<'a> Corner<'a> {
     }
 
     // The words of its key, of which those that are not made are any.
-    pub fn key(&self, g: &Given<'_>, w: Widths) -> [u32; KEY_WORDS]
-        requires { (3 * self.now.tables.now.count ≤ length g.now.floats.now)
+    pub fn key(&self, g: &Attributed<'_>, w: Widths) -> [u32; KEY_WORDS]
+        requires { (3 * self.now.tables.now.count ≤ length g.now.given.now.floats.now)
             × ((w.normal ≤ normal_words) × (w.colour ≤ colour_words) × (w.texture ≤ texture_words)) }
         ensures { corner_key w (point_at self.now.work.now self.now.tables.now self.now.c.0) result
-            ≡ key_in (lent_in g.now) g.now.attributes w self.now.work.now self.now.tables.now self.now.c.0 }
+            ≡ key_in (lent_in g.now.given.now) g.now.given.now.attributes w self.now.work.now self.now.tables.now self.now.c.0 }
     {
         let n = self.made_normal(g, w.normal);
         let k = self.made_colour(g, w.colour);

@@ -8,10 +8,11 @@ ghost use Rattle.corners.specs.Given.{lent_in};
 ghost use Rattle.corners.specs.Numbered.{Numbered};
 ghost use Rattle.corners.specs.Cornered.{Ready, Cornered};
 
+use crate::attributed::Attributed;
 use crate::attributes::Given;
 use crate::key::Corner;
 use crate::laid::CornerTables;
-use block::{CornerNumber, VertexNumber};
+use block::{Attribute, CornerNumber, VertexNumber};
 use tables::{fill, narrow};
 use vertices::{Chains, VertexSlices, Widths, count_after, vertex};
 
@@ -64,6 +65,13 @@ pub fn all_vertices(
     ensures cornered { Cornered (lent_in g.now) g.now.attributes w t (store_in slices.old) work.old (store_in slices.new) work.new result.0 }
 {
     fill(work, t.heads, t.buckets, 0);
+    let a = g.attributes;
+    let normals = a.normals.unwrap_or(a.colours);
+    let given = Attributed {
+        given: g,
+        normals: Attribute::of(g.block, g.coord, normals),
+        colours: Attribute::of(g.block, g.coord, a.colours),
+    };
     let mut n = VertexNumber(0);
     for i in 0..t.count {
         let c = CornerNumber(i);
@@ -72,7 +80,7 @@ pub fn all_vertices(
             tables: &t,
             c,
         };
-        let key = corner.key(g, w);
+        let key = corner.key(&given, w);
         n = number_corner(slices, work, w, t, n, c, &key);
     }
     n

@@ -6,4 +6,4 @@ use Rattle.corners.proofs.whole.all_vertices.Given as goal
 abbrev pub invariant-loop-i : goal.invariant-loop-i
 invariant-loop-i l =
     SameSlices l.initial.slices l.slices
-    × Turning (lent_in l.g) l.g.attributes l.w l.t (store_in l.initial.slices) l.initial.work l.i l.n.0 (store_in l.slices) l.work
+    × Turning (lent_in l.fn.g) l.fn.g.attributes l.w l.t (store_in l.initial.slices) l.initial.work l.i l.n.0 (store_in l.slices) l.work

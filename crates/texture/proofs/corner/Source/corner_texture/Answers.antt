@@ -1,13 +1,12 @@
-use Rattle.block.specs.Stream.{stream_of, number_at}
 use Rattle.block.specs.Texture.{uv_words}
 use Rattle.texture.specs.Corner.{texture_in}
 use Rattle.texture.proofs.corner.Source.corner_texture.Goals as goal
 
 pub returns-then-self : goal.returns-then-self
-unfolding texture_in uv_words number_at stream_of
+unfolding texture_in uv_words
 returns-then-self c =
     let S = c.args.self.now in
-    rw (c.uv.ensures, c.value_or.ensures, c.number_in-found.ensures, S.transform_is, S.numbers_are, S.values_are, c.if-self.true)
+    rw (c.uv.ensures, c.get-listed.ensures, S.transform_is, S.stream_is, S.coord_is, S.block_is, c.if-self.true)
 
 pub returns-then-self-2 : goal.returns-then-self-2
 unfolding texture_in uv_words
