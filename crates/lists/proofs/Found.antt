@@ -55,12 +55,12 @@ module _ (f : ℕ → Bool) (n : ℕ) where
   pub none_here : ((j : ℕ) → j < n → f j ≡ false) → None ≡ found n (first f n 0)
   none_here free = found_none n _ (omega (arith, none_of free))
 
-  -- of the last sixteen
-  pub last_block : 16 ≤ n → ((j : ℕ) → j < n - 16 → f j ≡ false) → found (n - 16 + 16) (first f 16 (n - 16)) ≡ found n (first f n 0)
-  last_block h clear =
-      let e : n - 16 + 16 ≡ n = omega arith in
-      let d : 16 ≡ n - (n - 16) = omega arith in
-      (λ i. found (e i) (first f (d i) (n - 16))) ∙ ap (found n) (first_from f n (n - 16) clear (omega arith))
+  -- of the last w numbers
+  pub last_block : (w : ℕ) → w ≤ n → ((j : ℕ) → j < n - w → f j ≡ false) → found (n - w + w) (first f w (n - w)) ≡ found n (first f n 0)
+  last_block w h clear =
+      let e : n - w + w ≡ n = omega arith in
+      let d : w ≡ n - (n - w) = omega arith in
+      (λ i. found (e i) (first f (d i) (n - w))) ∙ ap (found n) (first_from f n (n - w) clear (omega arith))
 
   -- the first among the numbers up to e, where there is one and where there is none
   pub first_all : (e h : ℕ) → e ≤ n → Some h ≡ found e (first f e 0) → Some h ≡ found n (first f n 0)

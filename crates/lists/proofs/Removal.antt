@@ -49,8 +49,8 @@ module _ {A : Type 0} where
 
 -- ---- a search in it
 
-module _ (f : ℕ → Bool) where
-  any_remove_none : (i : ℕ) (l : List ℕ) → any f l ≡ false → any f (remove i l) ≡ false
+module _ {A : Type 0} (f : A → Bool) where
+  any_remove_none : (i : ℕ) (l : List A) → any f l ≡ false → any f (remove i l) ≡ false
   unfolding any remove
   any_remove_none i [] e = e
   any_remove_none zero (x ∷ l) e = none_tail (f x) (any f l) e
