@@ -10,13 +10,14 @@ use Rattle.std.specs.Iterator.{AlwaysYields}
 use Rattle.std.specs.Slice.Iter.{chunks_exact_rest, chunks_exact_size, chunks_exact_steps}
 use Rattle.std.proofs.lemmas.Iterator.{YieldsList}
 use Rattle.std.specs.declared.slice.ChunksExact.{ChunksExact}
-use Rattle.bits.specs.Bits.{word_at, table, entries}
+use Rattle.lists.specs.Loops.{tab}
+use Rattle.bits.specs.Bits.{word_at, entries}
 use Rattle.bits.proofs.Entries.{entries_length, entries_part}
 
 -- one chunk has one entry
 one : (x : List ℕ) → length x ≡ 4 → entries x ≡ word_at x 0 ∷ []
-unfolding entries table
-one x h = let e : length x / 4 ≡ 1 = omega arith in ap (λ (n : ℕ). table n (λ k. word_at x (4 * k))) e
+unfolding entries tab
+one x h = let e : length x / 4 ≡ 1 = omega arith in ap (λ (n : ℕ). tab (λ k. word_at x (4 * k)) n 0) e
 
 -- the entries are those of whole chunks
 whole : (r : List ℕ) (n : ℕ) → n ≡ length r / 4 → entries (take (4 * n) r) ≡ entries r
@@ -41,8 +42,8 @@ entries_first {bs} x r e h =
 
 -- without one there is none
 pub entries_none : (bs : List ℕ) → length bs < 4 → entries bs ≡ []
-unfolding entries table
-entries_none bs h = let e : length bs / 4 ≡ 0 = omega arith in ap (λ (n : ℕ). table n (λ k. word_at bs (4 * k))) e
+unfolding entries tab
+entries_none bs h = let e : length bs / 4 ≡ 0 = omega arith in ap (λ (n : ℕ). tab (λ k. word_at bs (4 * k)) n 0) e
 
 -- chunks of four bytes give the entries, one by one
 chunks_yield : (ws : List ℕ) (s : ChunksExact ℕ) → chunks_exact_size s ≡ 4 → entries (chunks_exact_rest s) ≡ ws → AlwaysYields chunks_exact_steps (λ (x : Bor (List ℕ)). word_at x.now 0) s ws

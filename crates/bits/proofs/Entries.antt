@@ -6,27 +6,17 @@ use native.Mathlib.Nat.{le_of_suc-le-suc, not-suc-le-zero}
 use native.Mathlib.Omega.{arith}
 use lib.ListN.{length, get_or, take, drop, length-take, length-drop}
 use lib.Seq.{ext_get_or, get_or-take, get_or-drop}
-use Rattle.bits.specs.Bits.{bit_at, field, word_at, table, entries, bytes_of}
+use Rattle.lists.proofs.Tabs.{length_tab, tab_at}
+use Rattle.bits.specs.Bits.{bit_at, field, word_at, entries, bytes_of}
 use Rattle.bits.proofs.Fields.{word_is}
-
-table_length : (n : ℕ) (f : ℕ → ℕ) → length (table n f) ≡ n
-unfolding table
-table_length zero f = refl
-table_length (suc n) f = ap suc (table_length n (λ k. f (suc k)))
-
-table_at : (n : ℕ) (f : ℕ → ℕ) (i : ℕ) → i < n → get_or (table n f) i 0 ≡ f i
-unfolding table
-table_at zero f i h = absurd (not-suc-le-zero h)
-table_at (suc n) f zero h = refl
-table_at (suc n) f (suc i) h = table_at n (λ k. f (suc k)) i (le_of_suc-le-suc h)
 
 pub entries_length : (bs : List ℕ) → length (entries bs) ≡ length bs / 4
 unfolding entries
-entries_length bs = table_length _ _
+entries_length bs = length_tab (λ k. word_at bs (4 * k)) (length bs / 4) 0
 
 pub entries_at : (bs : List ℕ) (i : ℕ) → i < length bs / 4 → get_or (entries bs) i 0 ≡ word_at bs (4 * i)
 unfolding entries
-entries_at bs i h = table_at _ _ i h
+entries_at bs i h = tab_at (λ k. word_at bs (4 * k)) (length bs / 4) i 0 h
 
 -- fields of the same bits are the same
 field_agree : (bs cs : List ℕ) (i j n : ℕ) → ((k : ℕ) → k < n → bit_at bs (i + k) ≡ bit_at cs (j + k)) → field bs i n ≡ field cs j n

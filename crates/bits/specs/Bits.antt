@@ -1,5 +1,6 @@
 -- Fields of bits in a list of bytes, packed most significant bit first; words; the entries of an index list. FORMAT 2.1.
 use Rattle.std.specs.Prelude.{ℕ, zero, suc, ◌+◌, ◌-◌, ◌*◌, ◌/◌, ◌%◌, ◌^◌, List, [], ◌∷◌, length, get_or}
+use Rattle.lists.specs.Loops.{tab}
 
 -- bit i of the bytes: bit 0 is the most significant bit of byte 0
 abbrev pub bit_at : List ℕ → ℕ → ℕ
@@ -14,14 +15,9 @@ field bs i (suc n) = field bs i n * 2 + bit_at bs (i + n)
 abbrev pub word_at : List ℕ → ℕ → ℕ
 word_at bs at = field bs (at * 8) 32
 
--- f 0, f 1, .. f (n - 1)
-unfoldable pub table : ℕ → (ℕ → ℕ) → List ℕ
-table zero f = []
-table (suc n) f = f 0 ∷ table n (λ k. f (suc k))
-
 -- the entries of an index list: four bytes each
 unfoldable pub entries : List ℕ → List ℕ
-entries bs = table (length bs / 4) (λ k. word_at bs (4 * k))
+entries bs = tab (λ k. word_at bs (4 * k)) (length bs / 4) 0
 
 -- the bytes of words, four each
 abbrev pub bytes_of : List ℕ → List ℕ

@@ -1,22 +1,25 @@
 -- Laws of runs: the length of a run, the first of the runs and the rest, kept faces, and a turn of a loop over the runs.
 -- What ends a run is `ends_run`, which is never opened here. Assumes nothing.
-use Prim.Native.Nat.{ℕ, zero, suc, ◌+◌, ◌-◌, ◌*◌, ◌/◌, ◌≤◌, ◌<◌}
+use Prim.Native.Nat.{ℕ, suc, ◌+◌, ◌-◌, ◌*◌, ◌/◌, ◌≤◌, ◌<◌}
 use mathlib.Core.Path.{◌≡◌, refl, ap, sym, ◌∙◌, subst}
-use mathlib.Core.Bool.{Bool, true, false, cond, not, ◌&&◌, ◌||◌}
+use mathlib.Core.Bool.{Bool, true, false, cond, not}
 use mathlib.Core.List.{List, [], ◌∷◌, ◌++◌, append_assoc, append-nil}
-use borrow.Author.Tests.{le-leb, lt-leb, lt-ltb, le-ltb, ltb-true, ltb-false}
-use native.Mathlib.Nat.{not-suc-le-zero, le_of_suc-le-suc}
+use borrow.Author.Tests.{le-leb, lt-leb, lt-ltb, le-ltb, ltb-false}
+use native.Mathlib.Nat.{not-suc-le-zero}
 use native.Mathlib.Omega.{arith}
 use native.Mathlib.Numerals.{add-one}
-use lib.Dec.{T, leb, ltb, leb→le, ltb→lt}
+use lib.Dec.{T, leb, ltb, leb→le}
 use lib.Ieee.Fits.{and_l, and_r}
 use lib.ListN.{length, get_or, take, drop, drop_of_length-le, length-append, length-take, length-drop}
 use lib.Seq.{drop-drop}
 use Rattle.std.specs.Prelude.{Option, None, Some, unwrap_or}
-use Rattle.std.specs.List.{list_any, list_all, position_or_len, range_with_len}
-use Rattle.bits.specs.Bits.{table, entries}
+use Rattle.std.specs.List.{position_or_len}
+use Rattle.lists.specs.Loops.{tab}
+use Rattle.lists.proofs.Below.{below_at}
+use Rattle.bits.specs.Bits.{entries}
 use Rattle.bits.proofs.Entries.{entries_length, entries_part}
-use Rattle.block.specs.Runs.{ends_run, Run, run_of, before, runs_from, runs, split_from, runs_left, run_length, run_at, RunPart, next_start, all_below, kept, faces, corners, triangles}
+use Rattle.lists.specs.Lists.{all_below}
+use Rattle.block.specs.Runs.{ends_run, Run, run_of, before, runs_from, runs, split_from, runs_left, run_length, run_at, RunPart, next_start, kept, faces, corners, triangles}
 use Rattle.block.specs.Stream.{is_negative}
 
 -- ---- the length of a run
@@ -64,7 +67,7 @@ run_part_lem bs s e p q =
     }
 
 pub run_past : (bs : List ℕ) (s : ℕ) → length bs / 4 ≤ s → RunPart bs s []
-unfolding entries table
+unfolding entries tab
 run_past bs s h =
     let e : run_length (drop s (entries bs)) ≡ 0 = run_over (entries bs) s (omega (arith, entries_length bs)) in
     record { bytes = rw e; items = rw e refl; within = omega arith }
@@ -170,38 +173,6 @@ unfolding runs_from
 runs_over bs s h = rw (drop_of_length-le (entries bs) {i = s} (omega (arith, entries_length bs)))
 
 -- ---- kept faces
-
--- as its entries are read by their numbers
-pub below_from : (p : ℕ) (ws : List ℕ) (test : ℕ → Bool) (s : ℕ) → ((k : ℕ) → k < length ws → test (s + k) ≡ ltb (get_or ws k 0) p) → list_all test (range_with_len s (length ws)) ≡ all_below p ws
-unfolding all_below
-below_from p [] test s h = refl
-below_from p (w ∷ ws) test s h =
-    let d : s ≡ s + 0 = omega arith in
-    let a : test s ≡ ltb w p = ap test d ∙ h 0 (omega arith) in
-    let b = below_from p ws test (s + 1) (λ k l. let e : s + 1 + k ≡ s + suc k = omega arith in ap test e ∙ h (suc k) (omega arith)) in
-    λ i. a i && b i
-
--- and one after another
-pub below_each : (p : ℕ) (ws : List ℕ) → list_all (λ w. ltb w p) ws ≡ all_below p ws
-unfolding all_below
-below_each p [] = refl
-below_each p (w ∷ ws) = ap (λ b. ltb w p && b) (below_each p ws)
-
--- whether some entry is above a limit
-pub any_above : (n : ℕ) (ws : List ℕ) → list_any (ltb n) ws ≡ not (all_below (suc n) ws)
-unfolding all_below
-any_above n [] = refl
-any_above n (w ∷ ws) = go (ltb n w) refl (any_above n ws)
-  where
-    go : (b : Bool) → ltb n w ≡ b → list_any (ltb n) ws ≡ not (all_below (suc n) ws) → b || list_any (ltb n) ws ≡ not (ltb w (suc n) && all_below (suc n) ws)
-    go true e h = rw (le-ltb w (suc n) (omega (arith, ltb-true n w e))) refl
-    go false e h = rw (lt-ltb w (suc n) (omega (arith, ltb-false n w e))) h
-
-pub below_at : (p : ℕ) (ws : List ℕ) → T (all_below p ws) → (k : ℕ) → k < length ws → get_or ws k 0 < p
-unfolding all_below
-below_at p [] t k h = absurd (not-suc-le-zero h)
-below_at p (w ∷ ws) t zero h = ltb→lt w p (and_l (ltb w p) _ t)
-below_at p (w ∷ ws) t (suc k) h = below_at p ws (and_r (ltb w p) _ t) k (le_of_suc-le-suc h)
 
 module _ (p : ℕ) (ws : List ℕ) where
   pub kept_short : length ws < 3 → false ≡ kept p ws

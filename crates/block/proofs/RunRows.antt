@@ -4,7 +4,8 @@ use mathlib.Core.Path.{◌≡◌, refl}
 use mathlib.Core.Bool.{true, false}
 use mathlib.Core.List.{List, [], ◌∷◌, map}
 use lib.IntN.{ℤ, pos, negsuc, neg_ℤ}
-use Rattle.block.specs.Runs.{ends_run, Run, run_of, runs_from, runs, all_below, kept, faces, corners, triangles, sum_over, totals}
+use Rattle.lists.specs.Lists.{all_below}
+use Rattle.block.specs.Runs.{ends_run, Run, run_of, runs_from, runs, kept, faces, corners, triangles, sum_over, totals}
 
 unfoldable pub word_of : ℤ → ℕ
 word_of (pos n) = n

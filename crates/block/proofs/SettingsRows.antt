@@ -6,7 +6,7 @@ use lib.Ieee.{Float, binary32, of_bits, le}
 use lib.ListN.{replicate}
 use Rattle.bits.specs.Bits.{field, bytes_of}
 use Rattle.math.specs.Vector.{zero_f, one_f}
-use Rattle.block.specs.Edition.{edition1, edition_of}
+use Rattle.block.specs.Edition.{edition1, edition_of, header_bytes}
 use Rattle.block.specs.Crease.{crease_of}
 use Rattle.block.specs.Settings.{pair_or, finite_transform, transform_of, settings_of}
 use Rattle.block.specs.declared.crease.CreaseRule.TheVariants.{Own}
@@ -22,7 +22,7 @@ two = 0x4000_0000
 
 -- crease angle NaN is 0; x spacing infinite is 1, and z spacing stays 2; an infinite x of the centre and a cosine that is NaN replace both of their pair
 unfoldable pub odd_block : List ℕ
-odd_block = replicate 20 0 ++ bytes_of (no_number ∷ two ∷ infinite ∷ two ∷ infinite ∷ two ∷ two ∷ no_number ∷ two ∷ two ∷ two ∷ infinite ∷ [])
+odd_block = replicate (header_bytes edition1) 0 ++ bytes_of (no_number ∷ two ∷ infinite ∷ two ∷ infinite ∷ two ∷ two ∷ no_number ∷ two ∷ two ∷ two ∷ infinite ∷ [])
 
 abbrev pub two_f : Float
 two_f = of_bits binary32 two

@@ -8,13 +8,15 @@ use native.Mathlib.Omega.{arith}
 use lib.Dec.{eqb, ltb, leb, leb-suc-suc, eqb-suc-zero}
 use lib.IntN.{ℤ, pos, negsuc}
 use lib.ListN.{length, get_or}
+use Rattle.lists.proofs.Tabs.{slice_get_tab}
 use Rattle.bits.specs.Bits.{entries}
 use Rattle.bits.proofs.Entries.{entries_length}
 use Rattle.std.specs.Prelude.{Option, Some, None, Result, Ok, Err, slice_get}
 use Rattle.std.specs.Bool.{then_some}
 use Rattle.std.specs.Result.{OkIff, result_ok}
 use Rattle.block.specs.Value.{count_of, value_at}
-use Rattle.block.specs.Stream.{is_negative, chosen, itself, entry_at, number_in, number_at, signed, index_get, through, stream_index, found_of, value_get, stream_get, listed, values_of, or_else, Corner, indexed, bare}
+use Rattle.lists.specs.Loops.{tab}
+use Rattle.block.specs.Stream.{is_negative, chosen, itself, entry_at, number_in, number_at, signed, index_get, through, stream_index, found_of, value_get, stream_get, values_of, or_else, Corner, indexed, bare}
 
 -- ---- which list
 
@@ -108,11 +110,12 @@ stream_number own coord true place face point at = go (entries own) refl
     go (w ∷ ws) e = rw (eqb-suc-zero, e, eqb-suc-zero) (entry_get (w ∷ ws) place)
 
 module _ {A : Type 0} where
-  listed_get : (n : ℕ) (f : ℕ → A) (k : ℕ) (missing : A) → cond (ltb k n) (f k) missing ≡ or_else (slice_get (listed n f) k) missing
-  unfolding listed
-  listed_get zero f k missing = rw (le-ltb k 0 (omega arith))
-  listed_get (suc n) f zero missing = rw (lt-ltb 0 (suc n) (omega arith))
-  listed_get (suc n) f (suc k) missing = rw (leb-suc-suc (suc k) n) (listed_get n (λ j. f (suc j)) k missing)
+  listed_get : (f : ℕ → A) (n k : ℕ) (missing : A) → cond (ltb k n) (f k) missing ≡ or_else (slice_get (tab f n 0) k) missing
+  listed_get f n k missing = rw (slice_get_tab f n k) (go (ltb k n))
+    where
+      go : (b : Bool) → cond b (f k) missing ≡ or_else (cond b (Some (f k)) None) missing
+      go true = refl
+      go false = refl
 
   module _ (made : ℕ → A) (w : ℕ) (values : List ℕ) (missing : A) (few : count_of w values ≤ 2 ^ 32) where
     value_get_lem : (z : Option ℤ) → value_at made w values (found_of z) missing ≡ or_else (value_get (values_of made w values) z) missing
@@ -122,11 +125,11 @@ module _ {A : Type 0} where
     value_get_lem (Some (pos n)) = go (ltb n (2 ^ 32)) refl
       where
         go : (b : Bool) → ltb n (2 ^ 32) ≡ b → value_at made w values (cond b (Some n) None) missing ≡ or_else (slice_get (values_of made w values) n) missing
-        go true e = listed_get (count_of w values) made n missing
+        go true e = listed_get made (count_of w values) n missing
         go false e =
             let h : 2 ^ 32 ≤ n = ltb-false n (2 ^ 32) e in
             let c : ltb n (count_of w values) ≡ false = le-ltb n (count_of w values) (omega arith) in
-            ap (λ (b : Bool). cond b (made n) missing) (sym c) ∙ listed_get (count_of w values) made n missing
+            ap (λ (b : Bool). cond b (made n) missing) (sym c) ∙ listed_get made (count_of w values) n missing
 
     -- the value that a corner reads is what Stream::get gives on the list of the values, the missing value standing for None
     pub stream_get_lem : (own coord : List ℕ) (per_vertex : Bool) (place face point : ℕ) → Corner coord place point

@@ -1,19 +1,19 @@
 -- The table of refusals: which number the conditions give, what a block has that is not refused, and how the table goes on. Assumes nothing.
 use Prim.Native.Nat.{ℕ, suc, ◌*◌, ◌≤◌, ◌<◌}
-use mathlib.Core.Path.{◌≡◌, refl, ap, sym, ◌∙◌, subst}
+use mathlib.Core.Path.{◌≡◌, refl, ap, sym, ◌∙◌}
 use mathlib.Core.Bool.{Bool, true, false, not, cond}
 use mathlib.Core.List.{List, [], ◌∷◌, ◌++◌}
 use native.Mathlib.Omega.{arith}
-use lib.Dec.{T, ltb, eqb}
-use lib.ListN.{length, get_or, get_or-eq_default}
-use borrow.Author.Tests.{lt-ltb, le-ltb, eq-eqb, ne_eqb, ltb-false, ltb-true, eqb-true, not-false}
+use lib.Dec.{T, eqb}
+use lib.ListN.{length, get_or}
+use borrow.Author.Tests.{lt-ltb, le-ltb, eq-eqb, ne_eqb, ltb-false, eqb-true, not-false}
 use Rattle.lists.proofs.Tests.{and_both}
+use Rattle.lists.proofs.Below.{counts_within}
 use Rattle.block.specs.Edition.{edition1, is_known, limit_of, highest, header_bytes}
 use Rattle.block.specs.Kind.{is_primitives}
 use Rattle.block.specs.Extents.{word_count}
-use Rattle.block.specs.Runs.{all_below}
+use Rattle.lists.specs.Lists.{all_below}
 use Rattle.block.proofs.EditionLaws.{limit_low}
-use Rattle.block.proofs.RunLaws.{below_at}
 use Rattle.block.specs.Refusal.{number_of, Row, row, is_over_limit, is_other_length, is_by_point, is_other_attributes, block_rows, first_of, Taken}
 use Rattle.block.specs.declared.header.Header.{Header}
 use Rattle.block.specs.declared.refusal.Refusal.{Refusal}
@@ -118,14 +118,6 @@ none_of (r ∷ rs) e = go r.holds refl (λ z. none_of rs z) e
     go : (b : Bool) → r.holds ≡ b → (first_of rs ≡ 0 → NoneOf rs) → cond b (number_of r.answer) (first_of rs) ≡ 0 → (r.holds ≡ false) × NoneOf rs
     go true q k z = absurd (number_some r.answer z)
     go false q k z = (q, k z)
-
--- what lies past the eight counts reads as 0
-counts_within : (limit : ℕ) (ns : List ℕ) → all_below (suc limit) ns ≡ true → (k : ℕ) → get_or ns k 0 ≤ limit
-counts_within limit ns e k = go (ltb k (length ns)) refl
-  where
-    go : (t : Bool) → ltb k (length ns) ≡ t → get_or ns k 0 ≤ limit
-    go true q = omega (arith, below_at (suc limit) ns (subst T (sym e) tt) k (ltb-true k _ q))
-    go false q = omega (arith, get_or-eq_default ns 0 {n = k} (ltb-false k _ q))
 
 pub taken_of : (bs : List ℕ) (h : Header) → first_of (block_rows bs h) ≡ 0 → Taken bs h
 unfolding block_rows

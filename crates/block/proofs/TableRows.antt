@@ -7,7 +7,7 @@ use Rattle.bits.specs.Bits.{field, bytes_of}
 use Rattle.block.specs.Edition.{edition1, edition_of}
 use Rattle.block.specs.Header.{header_of, counts_of}
 use Rattle.block.specs.Extents.{widths, words_in, word_count}
-use Rattle.block.specs.Runs.{all_below}
+use Rattle.lists.specs.Lists.{all_below}
 use Rattle.block.specs.Refusal.{block_rows, first_of}
 
 -- a grid of 2 by 2 points: edition 1, kind 2, ccw, convex and solid

@@ -3,7 +3,7 @@ use Rattle.std.specs.Prelude.{ℕ, suc, ◌*◌, ◌≤◌, ◌≡◌, Bool, tru
 use Rattle.block.specs.Edition.{edition1, is_known, limit_of, header_bytes}
 use Rattle.block.specs.Kind.{is_primitives}
 use Rattle.block.specs.Extents.{word_count}
-use Rattle.block.specs.Runs.{all_below}
+use Rattle.lists.specs.Lists.{all_below}
 use Rattle.block.specs.declared.header.Header.{Header}
 use Rattle.block.specs.declared.refusal.Refusal.{Refusal}
 use Rattle.block.specs.declared.refusal.Refusal.TheVariants.{Stub, Edition, ZeroBits, ListLimit, Length, NoShape, Corners, Buffer, Attributes, Pairs}

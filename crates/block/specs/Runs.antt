@@ -1,5 +1,6 @@
 -- The runs of an index list, and the faces that are kept. FORMAT 6.1 and 6.2.
 use Rattle.std.specs.Prelude.{ℕ, suc, ◌+◌, ◌-◌, ◌*◌, ◌/◌, ◌≤◌, ◌≡◌, Bool, true, false, ◌&&◌, cond, List, [], ◌∷◌, ◌++◌, eqb, leb, ltb, length, take, drop}
+use Rattle.lists.specs.Lists.{all_below}
 use Rattle.bits.specs.Bits.{entries}
 use Rattle.block.specs.declared.runs.Totals.{Totals}
 
@@ -61,11 +62,6 @@ pub record RunPart (bs : List ℕ) (s : ℕ) (r : List ℕ) : Type 0 where
 -- where the run after r, which starts at entry s, starts
 abbrev pub next_start : ℕ → List ℕ → ℕ
 next_start s r = s + length r / 4 + 1
-
--- FORMAT 6.2: whether every entry is the number of one of p points
-unfoldable pub all_below : ℕ → List ℕ → Bool
-all_below p [] = true
-all_below p (w ∷ ws) = ltb w p && all_below p ws
 
 -- FORMAT 6.2: a face is kept if it has 3 or more entries, each of a point
 unfoldable pub kept : ℕ → List ℕ → Bool

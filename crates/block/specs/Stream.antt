@@ -1,5 +1,6 @@
 -- Which value of an attribute a corner reads. FORMAT 7.1.
-use Rattle.std.specs.Prelude.{ℕ, ◌+◌, zero, suc, ◌-◌, ◌^◌, ◌<◌, ◌≡◌, Bool, false, cond, List, [], ◌∷◌, eqb, leb, ltb, ℤ, pos, negsuc, length, get_or, slice_get, take, drop, Option, Some, None}
+use Rattle.std.specs.Prelude.{ℕ, ◌+◌, ◌-◌, ◌^◌, ◌<◌, ◌≡◌, Bool, false, cond, List, [], ◌∷◌, eqb, leb, ltb, ℤ, pos, negsuc, length, get_or, slice_get, take, drop, Option, Some, None}
+use Rattle.lists.specs.Loops.{tab}
 use Rattle.bits.specs.Bits.{entries}
 use Rattle.bits.specs.declared.Words2.{Words2}
 use Rattle.bits.specs.declared.Words3.{Words3}
@@ -108,14 +109,9 @@ value_get values (Some (pos n)) = slice_get values n
 unfoldable pub stream_get : {A : Type 0} → List A → List ℕ → Bool → ℕ → ℕ → ℕ → Option A
 stream_get values index per_vertex k face coord = value_get values (stream_index index per_vertex k face coord)
 
--- f 0, f 1, .. f (n - 1)
-unfoldable pub listed : {A : Type 0} → ℕ → (ℕ → A) → List A
-listed zero f = []
-listed (suc n) f = f 0 ∷ listed n (λ k. f (suc k))
-
 -- the values of w words in a list of bytes
 abbrev pub values_of : {A : Type 0} → (ℕ → A) → ℕ → List ℕ → List A
-values_of made w values = listed (count_of w values) made
+values_of made w values = tab made (count_of w values) 0
 
 -- unwrap_or
 abbrev pub or_else : {A : Type 0} → Option A → A → A

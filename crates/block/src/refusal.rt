@@ -1,6 +1,6 @@
 // What is refused of a block (FORMAT 3): the table's answers, and its rows 1 to 5 and 9.
 ghost use Rattle.std.specs.Prelude.{◌≡◌, not, suc};
-ghost use Rattle.block.specs.Runs.{all_below};
+ghost use Rattle.lists.specs.Lists.{all_below};
 ghost use Rattle.block.specs.Refusal.{is_by_point, is_other_attributes, block_rows, first_of, number_of, refused_as};
 
 use crate::edition::{HEADER_WORDS, is_known, limit_of};

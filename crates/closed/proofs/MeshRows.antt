@@ -3,12 +3,12 @@ use mathlib.Core.Path.{◌≡◌, refl}
 use mathlib.Core.List.{List, [], ◌∷◌}
 use Prim.Native.Nat.{ℕ}
 use lib.Ieee.{of_bits, to_bits, add, sub, mul, div, neg, lt, le, is_nan}
-use Rattle.bits.specs.Bits.{field, table, entries}
+use Rattle.bits.specs.Bits.{field, entries}
 use Rattle.math.specs.Vector.{vlen, unit_of}
 use Rattle.math.specs.SquareRoot.{root_of}
 use Rattle.math.specs.Order.{is_zero, negative, magnitude, choice, min_of, max_of}
 use Rattle.lists.specs.Loops.{any, tab, run, first}
-use Rattle.lists.specs.Lists.{map_n, join_n, has, place, meet, firsts, same_words, flat}
+use Rattle.lists.specs.Lists.{map_n, join_n, has, place, meet, firsts, same_words, flat, all_below}
 use Rattle.polygon.specs.Points.{spot, spots}
 use Rattle.polygon.specs.Facing.{newell_from, newell}
 use Rattle.polygon.specs.Plane.{handed, axis_of, flip_of, projected, projection}
@@ -21,7 +21,7 @@ use Rattle.block.specs.Extents.{widths, words_in, list_at, list_size, place_of}
 use Rattle.block.specs.Settings.{settings_of}
 use Rattle.block.specs.Crease.{crease_of}
 use Rattle.block.specs.Texture.{uv_words}
-use Rattle.block.specs.Runs.{ends_run, runs_from, all_below, kept}
+use Rattle.block.specs.Runs.{ends_run, runs_from, kept}
 use Rattle.block.specs.Stream.{itself, chosen, number_in, number_at}
 use Rattle.block.specs.Value.{value_at}
 use Rattle.mesh.specs.Words.{point_words}
@@ -48,11 +48,11 @@ flag =
     (0 ∷ 0 ∷ 0 ∷ w1 ∷ 0 ∷ 0 ∷ 0 ∷ w1 ∷ 0 ∷ w1 ∷ w1 ∷ 0 ∷ 0 ∷ 1 ∷ 2 ∷ end ∷ 2 ∷ 1 ∷ 3 ∷ w1 ∷ 0 ∷ 0 ∷ 0 ∷ w1 ∷ 0 ∷ [])
 
 pub leaf_made : ((made white leaf).sources ≡ 0 ∷ 1 ∷ 2 ∷ []) × ((made white leaf).indices ≡ 0 ∷ 2 ∷ 1 ∷ [])
-unfolding made made_of slices_of block_mesh face_set_mesh rest_of coord_in header_of counts_of edition_of edition1 field entries table place_of list_at list_size widths words_in settings_of crease_of frame_of faces_of runs_from ends_run face_of kept all_below corner_of corner_by normal_of colour_of number_at number_in chosen itself value_at texture_by uv_words fit_of fitting fit_by sorted insert divisor axis_by span_of widened coord_of default_at min_of max_of choice is_zero negative magnitude is_nan mesh vertices keys_of key_of corner_normal generated or_else incident hits_of hits crease_sum facing outline spots spot newell newell_from handed indices_of face_indices locals wound triangles face_tris projection projected axis_of flip_of fan fan_from numbers any first run tab mesh_of mended mend_by or_words renorm point_words join_n map_n firsts meet has place same_key same_words flat unit_of vlen root_of of_bits to_bits add sub mul div neg lt le
+unfolding made made_of slices_of block_mesh face_set_mesh rest_of coord_in header_of counts_of edition_of edition1 field entries tab place_of list_at list_size widths words_in settings_of crease_of frame_of faces_of runs_from ends_run face_of kept all_below corner_of corner_by normal_of colour_of number_at number_in chosen itself value_at texture_by uv_words fit_of fitting fit_by sorted insert divisor axis_by span_of widened coord_of default_at min_of max_of choice is_zero negative magnitude is_nan mesh vertices keys_of key_of corner_normal generated or_else incident hits_of hits crease_sum facing outline spots spot newell newell_from handed indices_of face_indices locals wound triangles face_tris projection projected axis_of flip_of fan fan_from numbers any first run mesh_of mended mend_by or_words renorm point_words join_n map_n firsts meet has place same_key same_words flat unit_of vlen root_of of_bits to_bits add sub mul div neg lt le
 leaf_made = (refl, refl)
 
 pub flag_made : ((made white flag).sources ≡ 0 ∷ 1 ∷ 2 ∷ 2 ∷ 1 ∷ 3 ∷ []) × ((made white flag).indices ≡ 0 ∷ 1 ∷ 2 ∷ 3 ∷ 4 ∷ 5 ∷ [])
-unfolding made made_of slices_of block_mesh face_set_mesh rest_of coord_in header_of counts_of edition_of edition1 field entries table place_of list_at list_size widths words_in settings_of crease_of frame_of faces_of runs_from ends_run face_of kept all_below corner_of corner_by normal_of colour_of number_at number_in chosen itself value_at texture_by uv_words fit_of fitting fit_by sorted insert divisor axis_by span_of widened coord_of default_at min_of max_of choice is_zero negative magnitude is_nan mesh vertices keys_of key_of corner_normal generated or_else incident hits_of hits crease_sum facing outline spots spot newell newell_from handed indices_of face_indices locals wound triangles face_tris projection projected axis_of flip_of fan fan_from numbers any first run tab mesh_of mended mend_by or_words renorm point_words join_n map_n firsts meet has place same_key same_words flat unit_of vlen root_of of_bits to_bits add sub mul div neg lt le
+unfolding made made_of slices_of block_mesh face_set_mesh rest_of coord_in header_of counts_of edition_of edition1 field entries tab place_of list_at list_size widths words_in settings_of crease_of frame_of faces_of runs_from ends_run face_of kept all_below corner_of corner_by normal_of colour_of number_at number_in chosen itself value_at texture_by uv_words fit_of fitting fit_by sorted insert divisor axis_by span_of widened coord_of default_at min_of max_of choice is_zero negative magnitude is_nan mesh vertices keys_of key_of corner_normal generated or_else incident hits_of hits crease_sum facing outline spots spot newell newell_from handed indices_of face_indices locals wound triangles face_tris projection projected axis_of flip_of fan fan_from numbers any first run mesh_of mended mend_by or_words renorm point_words join_n map_n firsts meet has place same_key same_words flat unit_of vlen root_of of_bits to_bits add sub mul div neg lt le
 flag_made = (refl, refl)
 
 -- the edges of slices with these sources and indices
@@ -63,7 +63,7 @@ edges_of S vs is a b p q = λ i. edges_in (record { sources = a i; positions = [
 
 -- from 0 to 1 the outline has a step, and the triangle, turned, an edge back; the run that is skipped has no outline
 pub leaf_turned : (outlines leaf ≡ (0 ∷ 1 ∷ 2 ∷ []) ∷ []) × (edges_in (made white leaf) 0 1 ≡ 0) × (edges_in (made white leaf) 1 0 ≡ 1)
-unfolding outlines kept_runs header_of counts_of edition_of edition1 field entries table place_of list_at list_size widths words_in runs_from ends_run all_below kept flat edges_in triangles_of tris
+unfolding outlines kept_runs header_of counts_of edition_of edition1 field entries tab place_of list_at list_size widths words_in runs_from ends_run all_below kept flat edges_in triangles_of tris
 leaf_turned =
     let at = edges_of (made white leaf) (0 ∷ 1 ∷ 2 ∷ []) (0 ∷ 2 ∷ 1 ∷ []) leaf_made.0 leaf_made.1 in
     (refl, at 0 1, at 1 0)

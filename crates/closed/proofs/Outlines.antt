@@ -18,15 +18,15 @@ use Rattle.block.proofs.EditionLaws.{count_narrow}
 use Rattle.block.proofs.RunLaws.{kept_long}
 use Rattle.primitives.specs.Kept.{kept_primitives}
 use Rattle.primitives.proofs.Closed.{closed, closed_first, list_closed, Primitive, primitives_are, goes_on}
-use Rattle.lists.specs.Loops.{tab, All}
-use Rattle.lists.specs.Lists.{map_n, flat}
+use Rattle.lists.specs.Loops.{All}
+use Rattle.lists.specs.Lists.{map_n, flat, tabs}
 use Rattle.lists.proofs.Lists.{length_map_n}
-use Rattle.lists.proofs.Pieces.{map_flat}
 use Rattle.lists.proofs.Tabs.{map_tab, length_tab}
 use Rattle.lists.proofs.Totals.{tab_reverse}
+use Rattle.lists.proofs.Rows.{map_tabs}
 use Rattle.mesh.specs.Soup.{Corner, Face, points_of, dense, Frame}
 use Rattle.mesh.specs.Mesh.{mesh}
-use Rattle.mesh.specs.Quads.{tabs, quad}
+use Rattle.mesh.specs.Quads.{quad}
 use Rattle.mesh.specs.FaceSet.{Rest, rest_of, coord_in, point_count, corner_by, corner_of, face_of, faces_of, frame_of, convex_frame, face_set_mesh}
 use Rattle.mesh.specs.Lines.{line_set_mesh}
 use Rattle.mesh.specs.Grid.{x_dimension, z_dimension, grid_of, grid_corner, grid_face, grid_faces, grid_mesh}
@@ -78,12 +78,6 @@ module _ (missing : Words4) (R : Rest) (coord : List ℕ) where
   list_outlines = dense_runs 0 (runs (entries coord))
 
 -- ---- nets of quads
-
-map_tabs : {A B : Type 0} (g : A → B) (f : ℕ → ℕ → A) (n m : ℕ) → map g (tabs f n m) ≡ tabs (λ (i j : ℕ). g (f i j)) n m
-unfolding tabs
-map_tabs g f n m =
-    map_flat g (tab (λ i. tab (f i) m 0) n 0)
-    ∙ ap flat (map_tab (λ i. tab (f i) m 0) (map g) n 0 ∙ (λ t. tab (λ i. map_tab (f i) g m 0 t) n 0))
 
 -- FORMAT 8.3
 pub grid_outlines_lem : (missing : Words4) (G : Rest) → map points_of (grid_faces missing G) ≡ grid_outlines G.head

@@ -6,18 +6,18 @@ use Prim.Native.Nat.{ℕ, ◌+◌, ◌*◌}
 use native.Mathlib.Omega.{arith}
 use lib.Ieee.{binary32, of_bits, eq}
 use lib.ListN.{replicate}
-use Rattle.bits.specs.Bits.{field, table, entries, bytes_of}
+use Rattle.bits.specs.Bits.{field, entries, bytes_of}
 use Rattle.block.specs.Edition.{edition1, edition_of}
 use Rattle.block.specs.Header.{counts_of, header_of}
 use Rattle.block.specs.Extents.{widths, words_in, word_count, list_at, list_size, place_of}
 use Rattle.block.specs.Refusal.{block_rows, first_of}
-use Rattle.block.specs.Runs.{ends_run, runs_from, all_below, kept, corners, triangles, sum_over}
+use Rattle.block.specs.Runs.{ends_run, runs_from, kept, corners, triangles, sum_over}
 use Rattle.lists.specs.Loops.{tab}
-use Rattle.lists.specs.Lists.{total, flat}
+use Rattle.lists.specs.Lists.{total, flat, tabs, all_below}
 use Rattle.primitives.specs.Primitives.{stretches, primitive_count, places_of, primitive_of, primitive_run, stretch_runs, face_list}
 use Rattle.polygon.specs.Edges.{tris, walk, around}
 use Rattle.mesh.specs.Mesh.{Slices}
-use Rattle.mesh.specs.Quads.{tabs, quad}
+use Rattle.mesh.specs.Quads.{quad}
 use Rattle.mesh.specs.Arcs.{at2}
 use Rattle.mesh.specs.Extrusion.{section_of, closes, cap_length}
 use Rattle.mesh.specs.Sizes.{face_set_sizes, primitive_sizes, sizes_of, is_no_shape, is_over_corners, shape_rows}
@@ -109,11 +109,11 @@ pub set_outlines : (outlines tetrahedron ≡ four_faces)
     × (outlines cube ≡ six_quads)
     × (outlines turned_cube ≡ six_quads)
     × (outlines fold ≡ (0 ∷ 1 ∷ 2 ∷ 1 ∷ []) ∷ [])
-unfolding outlines kept_runs header_of counts_of edition_of edition1 field entries table place_of list_at list_size widths words_in runs_from ends_run all_below kept flat
+unfolding outlines kept_runs header_of counts_of edition_of edition1 field entries tab place_of list_at list_size widths words_in runs_from ends_run all_below kept flat
 set_outlines = (refl, refl, refl, refl, refl)
 
 pub quad_outlines : outlines quad_cube ≡ six_quads
-unfolding outlines kept_runs header_of counts_of edition_of edition1 field entries table place_of list_at list_size widths words_in runs_from ends_run all_below kept flat face_list stretch_runs primitive_run primitive_of places_of primitive_count stretches tab
+unfolding outlines kept_runs header_of counts_of edition_of edition1 field entries tab place_of list_at list_size widths words_in runs_from ends_run all_below kept flat face_list stretch_runs primitive_run primitive_of places_of primitive_count stretches
 quad_outlines = refl
 
 pub grid_outlines_lem : outlines meadow ≡ (0 ∷ 3 ∷ 4 ∷ 1 ∷ []) ∷ (1 ∷ 4 ∷ 5 ∷ 2 ∷ []) ∷ []
@@ -129,7 +129,7 @@ pub mast_outlines : outlines mast
     ∷ (3 ∷ 2 ∷ 1 ∷ 0 ∷ [])
     ∷ (5 ∷ 6 ∷ 7 ∷ 8 ∷ [])
     ∷ []
-unfolding outlines extrusion_outlines row_outline header_of counts_of edition_of edition1 field entries table place_of list_at list_size widths words_in section_of closes cap_length at2 tab tabs quad flat of_bits eq
+unfolding outlines extrusion_outlines row_outline header_of counts_of edition_of edition1 field entries tab place_of list_at list_size widths words_in section_of closes cap_length at2 tabs quad flat of_bits eq
 mast_outlines = refl
 
 -- ---- their gaps
@@ -175,11 +175,11 @@ pub accepted : (number_for tetrahedron (lending 4 12 12) ≡ 0)
     × (number_for cube (lending 8 24 36) ≡ 0)
     × (number_for turned_cube (lending 8 24 36) ≡ 0)
     × (number_for fold (lending 3 4 6) ≡ 0)
-unfolding refusal rows lengths_of is_short block_rows first_of shape_rows is_no_shape is_over_corners sizes_of face_set_sizes header_of counts_of edition_of edition1 field entries table place_of list_at list_size widths words_in word_count runs_from ends_run all_below kept corners triangles sum_over flat
+unfolding refusal rows lengths_of is_short block_rows first_of shape_rows is_no_shape is_over_corners sizes_of face_set_sizes header_of counts_of edition_of edition1 field entries tab place_of list_at list_size widths words_in word_count runs_from ends_run all_below kept corners triangles sum_over flat
 accepted = (refl, refl, refl, refl, refl)
 
 pub quads_accepted : number_for quad_cube (lending 8 24 36) ≡ 0
-unfolding refusal rows lengths_of is_short block_rows first_of shape_rows is_no_shape is_over_corners sizes_of primitive_sizes header_of counts_of edition_of edition1 field entries table place_of list_at list_size widths words_in word_count runs_from ends_run all_below kept corners triangles sum_over flat face_list stretch_runs primitive_run primitive_of places_of primitive_count stretches tab
+unfolding refusal rows lengths_of is_short block_rows first_of shape_rows is_no_shape is_over_corners sizes_of primitive_sizes header_of counts_of edition_of edition1 field entries tab place_of list_at list_size widths words_in word_count runs_from ends_run all_below kept corners triangles sum_over flat face_list stretch_runs primitive_run primitive_of places_of primitive_count stretches
 quads_accepted = refl
 
 module _ (call : Call) where

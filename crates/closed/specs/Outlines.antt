@@ -6,7 +6,8 @@ use Rattle.block.specs.Kind.{by_kind}
 use Rattle.block.specs.Runs.{Run, kept}
 use Rattle.lists.specs.Loops.{tab}
 use Rattle.mesh.specs.FaceSet.{point_count}
-use Rattle.mesh.specs.Quads.{tabs, quad}
+use Rattle.lists.specs.Lists.{tabs}
+use Rattle.mesh.specs.Quads.{quad}
 use Rattle.mesh.specs.Grid.{x_dimension, z_dimension}
 use Rattle.mesh.specs.Extrusion.{spine_count, section_count, section_of, point_number, cap_length, has_cap}
 use Rattle.mesh.specs.Sizes.{coord_runs, listed_runs}

@@ -27,7 +27,8 @@ use Rattle.parts.specs.Part.{followed}
 use Rattle.parts.specs.Cap.{cap_centre, cap_vert, cap_verts, cap_tri, cap_indices, cap_part, cap_at}
 use Rattle.parts.specs.Edges.{edge_sum, place_in, Closed}
 use Rattle.parts.proofs.Capping.{cap_verts_length}
-use Rattle.parts.proofs.Edges.{sum_to, sum_same, sum_both, around, pieces_sum}
+use Rattle.lists.proofs.Totals.{sum_to, sum_same, sum_both, around}
+use Rattle.parts.proofs.Edges.{pieces_sum}
 use Rattle.cylinder.specs.Cylinder.{side_vert, side_verts, side_tris, side_part, side_at, side_sizes, cylinder_part, cylinder_of}
 use Rattle.cylinder.proofs.Sides.{side_sized}
 

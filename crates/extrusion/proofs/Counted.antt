@@ -9,7 +9,8 @@ use Rattle.block.specs.declared.header.Header.{Header}
 use Rattle.block.specs.Header.{header_of}
 use Rattle.lists.specs.Lists.{total}
 use Rattle.mesh.specs.Extrusion.{spine_count, section_count, section_of, cap_length, has_cap}
-use Rattle.mesh.specs.Sizes.{one, quad_count, cap_count, extrusion_sizes}
+use Rattle.std.specs.Int.{from_bool}
+use Rattle.mesh.specs.Sizes.{quad_count, cap_count, extrusion_sizes}
 use Rattle.lists.proofs.Totals.{total_map_n}
 use Rattle.tables.specs.Listed.{Listing, uses_at}
 use Rattle.extrusion.specs.Listings.{face_points, use_of, extrusion_listings}
@@ -38,7 +39,7 @@ module _ (n m cap : ℕ) (b e : Bool) (j : ℕ) (l : j < length (extrusion_listi
 pub faces_third : (h : Header) (cap : ℕ) → (quad_count h + cap_count h cap) * 3 ≤ 4 * quad_count h + cap_count h cap * cap
 faces_third h cap = go (has_cap h.begin_cap cap) (has_cap h.end_cap cap) refl refl
   where
-    go : (s t : Bool) → has_cap h.begin_cap cap ≡ s → has_cap h.end_cap cap ≡ t → (quad_count h + (one s + one t)) * 3 ≤ 4 * quad_count h + (one s + one t) * cap
+    go : (s t : Bool) → has_cap h.begin_cap cap ≡ s → has_cap h.end_cap cap ≡ t → (quad_count h + (from_bool s + from_bool t)) * 3 ≤ 4 * quad_count h + (from_bool s + from_bool t) * cap
     go true true p q = let c = three_there cap h.begin_cap p in omega arith
     go true false p q = let c = three_there cap h.begin_cap p in omega arith
     go false true p q = let c = three_there cap h.end_cap q in omega arith

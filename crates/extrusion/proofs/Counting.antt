@@ -15,12 +15,12 @@ use Rattle.lists.proofs.Tabs.{length_tab, tab_at}
 use Rattle.lists.specs.Lists.{flat, total}
 use Rattle.mesh.specs.Quads.{quad}
 use Rattle.mesh.specs.Extrusion.{has_cap, point_number}
-use Rattle.mesh.specs.Sizes.{one}
+use Rattle.std.specs.Int.{from_bool}
 use Rattle.lists.proofs.Lists.{All_append, All_get_or}
 use Rattle.lists.proofs.Totals.{flat_total, total_append, total_suc}
 use Rattle.lists.proofs.Tests.{and_right}
-use Rattle.mesh.proofs.Tabs.{tabs_tab, total_tabs}
-use Rattle.extrusion.specs.Listings.{one_if, side_points, begin_points, end_points, face_points, size_at, start_at}
+use Rattle.lists.proofs.Rows.{tabs_tab, total_tabs}
+use Rattle.extrusion.specs.Listings.{if_wanted, side_points, begin_points, end_points, face_points, size_at, start_at}
 use Rattle.extrusion.proofs.Sides.{quad_length}
 
 -- ---- how many stand before each
@@ -66,23 +66,23 @@ module _ (n m cap : ℕ) (b e : Bool) where
   side_count_lem : 2 ≤ m → length (side_points n m) ≡ (n - 1) * (m - 1)
   side_count_lem h = ap length (tabs_tab (quad (point_number m)) (n - 1) (m - 1) (omega arith)) ∙ length_tab _ ((n - 1) * (m - 1)) 0
 
-  one_length : {A : Type 0} (t : Bool) (x : A) → length (one_if t x) ≡ one t
+  one_length : {A : Type 0} (t : Bool) (x : A) → length (if_wanted t x) ≡ from_bool t
   one_length true x = refl
   one_length false x = refl
 
-  caps_count : length (begin_points b cap ++ end_points e ((n - 1) * m) cap) ≡ one (has_cap b cap) + one (has_cap e cap)
+  caps_count : length (begin_points b cap ++ end_points e ((n - 1) * m) cap) ≡ from_bool (has_cap b cap) + from_bool (has_cap e cap)
   unfolding begin_points end_points
   caps_count =
       length-append (begin_points b cap) (end_points e ((n - 1) * m) cap)
       ∙ ap₂ (λ (x y : ℕ). x + y) (one_length (has_cap b cap) _) (one_length (has_cap e cap) _)
 
-  pub faces_count : 2 ≤ m → length (face_points n m cap b e) ≡ (n - 1) * (m - 1) + (one (has_cap b cap) + one (has_cap e cap))
+  pub faces_count : 2 ≤ m → length (face_points n m cap b e) ≡ (n - 1) * (m - 1) + (from_bool (has_cap b cap) + from_bool (has_cap e cap))
   unfolding face_points
   faces_count h =
       length-append (side_points n m) (begin_points b cap ++ end_points e ((n - 1) * m) cap) ∙ ap₂ (λ (x y : ℕ). x + y) (side_count_lem h) caps_count
 
   -- what holds of a cap that is there
-  all_one : {A : Type 0} (Q : A → Type 0) (t : Bool) (x : A) → (t ≡ true → Q x) → All Q (one_if t x)
+  all_one : {A : Type 0} (Q : A → Type 0) (t : Bool) (x : A) → (t ≡ true → Q x) → All Q (if_wanted t x)
   all_one Q true x h = (h refl, tt)
   all_one Q false x h = tt
 
@@ -118,7 +118,7 @@ module _ (n m cap : ℕ) (b e : Bool) where
           ap (λ (k : ℕ). length (get_or (side_points n m ++ C) k [])) d ∙ ap length (get_or-append-add (side_points n m) C (j - (n - 1) * (m - 1)) [])
           ∙ All_get_or (λ (x : List ℕ). length x ≡ cap) C caps_sizes [] (j - (n - 1) * (m - 1)) (omega (arith, faces_count h, caps_count))
 
-  caps_three : (s t : Bool) → has_cap b cap ≡ s → has_cap e cap ≡ t → 0 < one s + one t → 3 ≤ cap
+  caps_three : (s t : Bool) → has_cap b cap ≡ s → has_cap e cap ≡ t → 0 < from_bool s + from_bool t → 3 ≤ cap
   caps_three true t p q h = three_there cap b p
   caps_three false true p q h = three_there cap e q
   caps_three false false p q h = absurd (let z : ⊥ = omega arith in z)
@@ -134,19 +134,19 @@ module _ (n m cap : ℕ) (b e : Bool) where
           omega (arith, caps_three (has_cap b cap) (has_cap e cap) refl refl (omega (arith, faces_count h)))
 
   -- each size added up
-  one_total : (t : Bool) (x : List ℕ) → length x ≡ cap → total length (one_if t x) ≡ one t * cap
+  one_total : (t : Bool) (x : List ℕ) → length x ≡ cap → total length (if_wanted t x) ≡ from_bool t * cap
   unfolding total
   one_total true x l = omega arith
   one_total false x l = omega arith
 
-  two_caps : (s t : Bool) → one s * cap + one t * cap ≡ (one s + one t) * cap
+  two_caps : (s t : Bool) → from_bool s * cap + from_bool t * cap ≡ (from_bool s + from_bool t) * cap
   two_caps true true = omega arith
   two_caps true false = omega arith
   two_caps false true = omega arith
   two_caps false false = omega arith
 
   -- FORMAT 4: C
-  pub corners_count : total length (face_points n m cap b e) ≡ 4 * ((n - 1) * (m - 1)) + (one (has_cap b cap) + one (has_cap e cap)) * cap
+  pub corners_count : total length (face_points n m cap b e) ≡ 4 * ((n - 1) * (m - 1)) + (from_bool (has_cap b cap) + from_bool (has_cap e cap)) * cap
   unfolding face_points begin_points end_points
   corners_count =
       total_append length (side_points n m) (begin_points b cap ++ end_points e ((n - 1) * m) cap)
@@ -155,13 +155,13 @@ module _ (n m cap : ℕ) (b e : Bool) where
       (total_append length (begin_points b cap) (end_points e ((n - 1) * m) cap)
       ∙ ap₂ (λ (x y : ℕ). x + y) (one_total (has_cap b cap) _ begin_size) (one_total (has_cap e cap) _ end_size) ∙ two_caps (has_cap b cap) (has_cap e cap))
 
-  pub flat_count : length (flat (face_points n m cap b e)) ≡ 4 * ((n - 1) * (m - 1)) + (one (has_cap b cap) + one (has_cap e cap)) * cap
+  pub flat_count : length (flat (face_points n m cap b e)) ≡ 4 * ((n - 1) * (m - 1)) + (from_bool (has_cap b cap) + from_bool (has_cap e cap)) * cap
   flat_count = flat_total (face_points n m cap b e) ∙ corners_count
 
   pub starts_are : 2 ≤ m → (j : ℕ) → j ≤ length (face_points n m cap b e) → start_at ((n - 1) * (m - 1)) cap j ≡ total length (take j (face_points n m cap b e))
   starts_are h = starts_total ((n - 1) * (m - 1)) cap (face_points n m cap b e) (face_size h)
 
-  pub starts_last : 2 ≤ m → start_at ((n - 1) * (m - 1)) cap (length (face_points n m cap b e)) ≡ 4 * ((n - 1) * (m - 1)) + (one (has_cap b cap) + one (has_cap e cap)) * cap
+  pub starts_last : 2 ≤ m → start_at ((n - 1) * (m - 1)) cap (length (face_points n m cap b e)) ≡ 4 * ((n - 1) * (m - 1)) + (from_bool (has_cap b cap) + from_bool (has_cap e cap)) * cap
   starts_last h =
       starts_are h (length (face_points n m cap b e)) (omega arith)
       ∙ ap (total length) (take-length (face_points n m cap b e)) ∙ corners_count

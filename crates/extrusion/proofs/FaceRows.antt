@@ -3,8 +3,8 @@ use mathlib.Core.Path.{◌≡◌, refl}
 use mathlib.Core.Bool.{true}
 use mathlib.Core.List.{[], ◌∷◌}
 use Rattle.lists.specs.Loops.{tab}
-use Rattle.lists.specs.Lists.{flat}
-use Rattle.mesh.specs.Quads.{tabs, quad}
+use Rattle.lists.specs.Lists.{flat, tabs}
+use Rattle.mesh.specs.Quads.{quad}
 use Rattle.extrusion.specs.Listings.{begin_points, end_points, face_points}
 
 -- two spine points and an open cross-section of three: two sides and two caps

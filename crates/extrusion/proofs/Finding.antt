@@ -2,17 +2,15 @@
 use mathlib.Core.Path.{◌≡◌, refl, sym, ap, subst, ◌∙◌}
 use mathlib.Core.Logic.{◌⊎◌, inl, inr}
 use Prim.Native.Nat.{ℕ, zero, suc, ◌+◌, ◌<◌}
-use native.Mathlib.Nat.{zero-add}
 use native.Mathlib.Omega.{arith}
 use denote.Param.Members.{Mut, Called}
-use Rattle.std.specs.Prelude.{Option, Some, None, MatchOption, IsTrue, IsSomeAnd, IfSome}
-use Rattle.std.specs.Option.{option_map}
-use Rattle.std.proofs.lemmas.Option.{none-some}
+use Rattle.std.specs.Prelude.{Option, Some, None, MatchOption, IsTrue}
 use Rattle.std.specs.declared.ops.Range.{Range}
 use Rattle.std.proofs.iter.Yields.{nat_range_steps}
 use Rattle.std.proofs.iter.runs.Sources.{range_runs}
 use Rattle.std.specs.Iterator.Runs.{Run, ItemsCountUp, CallKeepsClosure, AllItemsGive, IsFirstToGive}
 use Rattle.lists.proofs.Numbers.{same_or}
+use Rattle.lists.proofs.Options.{item_all, item_some}
 use Rattle.math.specs.declared.vector.V3.{V3}
 use Rattle.mesh.specs.Frames.{or, first_of}
 
@@ -29,15 +27,6 @@ first_some f (suc n) i y l e h = go (same_or i n) (λ b. first_some f n i y b e 
     go : (i ≡ n) ⊎ (i ≡ n → ⊥) → (i < n → first_of f n ≡ Some y) → or (first_of f n) (f n) ≡ Some y
     go (inl q) r = rw (first_none f n (λ k b. h k (omega arith))) (ap f (sym q) ∙ e)
     go (inr d) r = rw (r (omega arith)) refl
-
--- item i of a range is i
-item_all : (n i : ℕ) (P : ℕ → Type 0) (o : Option ℕ) → option_map (λ y. y) o ≡ Some (0 + i) → IfSome o (λ x. (x ≡ 0 + i) × (x < n)) → IfSome o P → P i
-item_all n i P None e u h = absurd (none-some _ e)
-item_all n i P (Some x) e u h = subst P (u.0 ∙ zero-add i) h
-
-item_some : (n i : ℕ) (P : ℕ → Type 0) (o : Option ℕ) → IfSome o (λ x. (x ≡ 0 + i) × (x < n)) → IsSomeAnd o P → P i
-item_some n i P None u h = absurd h
-item_some n i P (Some x) u h = subst P (u.0 ∙ zero-add i) h
 
 module _ {F : Type 0} (g : Mut F (ℕ × Unit {0}) (Option V3)) (f : F) (own : ℕ → Option V3) (n : ℕ) where
   -- f answers by `own`, and stays as it is

@@ -13,7 +13,7 @@ use Rattle.lists.proofs.Lists.{All_append, All_get_or, All_by, All_flat}
 use Rattle.lists.proofs.Totals.{tab_reverse}
 use Rattle.mesh.proofs.Within.{All_tabs}
 use Rattle.lists.proofs.Numbers.{cell}
-use Rattle.extrusion.specs.Listings.{one_if, side_points, begin_points, end_points, face_points}
+use Rattle.extrusion.specs.Listings.{if_wanted, side_points, begin_points, end_points, face_points}
 
 -- point j of row i, of n rows of m
 spot_below : (n m i j : ℕ) → i < n → j < m → point_number m i j < n * m
@@ -33,7 +33,7 @@ module _ (n m cap : ℕ) (b e : Bool) (hn : 2 ≤ n) (hc : cap ≤ m) where
   sides_below : All Below (side_points n m)
   sides_below = All_tabs Below (quad (point_number m)) (n - 1) (m - 1) quad_below
 
-  one_below : (t : Bool) (x : List ℕ) → Below x → All Below (one_if t x)
+  one_below : (t : Bool) (x : List ℕ) → Below x → All Below (if_wanted t x)
   one_below true x h = (h, tt)
   one_below false x h = tt
 

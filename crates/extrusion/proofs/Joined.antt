@@ -19,12 +19,12 @@ use Rattle.mesh.specs.Extrusion.{Extrusion, spine_count, section_count, section_
 use Rattle.lists.proofs.Totals.{tab_reverse, map_n_tab}
 use Rattle.lists.proofs.Lists.{map_n_append}
 use Rattle.lists.proofs.Numbers.{row_of, column_of}
-use Rattle.mesh.proofs.Tabs.{tabs_tab}
+use Rattle.lists.proofs.Rows.{tabs_tab}
 use Rattle.mesh.proofs.Shapes.{sides_listed}
 use Rattle.tables.specs.declared.layout.Plan.{Plan}
 use Rattle.tables.specs.Layout.{Room}
 use Rattle.tables.specs.Listed.{Use, faces_with}
-use Rattle.extrusion.specs.Listings.{one_if, side_points, begin_points, end_points, face_points, use_of, extrusion_listings, Planned}
+use Rattle.extrusion.specs.Listings.{if_wanted, side_points, begin_points, end_points, face_points, use_of, extrusion_listings, Planned}
 use Rattle.extrusion.specs.Given.{Given}
 use Rattle.extrusion.specs.Corners.{texture_of, extrusion_corner}
 use Rattle.extrusion.proofs.Blocks.{section_long, spine_long, head_is}
@@ -119,7 +119,7 @@ module _ (E : Extrusion) (hm : 2 ≤ length E.section) where
       Y : List ℕ
       Y = tab (λ j. (length E.spine - 1) * length E.section + j) (cap_length E.section) 0
 
-      go : (a b : Bool) → map_n made s (one_if a X ++ one_if b Y) ≡ face_if a (reverse (cap_face E 0)) ++ face_if b (cap_face E (length E.spine - 1))
+      go : (a b : Bool) → map_n made s (if_wanted a X ++ if_wanted b Y) ≡ face_if a (reverse (cap_face E 0)) ++ face_if b (cap_face E (length E.spine - 1))
       go true true = λ t. begin_made s (omega arith) t ∷ end_made (suc s) (omega arith) t ∷ []
       go true false = λ t. begin_made s (omega arith) t ∷ []
       go false true = λ t. end_made s (omega arith) t ∷ []

@@ -7,14 +7,14 @@ use native.Mathlib.Nat.{suc-mul, mul-le-mul_right}
 use native.Mathlib.Omega.{arith}
 use lib.ListN.{length, length-append}
 use Rattle.lists.specs.Loops.{tab}
-use Rattle.lists.specs.Lists.{flat}
-use Rattle.mesh.specs.Quads.{tabs, quad}
+use Rattle.lists.specs.Lists.{flat, tabs}
+use Rattle.mesh.specs.Quads.{quad}
 use Rattle.mesh.specs.Extrusion.{has_cap, point_number}
 use Rattle.lists.proofs.Tabs.{length_tab}
 use Rattle.lists.proofs.Totals.{tab_reverse}
 use Rattle.block.specs.Edition.{most}
 use Rattle.lists.specs.Parts.{spliced}
-use Rattle.extrusion.specs.Listings.{one_if, side_points, begin_points, end_points, face_points}
+use Rattle.extrusion.specs.Listings.{if_wanted, side_points, begin_points, end_points, face_points}
 use Rattle.lists.proofs.Splices.{splice_more}
 use Rattle.lists.proofs.Pieces.{flat_append, length_pieces, flat_rows}
 
@@ -63,7 +63,7 @@ module _ (w : Bool) (cap : ℕ) where
   unfolding begin_points flat
   begin_are = go (has_cap w cap)
     where
-      go : (t : Bool) → flat (one_if t (reverse (tab (λ j. j) cap 0))) ≡ cond t (tab (λ j. cap - 1 - j) cap 0) []
+      go : (t : Bool) → flat (if_wanted t (reverse (tab (λ j. j) cap 0))) ≡ cond t (tab (λ j. cap - 1 - j) cap 0) []
       go true = append-nil (reverse (tab (λ j. j) cap 0)) ∙ tab_reverse (λ j. j) cap
       go false = refl
 
@@ -71,7 +71,7 @@ module _ (w : Bool) (cap : ℕ) where
   unfolding end_points flat
   end_are p = go (has_cap w cap)
     where
-      go : (t : Bool) → flat (one_if t (tab (λ j. p + j) cap 0)) ≡ cond t (tab (λ j. p + j) cap 0) []
+      go : (t : Bool) → flat (if_wanted t (tab (λ j. p + j) cap 0)) ≡ cond t (tab (λ j. p + j) cap 0) []
       go true = append-nil (tab (λ j. p + j) cap 0)
       go false = refl
 

@@ -2,8 +2,8 @@
 use Rattle.std.specs.Prelude.{◌≡◌, Bool, true, false, cond, List, [], ◌∷◌, ◌++◌, map, reverse, ℕ, zero, suc, ◌+◌, ◌-◌, ◌*◌, ◌≤◌, ltb}
 use Rattle.block.specs.declared.header.Header.{Header}
 use Rattle.lists.specs.Loops.{tab}
-use Rattle.lists.specs.Lists.{map_n}
-use Rattle.mesh.specs.Quads.{tabs, quad}
+use Rattle.lists.specs.Lists.{map_n, tabs}
+use Rattle.mesh.specs.Quads.{quad}
 use Rattle.mesh.specs.Extrusion.{spine_count, section_count, point_number, has_cap}
 use Rattle.mesh.specs.Sizes.{quad_count, cap_count}
 use Rattle.tables.specs.declared.layout.Plan.{Plan}
@@ -11,9 +11,9 @@ use Rattle.tables.specs.Layout.{Room}
 use Rattle.tables.specs.Listed.{Use, Listing}
 
 -- FORMAT 8.4: what is there where it is wanted
-abbrev pub one_if : {A : Type 0} → Bool → A → List A
-one_if true x = x ∷ []
-one_if false x = []
+abbrev pub if_wanted : {A : Type 0} → Bool → A → List A
+if_wanted true x = x ∷ []
+if_wanted false x = []
 
 -- FORMAT 8.4, extrusion (faces): the points of the sides, row by row
 abbrev pub side_points : ℕ → ℕ → List (List ℕ)
@@ -21,10 +21,10 @@ side_points n m = tabs (quad (point_number m)) (n - 1) (m - 1)
 
 -- FORMAT 8.4, extrusion (beginCap, endCap): of the begin cap the other way round, and of the end cap
 unfoldable pub begin_points : Bool → ℕ → List (List ℕ)
-begin_points wanted cap = one_if (has_cap wanted cap) (reverse (tab (λ j. j) cap 0))
+begin_points wanted cap = if_wanted (has_cap wanted cap) (reverse (tab (λ j. j) cap 0))
 
 unfoldable pub end_points : Bool → ℕ → ℕ → List (List ℕ)
-end_points wanted from cap = one_if (has_cap wanted cap) (tab (λ j. from + j) cap 0)
+end_points wanted from cap = if_wanted (has_cap wanted cap) (tab (λ j. from + j) cap 0)
 
 -- FORMAT 8.4: of all faces, where a cap has `cap` corners
 unfoldable pub face_points : ℕ → ℕ → ℕ → Bool → Bool → List (List ℕ)

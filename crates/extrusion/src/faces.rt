@@ -4,7 +4,7 @@ ghost use Rattle.lists.specs.Loops.{tab};
 ghost use Rattle.lists.specs.Lists.{flat};
 ghost use Rattle.mesh.specs.Quads.{quad};
 ghost use Rattle.mesh.specs.Extrusion.{point_number, has_cap};
-ghost use Rattle.mesh.specs.Sizes.{one, cap_count};
+ghost use Rattle.mesh.specs.Sizes.{cap_count};
 ghost use Rattle.block.specs.Edition.{most};
 ghost use Rattle.lists.specs.Parts.{spliced};
 ghost use Rattle.extrusion.specs.Listings.{side_points, face_points};

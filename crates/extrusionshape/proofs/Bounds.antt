@@ -11,7 +11,8 @@ use Rattle.block.specs.declared.settings.Settings.{Settings}
 use Rattle.block.proofs.Table.{count_low}
 use Rattle.mesh.specs.Mesh.{Slices}
 use Rattle.mesh.specs.Extrusion.{spine_count, section_count, section_of, ring_of, cap_length, has_cap}
-use Rattle.mesh.specs.Sizes.{one, quad_count, cap_count, extrusion_sizes, sizes_of}
+use Rattle.std.specs.Int.{from_bool}
+use Rattle.mesh.specs.Sizes.{quad_count, cap_count, extrusion_sizes, sizes_of}
 use Rattle.tables.specs.declared.layout.Plan.{Plan}
 use Rattle.tables.specs.Layout.{plan_of}
 use Rattle.lent.specs.Lent.{Asked}
@@ -31,7 +32,7 @@ use Rattle.sizes.specs.Known.{Sides, Are}
 indices_fit : (h : Header) (cap : ℕ) → 3 * (4 * quad_count h + cap_count h cap * cap - 2 * (quad_count h + cap_count h cap)) ≤ 6 * quad_count h + cap_count h cap * (3 * (cap - 2))
 indices_fit h cap = go (quad_count h) (has_cap h.begin_cap cap) (has_cap h.end_cap cap)
   where
-    go : (k : ℕ) (s t : Bool) → 3 * (4 * k + (one s + one t) * cap - 2 * (k + (one s + one t))) ≤ 6 * k + (one s + one t) * (3 * (cap - 2))
+    go : (k : ℕ) (s t : Bool) → 3 * (4 * k + (from_bool s + from_bool t) * cap - 2 * (k + (from_bool s + from_bool t))) ≤ 6 * k + (from_bool s + from_bool t) * (3 * (cap - 2))
     go k true true = omega arith
     go k true false = omega arith
     go k false true = omega arith

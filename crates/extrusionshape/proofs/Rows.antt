@@ -9,7 +9,7 @@ use Rattle.block.specs.Edition.{edition1, edition_of}
 use Rattle.block.specs.declared.kind.Kind.TheVariants.{Extrusion}
 use Rattle.block.specs.Header.{counts_of, header_of}
 use Rattle.block.specs.Extents.{widths, words_in, word_count, list_size, list_at, place_of}
-use Rattle.block.specs.Runs.{all_below}
+use Rattle.lists.specs.Lists.{all_below}
 use Rattle.block.specs.Refusal.{block_rows, first_of}
 use Rattle.block.specs.Settings.{settings_of}
 use Rattle.block.proofs.TableRows.{one_word, number}

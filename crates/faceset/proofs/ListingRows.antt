@@ -2,8 +2,8 @@
 use mathlib.Core.Path.{◌≡◌, refl}
 use mathlib.Core.List.{[], ◌∷◌}
 use Prim.Native.Nat.{ℕ}
-use Rattle.block.specs.Runs.{ends_run, runs_from, all_below, kept}
-use Rattle.lists.specs.Lists.{map_n, join_n}
+use Rattle.block.specs.Runs.{ends_run, runs_from, kept}
+use Rattle.lists.specs.Lists.{map_n, join_n, all_below}
 use Rattle.faceset.specs.Listings.{use_of, listed, listings_of}
 
 abbrev minus_one : ℕ

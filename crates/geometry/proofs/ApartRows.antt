@@ -4,13 +4,14 @@ use mathlib.Core.List.{List}
 use Prim.Native.Nat.{ℕ}
 use lib.Ieee.{binary32, of_bits}
 use lib.ListN.{replicate}
-use Rattle.bits.specs.Bits.{field, table, entries}
+use Rattle.lists.specs.Loops.{tab}
+use Rattle.bits.specs.Bits.{field, entries}
 use Rattle.block.specs.Edition.{edition1, edition_of}
 use Rattle.block.specs.Header.{counts_of, header_of}
 use Rattle.block.specs.Extents.{widths, words_in, word_count, list_at, list_size, place_of}
 use Rattle.block.specs.Refusal.{block_rows, first_of}
-use Rattle.block.specs.Runs.{ends_run, runs_from, all_below, kept, corners, triangles, sum_over}
-use Rattle.lists.specs.Lists.{flat}
+use Rattle.block.specs.Runs.{ends_run, runs_from, kept, corners, triangles, sum_over}
+use Rattle.lists.specs.Lists.{flat, all_below}
 use Rattle.mesh.specs.Sizes.{face_set_sizes, sizes_of, is_no_shape, is_over_corners, shape_rows}
 use Rattle.mesh.specs.Result.{made}
 use Rattle.mesh.specs.OneRun.{OthersStay}
@@ -62,7 +63,7 @@ lending w =
 
 -- FORMAT 3: neither block is refused
 pub accepted : (number_for (flat_block beside) (lending 0) ≡ 0) × (number_for (flat_block beside') (lending 7) ≡ 0)
-unfolding refusal rows lengths_of is_short block_rows first_of shape_rows is_no_shape is_over_corners sizes_of face_set_sizes header_of counts_of edition_of edition1 field entries table place_of list_at list_size widths words_in word_count runs_from ends_run all_below kept corners triangles sum_over flat
+unfolding refusal rows lengths_of is_short block_rows first_of shape_rows is_no_shape is_over_corners sizes_of face_set_sizes header_of counts_of edition_of edition1 field entries tab place_of list_at list_size widths words_in word_count runs_from ends_run all_below kept corners triangles sum_over flat
 accepted = (refl, refl)
 
 -- FORMAT 13: so of two calls on them under one colour, whichever, whose slices held different words before, the first face is the same

@@ -8,7 +8,8 @@ use lib.ListN.{replicate}
 use Prim.Native.Nat.{ℕ, ◌+◌, ◌*◌, ◌-◌}
 use Rattle.bits.specs.declared.Words2.{Words2}
 use Rattle.bits.specs.declared.Words4.{Words4}
-use Rattle.bits.specs.Bits.{field, table, entries, bytes_of}
+use Rattle.lists.specs.Loops.{tab}
+use Rattle.bits.specs.Bits.{field, entries, bytes_of}
 use Rattle.block.specs.declared.kind.Kind.{Kind}
 use Rattle.block.specs.declared.kind.Kind.TheVariants.{FaceSet, LineSet, Grid, Extrusion, Primitives}
 use Rattle.block.specs.Edition.{edition1, edition_of}
@@ -18,13 +19,13 @@ use Rattle.block.specs.Extents.{widths, words_in, list_at, list_size, place_of}
 use Rattle.block.specs.Runs.{Run, ends_run, runs_from, runs, kept}
 use Rattle.block.specs.Stream.{itself, number_in, number_at}
 use Rattle.block.specs.Value.{value_at}
-use Rattle.lists.specs.Lists.{map_n, join_n, has, place, meet, firsts, same_words, flat}
+use Rattle.lists.specs.Lists.{map_n, join_n, has, place, meet, firsts, same_words, flat, tabs}
 use Rattle.mesh.specs.Words.{no2, no3, point_words}
 use Rattle.mesh.specs.Vertices.{Key, same_key}
 use Rattle.mesh.specs.Mesh.{Mesh, slices_of, mesh}
 use Rattle.mesh.specs.Texture.{fit_of, default_at}
 use Rattle.mesh.specs.FaceSet.{Rest, rest_of, coord_in, point_count, normal_of, colour_of, texture_by, corner_by, corner_of, face_of, faces_of, frame_of, face_set_mesh, convex_frame}
-use Rattle.mesh.specs.Quads.{quad, tabs}
+use Rattle.mesh.specs.Quads.{quad}
 use Rattle.mesh.specs.Grid.{grid_of, x_dimension, z_dimension, grid_default, grid_corner, grid_face, grid_faces, grid_mesh}
 use Rattle.mesh.specs.Lines.{somes, joined, item_of, items_of, line_keys, line_ends, line_vertices, line_indices, lines_of, line_set_mesh}
 use Rattle.mesh.specs.Extrusion.{extrusion_mesh}
@@ -124,11 +125,11 @@ lines counts rest = bytes_of (0x1202_0000 ∷ counts ∷ 0 ∷ 0 ∷ 0 ∷ []) +
 
 -- FORMAT 7.2: no colour is listed, so each vertex has the four words of the call, whichever they are
 pub missing_row : (w : Words4) → (made w (lines 0x8002_0000 (0 ∷ 1 ∷ []))).colours ≡ w.r ∷ w.g ∷ w.b ∷ w.a ∷ w.r ∷ w.g ∷ w.b ∷ w.a ∷ []
-unfolding made made_of slices_of block_mesh line_set_mesh lines_of line_vertices line_indices line_keys line_ends items_of item_of somes joined rest_of coord_in colour_of number_at number_in itself value_at point_words join_n map_n firsts meet has place same_key same_words runs_from ends_run header_of counts_of edition_of edition1 place_of list_at list_size widths words_in entries table field flat
+unfolding made made_of slices_of block_mesh line_set_mesh lines_of line_vertices line_indices line_keys line_ends items_of item_of somes joined rest_of coord_in colour_of number_at number_in itself value_at point_words join_n map_n firsts meet has place same_key same_words runs_from ends_run header_of counts_of edition_of edition1 place_of list_at list_size widths words_in entries tab field flat
 missing_row w = refl
 
 -- FORMAT 11: the first line's colour is a listed grey and the second's is missing: under grey both are the same two vertices, under white they are not
 pub joined_row : let bs = lines 0x8005_0004 (0 ∷ 1 ∷ 0xffff_ffff ∷ 0 ∷ 1 ∷ 0x3f4c_cccd ∷ 0x3f4c_cccd ∷ 0x3f4c_cccd ∷ []) in
     ((made grey bs).sources ≡ 0 ∷ 1 ∷ []) × ((made white bs).sources ≡ 0 ∷ 1 ∷ 0 ∷ 1 ∷ [])
-unfolding grey white made made_of slices_of block_mesh line_set_mesh lines_of line_vertices line_indices line_keys line_ends items_of item_of somes joined rest_of coord_in colour_of number_at number_in itself value_at point_words join_n map_n firsts meet has place same_key same_words runs_from ends_run header_of counts_of edition_of edition1 place_of list_at list_size widths words_in entries table field flat
+unfolding grey white made made_of slices_of block_mesh line_set_mesh lines_of line_vertices line_indices line_keys line_ends items_of item_of somes joined rest_of coord_in colour_of number_at number_in itself value_at point_words join_n map_n firsts meet has place same_key same_words runs_from ends_run header_of counts_of edition_of edition1 place_of list_at list_size widths words_in entries tab field flat
 joined_row = (refl, refl)

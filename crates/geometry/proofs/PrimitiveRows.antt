@@ -3,7 +3,7 @@ use mathlib.Core.Path.{◌≡◌, refl}
 use mathlib.Core.List.{List, [], ◌∷◌, ◌++◌}
 use Prim.Native.Nat.{ℕ}
 use lib.Ieee.{of_bits, to_bits, add, sub, mul, div, neg, lt, le, is_nan}
-use Rattle.bits.specs.Bits.{field, table, entries, bytes_of}
+use Rattle.bits.specs.Bits.{field, entries, bytes_of}
 use Rattle.bits.specs.declared.Words4.{Words4}
 use Rattle.math.specs.Vector.{vlen, unit_of}
 use Rattle.math.specs.SquareRoot.{root_of}
@@ -12,7 +12,7 @@ use Rattle.lists.specs.Loops.{any, tab, run, first}
 use Rattle.polygon.specs.Points.{spot, spots}
 use Rattle.polygon.specs.Facing.{newell_from, newell}
 use Rattle.polygon.specs.Plane.{handed, axis_of, flip_of, projected, projection}
-use Rattle.polygon.specs.Ears.{outline as around, fan_from, fan, cross2, point_in_tri, blocks, is_ear, first_ear, remove, goes, clip, area_term, area, is_reversed, place as turned, order, turn, ear_clip_by, ear_clip}
+use Rattle.polygon.specs.Ears.{outline as around, fan_from, fan, cross2, point_in_tri, blocks, is_ear, first_ear, goes, clip, area_term, area, is_reversed, place as turned, order, turn, ear_clip_by, ear_clip}
 use Rattle.polygon.specs.Face.{face_tris, triangles}
 use Rattle.block.specs.Edition.{edition1, edition_of}
 use Rattle.block.specs.Header.{counts_of, header_of}
@@ -20,10 +20,10 @@ use Rattle.block.specs.Extents.{widths, words_in, list_at, list_size, place_of}
 use Rattle.block.specs.Settings.{settings_of}
 use Rattle.block.specs.Crease.{crease_of}
 use Rattle.block.specs.Texture.{uv_words}
-use Rattle.block.specs.Runs.{ends_run, runs_from, all_below, kept}
+use Rattle.block.specs.Runs.{ends_run, runs_from, kept}
 use Rattle.block.specs.Stream.{itself, chosen, number_in, number_at}
 use Rattle.block.specs.Value.{value_at}
-use Rattle.lists.specs.Lists.{map_n, join_n, has, place, meet, firsts, same_words, flat}
+use Rattle.lists.specs.Lists.{map_n, join_n, has, place, meet, firsts, same_words, flat, all_below, remove}
 use Rattle.mesh.specs.Words.{point_words}
 use Rattle.mesh.specs.Normals.{outline, facing, hits, hits_of, incident, crease_sum, or_else, generated, corner_normal}
 use Rattle.mesh.specs.Vertices.{same_key, key_of, keys_of, vertices, wound, locals, face_indices, indices_of}
@@ -81,7 +81,7 @@ pub accepted_rows : (refusal triangle_set (lent 4 3 3 0) ≡ 0)
     × ((header_of quad_set).kind ≡ Primitives Quads)
     × (refusal quad_set (lent 4 4 6 1) ≡ 8)  -- a float too few
     × (refusal (square 0x1d10_0001 0x0005_0000 (0 ∷ 1 ∷ 2 ∷ 3 ∷ 0 ∷ [])) none ≡ 9)  -- colours not per vertex
-unfolding refusal rows is_short shape_rows block_rows first_of all_below header_of counts_of edition_of edition1 widths words_in word_count list_at list_size place_of field table entries ends_run runs_from kept corners block-triangles sum_over sizes_of primitive_sizes face_list stretch_runs primitive_run primitive_of places_of primitive_count stretches tab flat is_no_shape is_over_corners
+unfolding refusal rows is_short shape_rows block_rows first_of all_below header_of counts_of edition_of edition1 widths words_in word_count list_at list_size place_of field tab entries ends_run runs_from kept corners block-triangles sum_over sizes_of primitive_sizes face_list stretch_runs primitive_run primitive_of places_of primitive_count stretches flat is_no_shape is_over_corners
 accepted_rows = (refl, refl, refl, refl, refl, refl, refl, refl, refl, refl)
 
 -- the colour of a missing entry
@@ -89,24 +89,24 @@ abbrev white : Words4
 white = record { r = one; g = one; b = one; a = one }
 
 pub triangle_set_row : (primitive_mesh white Triangles triangle_set).indices ≡ 0 ∷ 1 ∷ 2 ∷ []
-unfolding primitive_mesh listed_coord face_list stretch_runs primitive_run primitive_of places_of primitive_count stretches rest_of coord_in header_of counts_of edition_of edition1 field entries table place_of list_at list_size widths words_in settings_of crease_of convex_frame faces_of runs_from ends_run face_of kept all_below corner_of corner_by normal_of colour_of number_at number_in chosen itself value_at texture_by uv_words fit_of fitting fit_by sorted insert divisor axis_by span_of widened coord_of default_at min_of max_of choice is_zero negative magnitude is_nan mesh vertices keys_of key_of corner_normal generated or_else incident hits_of hits crease_sum facing outline spots spot newell newell_from handed indices_of face_indices locals wound triangles face_tris projection projected axis_of flip_of ear_clip ear_clip_by clip goes first_ear is_ear blocks point_in_tri cross2 remove fan fan_from order turned turn is_reversed area area_term any first run tab mesh_of mended mend_by or_words renorm point_words join_n map_n firsts meet has place same_key same_words flat unit_of vlen root_of of_bits to_bits add sub mul div neg lt le
+unfolding primitive_mesh listed_coord face_list stretch_runs primitive_run primitive_of places_of primitive_count stretches rest_of coord_in header_of counts_of edition_of edition1 field entries tab place_of list_at list_size widths words_in settings_of crease_of convex_frame faces_of runs_from ends_run face_of kept all_below corner_of corner_by normal_of colour_of number_at number_in chosen itself value_at texture_by uv_words fit_of fitting fit_by sorted insert divisor axis_by span_of widened coord_of default_at min_of max_of choice is_zero negative magnitude is_nan mesh vertices keys_of key_of corner_normal generated or_else incident hits_of hits crease_sum facing outline spots spot newell newell_from handed indices_of face_indices locals wound triangles face_tris projection projected axis_of flip_of ear_clip ear_clip_by clip goes first_ear is_ear blocks point_in_tri cross2 remove fan fan_from order turned turn is_reversed area area_term any first run mesh_of mended mend_by or_words renorm point_words join_n map_n firsts meet has place same_key same_words flat unit_of vlen root_of of_bits to_bits add sub mul div neg lt le
 triangle_set_row = refl
 
 pub fan_set_row : (primitive_mesh white Fans fan_set).indices ≡ 0 ∷ 1 ∷ 2 ∷ 0 ∷ 2 ∷ 3 ∷ []
-unfolding primitive_mesh listed_coord face_list stretch_runs primitive_run primitive_of places_of primitive_count stretches rest_of coord_in header_of counts_of edition_of edition1 field entries table place_of list_at list_size widths words_in settings_of crease_of convex_frame faces_of runs_from ends_run face_of kept all_below corner_of corner_by normal_of colour_of number_at number_in chosen itself value_at texture_by uv_words fit_of fitting fit_by sorted insert divisor axis_by span_of widened coord_of default_at min_of max_of choice is_zero negative magnitude is_nan mesh vertices keys_of key_of corner_normal generated or_else incident hits_of hits crease_sum facing outline spots spot newell newell_from handed indices_of face_indices locals wound triangles face_tris projection projected axis_of flip_of ear_clip ear_clip_by clip goes first_ear is_ear blocks point_in_tri cross2 remove fan fan_from order turned turn is_reversed area area_term any first run tab mesh_of mended mend_by or_words renorm point_words join_n map_n firsts meet has place same_key same_words flat unit_of vlen root_of of_bits to_bits add sub mul div neg lt le
+unfolding primitive_mesh listed_coord face_list stretch_runs primitive_run primitive_of places_of primitive_count stretches rest_of coord_in header_of counts_of edition_of edition1 field entries tab place_of list_at list_size widths words_in settings_of crease_of convex_frame faces_of runs_from ends_run face_of kept all_below corner_of corner_by normal_of colour_of number_at number_in chosen itself value_at texture_by uv_words fit_of fitting fit_by sorted insert divisor axis_by span_of widened coord_of default_at min_of max_of choice is_zero negative magnitude is_nan mesh vertices keys_of key_of corner_normal generated or_else incident hits_of hits crease_sum facing outline spots spot newell newell_from handed indices_of face_indices locals wound triangles face_tris projection projected axis_of flip_of ear_clip ear_clip_by clip goes first_ear is_ear blocks point_in_tri cross2 remove fan fan_from order turned turn is_reversed area area_term any first run mesh_of mended mend_by or_words renorm point_words join_n map_n firsts meet has place same_key same_words flat unit_of vlen root_of of_bits to_bits add sub mul div neg lt le
 fan_set_row = refl
 
 -- an odd triangle starts at its second entry: 3 1 2 of the points
 pub strip_set_row : (primitive_mesh white Strips strip_set).indices ≡ 0 ∷ 1 ∷ 2 ∷ 2 ∷ 1 ∷ 3 ∷ []
-unfolding primitive_mesh listed_coord face_list stretch_runs primitive_run primitive_of places_of primitive_count stretches rest_of coord_in header_of counts_of edition_of edition1 field entries table place_of list_at list_size widths words_in settings_of crease_of convex_frame faces_of runs_from ends_run face_of kept all_below corner_of corner_by normal_of colour_of number_at number_in chosen itself value_at texture_by uv_words fit_of fitting fit_by sorted insert divisor axis_by span_of widened coord_of default_at min_of max_of choice is_zero negative magnitude is_nan mesh vertices keys_of key_of corner_normal generated or_else incident hits_of hits crease_sum facing outline spots spot newell newell_from handed indices_of face_indices locals wound triangles face_tris projection projected axis_of flip_of ear_clip ear_clip_by clip goes first_ear is_ear blocks point_in_tri cross2 remove fan fan_from order turned turn is_reversed area area_term any first run tab mesh_of mended mend_by or_words renorm point_words join_n map_n firsts meet has place same_key same_words flat unit_of vlen root_of of_bits to_bits add sub mul div neg lt le
+unfolding primitive_mesh listed_coord face_list stretch_runs primitive_run primitive_of places_of primitive_count stretches rest_of coord_in header_of counts_of edition_of edition1 field entries tab place_of list_at list_size widths words_in settings_of crease_of convex_frame faces_of runs_from ends_run face_of kept all_below corner_of corner_by normal_of colour_of number_at number_in chosen itself value_at texture_by uv_words fit_of fitting fit_by sorted insert divisor axis_by span_of widened coord_of default_at min_of max_of choice is_zero negative magnitude is_nan mesh vertices keys_of key_of corner_normal generated or_else incident hits_of hits crease_sum facing outline spots spot newell newell_from handed indices_of face_indices locals wound triangles face_tris projection projected axis_of flip_of ear_clip ear_clip_by clip goes first_ear is_ear blocks point_in_tri cross2 remove fan fan_from order turned turn is_reversed area area_term any first run mesh_of mended mend_by or_words renorm point_words join_n map_n firsts meet has place same_key same_words flat unit_of vlen root_of of_bits to_bits add sub mul div neg lt le
 strip_set_row = refl
 
 -- vertices by first meeting
 pub strip_set_sources : (primitive_mesh white Strips strip_set).sources ≡ 0 ∷ 1 ∷ 3 ∷ 2 ∷ []
-unfolding primitive_mesh listed_coord face_list stretch_runs primitive_run primitive_of places_of primitive_count stretches rest_of coord_in header_of counts_of edition_of edition1 field entries table place_of list_at list_size widths words_in settings_of crease_of convex_frame faces_of runs_from ends_run face_of kept all_below corner_of corner_by normal_of colour_of number_at number_in chosen itself value_at texture_by uv_words fit_of fitting fit_by sorted insert divisor axis_by span_of widened coord_of default_at min_of max_of choice is_zero negative magnitude is_nan mesh vertices keys_of key_of corner_normal generated or_else incident hits_of hits crease_sum facing outline spots spot newell newell_from handed indices_of face_indices locals wound triangles face_tris projection projected axis_of flip_of ear_clip ear_clip_by clip goes first_ear is_ear blocks point_in_tri cross2 remove fan fan_from order turned turn is_reversed area area_term any first run tab mesh_of mended mend_by or_words renorm point_words join_n map_n firsts meet has place same_key same_words flat unit_of vlen root_of of_bits to_bits add sub mul div neg lt le
+unfolding primitive_mesh listed_coord face_list stretch_runs primitive_run primitive_of places_of primitive_count stretches rest_of coord_in header_of counts_of edition_of edition1 field entries tab place_of list_at list_size widths words_in settings_of crease_of convex_frame faces_of runs_from ends_run face_of kept all_below corner_of corner_by normal_of colour_of number_at number_in chosen itself value_at texture_by uv_words fit_of fitting fit_by sorted insert divisor axis_by span_of widened coord_of default_at min_of max_of choice is_zero negative magnitude is_nan mesh vertices keys_of key_of corner_normal generated or_else incident hits_of hits crease_sum facing outline spots spot newell newell_from handed indices_of face_indices locals wound triangles face_tris projection projected axis_of flip_of ear_clip ear_clip_by clip goes first_ear is_ear blocks point_in_tri cross2 remove fan fan_from order turned turn is_reversed area area_term any first run mesh_of mended mend_by or_words renorm point_words join_n map_n firsts meet has place same_key same_words flat unit_of vlen root_of of_bits to_bits add sub mul div neg lt le
 strip_set_sources = refl
 
 -- a fan, though convex is off: ears would begin with the last corner
 pub quad_set_row : (primitive_mesh white Quads quad_set).indices ≡ 0 ∷ 1 ∷ 2 ∷ 0 ∷ 2 ∷ 3 ∷ []
-unfolding around primitive_mesh listed_coord face_list stretch_runs primitive_run primitive_of places_of primitive_count stretches rest_of coord_in header_of counts_of edition_of edition1 field entries table place_of list_at list_size widths words_in settings_of crease_of convex_frame faces_of runs_from ends_run face_of kept all_below corner_of corner_by normal_of colour_of number_at number_in chosen itself value_at texture_by uv_words fit_of fitting fit_by sorted insert divisor axis_by span_of widened coord_of default_at min_of max_of choice is_zero negative magnitude is_nan mesh vertices keys_of key_of corner_normal generated or_else incident hits_of hits crease_sum facing outline spots spot newell newell_from handed indices_of face_indices locals wound triangles face_tris projection projected axis_of flip_of ear_clip ear_clip_by clip goes first_ear is_ear blocks point_in_tri cross2 remove fan fan_from order turned turn is_reversed area area_term any first run tab mesh_of mended mend_by or_words renorm point_words join_n map_n firsts meet has place same_key same_words flat unit_of vlen root_of of_bits to_bits add sub mul div neg lt le
+unfolding around primitive_mesh listed_coord face_list stretch_runs primitive_run primitive_of places_of primitive_count stretches rest_of coord_in header_of counts_of edition_of edition1 field entries tab place_of list_at list_size widths words_in settings_of crease_of convex_frame faces_of runs_from ends_run face_of kept all_below corner_of corner_by normal_of colour_of number_at number_in chosen itself value_at texture_by uv_words fit_of fitting fit_by sorted insert divisor axis_by span_of widened coord_of default_at min_of max_of choice is_zero negative magnitude is_nan mesh vertices keys_of key_of corner_normal generated or_else incident hits_of hits crease_sum facing outline spots spot newell newell_from handed indices_of face_indices locals wound triangles face_tris projection projected axis_of flip_of ear_clip ear_clip_by clip goes first_ear is_ear blocks point_in_tri cross2 remove fan fan_from order turned turn is_reversed area area_term any first run mesh_of mended mend_by or_words renorm point_words join_n map_n firsts meet has place same_key same_words flat unit_of vlen root_of of_bits to_bits add sub mul div neg lt le
 quad_set_row = refl

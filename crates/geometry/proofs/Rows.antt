@@ -4,12 +4,13 @@ use mathlib.Core.List.{List, [], ◌∷◌, ◌++◌}
 use Prim.Native.Nat.{ℕ, ◌+◌, ◌-◌, ◌*◌}
 use lib.Ieee.{of_bits, eq}
 use lib.ListN.{take, set, replicate}
-use Rattle.bits.specs.Bits.{field, table, entries, bytes_of}
+use Rattle.bits.specs.Bits.{field, entries, bytes_of}
 use Rattle.block.specs.declared.kind.Kind.TheVariants.{FaceSet, LineSet, Grid, Extrusion}
 use Rattle.block.specs.Edition.{edition1, edition_of}
 use Rattle.block.specs.Header.{counts_of, header_of}
 use Rattle.block.specs.Extents.{widths, words_in, word_count, list_at, list_size, place_of}
-use Rattle.block.specs.Runs.{all_below, ends_run, runs_from, kept, corners, triangles, sum_over}
+use Rattle.lists.specs.Lists.{all_below}
+use Rattle.block.specs.Runs.{ends_run, runs_from, kept, corners, triangles, sum_over}
 use Rattle.block.specs.Refusal.{block_rows, first_of}
 use Rattle.block.proofs.TableRows.{grid_header, grid_rest, grid}
 use Rattle.lists.specs.Loops.{tab}
@@ -34,12 +35,12 @@ blank a b n = bytes_of (a ∷ b ∷ 0 ∷ 0 ∷ 0 ∷ []) ++ replicate (4 * n) 0
 
 -- three points, and an index for each
 pub face_set_row : let bs = blank 0x1000_0000 0xc003_0000 21 ++ bytes_of (0 ∷ 1 ∷ 2 ∷ []) in (refusal bs (lent 3 3 3 0) ≡ 0) × ((header_of bs).kind ≡ FaceSet)
-unfolding refusal rows is_short shape_rows block_rows first_of all_below header_of counts_of edition_of edition1 widths words_in word_count list_at list_size place_of field table entries ends_run runs_from kept corners triangles sum_over sizes_of face_set_sizes is_no_shape is_over_corners
+unfolding refusal rows is_short shape_rows block_rows first_of all_below header_of counts_of edition_of edition1 widths words_in word_count list_at list_size place_of field tab entries ends_run runs_from kept corners triangles sum_over sizes_of face_set_sizes is_no_shape is_over_corners
 face_set_row = (refl, refl)
 
 -- two points, and a line between them
 pub line_set_row : let bs = blank 0x1200_0000 0x8002_0000 18 ++ bytes_of (0 ∷ 1 ∷ []) in (refusal bs (lent 2 2 2 0) ≡ 0) × ((header_of bs).kind ≡ LineSet)
-unfolding refusal rows is_short shape_rows block_rows first_of all_below header_of counts_of edition_of edition1 widths words_in word_count list_at list_size place_of field table entries ends_run runs_from sum_over sizes_of line_set_sizes named lines_after is_no_shape is_over_corners
+unfolding refusal rows is_short shape_rows block_rows first_of all_below header_of counts_of edition_of edition1 widths words_in word_count list_at list_size place_of field tab entries ends_run runs_from sum_over sizes_of line_set_sizes named lines_after is_no_shape is_over_corners
 line_set_row = (refl, refl)
 
 -- two points of the spine and two of the cross-section, without caps; 91 of each make 8,281 points

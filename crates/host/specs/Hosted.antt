@@ -2,7 +2,7 @@
 use Rattle.std.specs.Prelude.{ℕ, ◌≡◌, List, [], ◌∷◌}
 use Rattle.std.proofs.lemmas.List.Edits.{sets}
 use Rattle.block.specs.Refusal.{number_of}
-use Rattle.mesh.specs.Sizes.{one}
+use Rattle.std.specs.Int.{from_bool}
 use Rattle.lent.specs.Answer.{Answer}
 use Rattle.std.specs.Prelude.{Err, Ok}
 use Rattle.geometry.specs.declared.answer.Call.{Call}
@@ -15,7 +15,7 @@ call_of x = let c = x.colour in record { colour = record { r = c.r; g = c.g; b =
 
 -- FORMAT 15: vertices, indices, solid, unlit and has_colors
 unfoldable pub words_of : Report → List ℕ
-words_of p = p.vertices ∷ p.indices ∷ one p.solid ∷ one p.unlit ∷ one p.has_colors ∷ []
+words_of p = p.vertices ∷ p.indices ∷ from_bool p.solid ∷ from_bool p.unlit ∷ from_bool p.has_colors ∷ []
 
 -- FORMAT 3: the number of a refusal; 0 where a mesh is made
 abbrev pub returned : Answer → ℕ

@@ -6,11 +6,17 @@ pub mod Loops
 pub mod Searches
 pub mod Keep
 pub mod Tabs
+pub mod Updates
 pub mod Splices
 pub mod Stores
 pub mod Putting
 pub mod Lists
 pub mod Totals
+pub mod Rows
+pub mod Below
+pub mod Found
+pub mod Removal
+pub mod Counts
 pub mod Words
 pub mod Pieces
 pub mod Squares

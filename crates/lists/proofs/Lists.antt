@@ -524,11 +524,8 @@ drop_filled z p a n e = sym (drop-drop n a (p ++ drop a z)) ∙ ap (drop n) (dro
 pub length_filled : {A : Type 0} (z p : List A) (a : ℕ) → length p ≡ a → a ≤ length z → length (p ++ drop a z) ≡ length z
 length_filled z p a e h = length-append p (drop a z) ∙ omega (arith, length-drop a z)
 
-pub three_at : (m : List ℕ) (a : ℕ) → a + 3 ≤ length m → take 3 (drop a m) ≡ get_or m a 0 ∷ get_or m (a + 1) 0 ∷ get_or m (a + 2) 0 ∷ []
-three_at m a h =
-    let e : a + 1 ≡ suc a = omega arith in
-    let f : a + 2 ≡ suc (suc a) = omega arith in
-    rw (e, f, drop-cons m a 0 (omega arith), drop-cons m (suc a) 0 (omega arith), drop-cons m (suc (suc a)) 0 (omega arith))
+pub three_at : {A : Type 0} (d : A) (m : List A) (a : ℕ) → a + 3 ≤ length m → take 3 (drop a m) ≡ get_or m a d ∷ get_or m (a + 1) d ∷ get_or m (a + 2) d ∷ []
+three_at d m a h = ap (take 3) (drop_three d m a h)
 
 pub one_more : {A : Type 0} (x : List A) (c : A) (k : ℕ) → length x ≤ k → length (x ++ (c ∷ [])) ≤ suc k
 one_more x c k h = omega (arith, length-append x (c ∷ []))

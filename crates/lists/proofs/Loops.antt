@@ -73,6 +73,21 @@ unfolding run
 run_kept f x e zero t = refl
 run_kept {A} f x e (suc k) t = ap (λ (y : A). run f k (suc t) y) (e t) ∙ run_kept f x e k (suc t)
 
+-- a sum that is 0 has nothing but zeros
+pub none_counted : (f : ℕ → ℕ) (k i s : ℕ) → run (λ (j r : ℕ). r + f j) k i s ≡ 0 → (s ≡ 0) × ((j : ℕ) → i ≤ j → j < i + k → f j ≡ 0)
+unfolding run
+none_counted f zero i s e = (e, λ (j : ℕ) (a : i ≤ j) (b : j < i + 0). let z : ⊥ = omega arith in absurd z)
+none_counted f (suc k) i s e =
+    let r = none_counted f k (suc i) (s + f i) e in
+    let q : s + f i ≡ 0 = r.0 in (
+      omega arith,
+      λ (j : ℕ) (a : i ≤ j) (b : j < i + suc k).
+          ⊎_elim (λ (w : i ≡ j). ap f (sym w) ∙ last (s + f i) (f i) q (omega arith)) (λ (w : i < j). r.1 j w (omega arith)) (eq-or-lt_of_le a),
+    )
+  where
+    last : (n m : ℕ) → n ≡ 0 → m ≤ n → m ≡ 0
+    last n m e h = omega arith
+
 -- ---- a list that is filled
 
 module _ {A : Type 0} (f : ℕ → A) (n i : ℕ) (l : List A) where

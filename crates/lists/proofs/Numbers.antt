@@ -82,7 +82,12 @@ pub count_step : (b : Bool) (n : ℕ) → n ≤ cond b (suc n) n
 count_step true n = omega arith
 count_step false n = omega arith
 
--- by the library's number of a test
+-- the library's number of a test
+pub bool_most : (b : Bool) → from_bool b ≤ 1
+bool_most true = omega arith
+bool_most false = omega arith
+
+-- a count by it
 pub counted : (n : ℕ) {k : ℕ} (b : Bool) → k ≡ from_bool b → n + k ≡ cond b (suc n) n
 counted n true e = omega (arith, e)
 counted n false e = omega (arith, e)

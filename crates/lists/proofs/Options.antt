@@ -1,7 +1,10 @@
 -- A value that is there where a test holds, and else none.
-use mathlib.Core.Path.{◌≡◌, refl, ap, ◌∙◌}
+use mathlib.Core.Path.{◌≡◌, refl, ap, ◌∙◌, subst}
 use mathlib.Core.Bool.{Bool, true, false, cond}
-use Rattle.std.specs.Prelude.{Option, Some, IfSome, is_some, unwrap_or}
+use Prim.Native.Nat.{ℕ, ◌+◌, ◌<◌}
+use native.Mathlib.Nat.{zero-add}
+use Rattle.std.specs.Prelude.{Option, Some, None, IfSome, IsSomeAnd, is_some, unwrap_or}
+use Rattle.std.specs.Option.{option_map}
 use Rattle.std.specs.Bool.{then_some}
 use Rattle.std.proofs.lemmas.Option.{none-some, same_Some}
 
@@ -28,3 +31,12 @@ module _ {A : Type 0} where
       go : (b : Bool) → (b ≡ true → P x) → IfSome (then_some b x) P
       go true f = f refl
       go false f = tt
+
+-- what holds of item i of a range from 0 holds of i
+pub item_all : (n i : ℕ) (P : ℕ → Type 0) (o : Option ℕ) → option_map (λ y. y) o ≡ Some (0 + i) → IfSome o (λ x. (x ≡ 0 + i) × (x < n)) → IfSome o P → P i
+item_all n i P None e u h = absurd (none-some _ e)
+item_all n i P (Some x) e u h = subst P (u.0 ∙ zero-add i) h
+
+pub item_some : (n i : ℕ) (P : ℕ → Type 0) (o : Option ℕ) → IfSome o (λ x. (x ≡ 0 + i) × (x < n)) → IsSomeAnd o P → P i
+item_some n i P None u h = absurd h
+item_some n i P (Some x) u h = subst P (u.0 ∙ zero-add i) h

@@ -4,12 +4,12 @@ use mathlib.Core.Bool.{Bool, true, false, ◌||◌}
 use mathlib.Core.List.{List, [], ◌∷◌}
 use mathlib.Core.Logic.{⊎_elim}
 use Prim.Native.Nat.{ℕ, zero, suc, ◌+◌, ◌-◌, ◌≤◌, ◌<◌}
-use native.Mathlib.Nat.{le_refl, eq-or-lt_of_le, sub-zero}
+use native.Mathlib.Nat.{le_refl, eq-or-lt_of_le, sub-zero, add-zero, add-suc, suc-add, not-suc-le-zero}
 use native.Mathlib.Numerals.{add-one}
 use native.Mathlib.Omega.{arith}
-use lib.Dec.{leb}
-use lib.ListN.{length, get_or}
-use borrow.Author.Tests.{leb-false}
+use lib.Dec.{leb, ltb}
+use lib.ListN.{length, get_or, take}
+use borrow.Author.Tests.{leb-false, lt-ltb, le-ltb}
 use Rattle.std.specs.List.{list_any}
 use Rattle.lists.specs.Loops.{pick, any, tab, first}
 use Rattle.lists.proofs.Loops.{first_go, first_stop, first_end}
@@ -138,6 +138,21 @@ pub any_is : {A : Type 0} (test : A → Bool) (l : List A) → list_any test l �
 unfolding any
 any_is test [] = refl
 any_is test (x ∷ xs) = or_pick (test x) (any_is test xs)
+
+-- the library's search in the first k elements finds what a search by number finds
+pub found_first : {A : Type 0} (d : A) (p : A → Bool) (g : ℕ → Bool) (l : List A) (k i : ℕ) → k ≤ length l → ((t : ℕ) → t < k → g (i + t) ≡ p (get_or l t d)) → list_any p (take k l) ≡ ltb (first g k i) (i + k)
+unfolding first
+found_first d p g l zero i h e = sym (le-ltb i (i + 0) (omega arith))
+found_first d p g [] (suc k) i h e = absurd (not-suc-le-zero h)
+found_first d p g (x ∷ xs) (suc k) i h e =
+    let a : g i ≡ p x = rw add-zero at (e 0 (omega arith)) in
+    let b : list_any p (take k xs) ≡ ltb (first g k (suc i)) (suc i + k) =
+    found_first d p g xs k (suc i) (omega arith) (λ t w. rw (add-suc i t ∙ sym (suc-add i t)) at (e (suc t) (omega arith))) in
+    rw (← a) (go (g i) b)
+  where
+    go : (q : Bool) → list_any p (take k xs) ≡ ltb (first g k (suc i)) (suc i + k) → q || list_any p (take k xs) ≡ ltb (pick q i (first g k (suc i))) (i + suc k)
+    go true b = sym (lt-ltb i (i + suc k) (omega arith))
+    go false b = let c : suc i + k ≡ i + suc k = omega arith in b ∙ ap (ltb (first g k (suc i))) c
 
 -- of a list made by number
 pub record Found (g : ℕ → Bool) (f : ℕ → ℕ) (k i : ℕ) : Type 0 where

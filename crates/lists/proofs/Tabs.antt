@@ -1,12 +1,15 @@
 -- Lists made by number: their length, their elements, parts joined.
 use mathlib.Core.Path.{◌≡◌, refl, sym, ap, ap₂, ◌∙◌}
+use mathlib.Core.Bool.{cond}
 use mathlib.Core.List.{List, [], ◌∷◌, ◌++◌, map}
 use Prim.Native.Nat.{ℕ, zero, suc, ◌+◌, ◌-◌, ◌<◌, ◌≤◌}
 use native.Mathlib.Nat.{not-suc-le-zero, le_of_suc-le-suc, zero-add, add-zero, add-suc, suc-add}
 use native.Mathlib.Numerals.{add-one}
 use native.Mathlib.Omega.{arith}
 use lib.ListN.{length, get_or, take, replicate}
-use Rattle.std.specs.Prelude.{Some}
+use lib.Dec.{ltb, leb-suc-suc}
+use borrow.Author.Tests.{lt-ltb, le-ltb}
+use Rattle.std.specs.Prelude.{Some, None, slice_get}
 use Rattle.std.specs.Iterator.{MakesProgress, item_count}
 use Rattle.lists.specs.Loops.{tab}
 use lib.Seq.{ext_get_or, get_or-take, length-take-le, take_all}
@@ -27,6 +30,16 @@ module _ {A : Type 0} where
 
   pub tab_at : (f : ℕ → A) (n i : ℕ) (d : A) → i < n → get_or (tab f n 0) i d ≡ f i
   tab_at f n i d h = get_or_tab f n 0 i d h ∙ ap f (zero-add i)
+
+  slice_get_from : (f : ℕ → A) (n i k : ℕ) → slice_get (tab f n i) k ≡ cond (ltb k n) (Some (f (i + k))) None
+  unfolding tab
+  slice_get_from f zero i k = rw (le-ltb k 0 (omega arith))
+  slice_get_from f (suc n) i zero = rw (lt-ltb 0 (suc n) (omega arith), add-zero)
+  slice_get_from f (suc n) i (suc k) = rw (leb-suc-suc (suc k) n, add-suc i k ∙ sym (suc-add i k)) (slice_get_from f n (suc i) k)
+
+  -- as the library reads a slice
+  pub slice_get_tab : (f : ℕ → A) (n k : ℕ) → slice_get (tab f n 0) k ≡ cond (ltb k n) (Some (f k)) None
+  slice_get_tab f n k = slice_get_from f n 0 k ∙ ap (λ (j : ℕ). cond (ltb k n) (Some (f j)) None) (zero-add k)
 
   -- f from i on is g from j on
   pub tab_shift : (f g : ℕ → A) (k i j : ℕ) → ((t : ℕ) → t < k → f (i + t) ≡ g (j + t)) → tab f k i ≡ tab g k j

@@ -2,13 +2,13 @@
 use mathlib.Core.Path.{◌≡◌, refl, sym, ap, ap₂, ◌∙◌}
 use mathlib.Core.List.{List, [], ◌∷◌, ◌++◌, map, reverse, reverse-append}
 use Prim.Native.Nat.{ℕ, zero, suc, ◌+◌, ◌-◌, ◌*◌, ◌≤◌, ◌<◌}
-use native.Mathlib.Nat.{not-suc-le-zero, le_of_suc-le-suc, zero-add, add_assoc, suc-mul, zero-mul, mul-zero, mul-add}
+use native.Mathlib.Nat.{add-zero, not-suc-le-zero, le_of_suc-le-suc, zero-add, add_assoc, suc-mul, zero-mul, mul-zero, mul-add}
 use native.Mathlib.Numerals.{add-one}
 use native.Mathlib.Omega.{arith}
 use lib.ListN.{length, get_or, take, length-append, get_or-append}
 use lib.Seq.{get_or-append-add}
 use Rattle.lists.specs.Loops.{tab, All}
-use Rattle.lists.proofs.Tabs.{tab_shift, tab_add}
+use Rattle.lists.proofs.Tabs.{tab_shift, tab_add, tab_snoc}
 use Rattle.lists.specs.Lists.{map_n, total, flat}
 
 module _ {A : Type 0} where
@@ -109,3 +109,37 @@ unfolding total
 total_suc [] j b = absurd (not-suc-le-zero b)
 total_suc (f ∷ l) zero b = omega arith
 total_suc (f ∷ l) (suc j) b = let r = total_suc l j (le_of_suc-le-suc b) in omega arith
+
+-- ---- sums over the numbers below n
+
+abbrev pub sum_to : (ℕ → ℕ) → ℕ → ℕ
+sum_to E n = total E (tab (λ (j : ℕ). j) n 0)
+
+pub sum_more : (E : ℕ → ℕ) (n : ℕ) → sum_to E (suc n) ≡ sum_to E n + E n
+unfolding total
+sum_more E n =
+    ap (λ (k : ℕ). sum_to E k) (sym (add-one n)) ∙ ap (total E) (tab_snoc (λ (j : ℕ). j) n) ∙ total_append E (tab (λ (j : ℕ). j) n 0) (n ∷ [])
+    ∙ ap (λ (k : ℕ). sum_to E n + k) (add-zero (E n))
+
+pub sum_same : (E D : ℕ → ℕ) (n : ℕ) → ((i : ℕ) → i < n → E i ≡ D i) → sum_to E n ≡ sum_to D n
+unfolding total tab
+sum_same E D zero h = refl
+sum_same E D (suc n) h = sum_more E n ∙ (λ t. sum_same E D n (λ i b. h i (omega arith)) t + h n (omega arith) t) ∙ sym (sum_more D n)
+
+pub sum_both : (E D : ℕ → ℕ) (n : ℕ) → sum_to E n + sum_to D n ≡ sum_to (λ i. E i + D i) n
+unfolding total tab
+sum_both E D zero = refl
+sum_both E D (suc n) = omega (arith, sum_more E n, sum_more D n, sum_more (λ i. E i + D i) n, sum_both E D n)
+
+-- E and D differ by what T and X gain from each number to the next, and these come round
+module _ (E D T X : ℕ → ℕ) where
+  gained : (n : ℕ) → ((i : ℕ) → i < n → E i + T (suc i) + X i ≡ D i + T i + X (suc i)) → sum_to E n + T n + X 0 ≡ sum_to D n + T 0 + X n
+  unfolding total tab
+  gained zero h = refl
+  gained (suc n) h =
+      let a = gained n (λ i b. h i (omega arith)) in
+      let b = h n (omega arith) in
+      omega (arith, a, b, sum_more E n, sum_more D n)
+
+  pub around : (n : ℕ) → ((i : ℕ) → i < n → E i + T (suc i) + X i ≡ D i + T i + X (suc i)) → T n ≡ T 0 → X n ≡ X 0 → sum_to E n ≡ sum_to D n
+  around n h t x = omega (arith, gained n h, t, x)

@@ -25,10 +25,6 @@ seg_next l a n t h k =
     let f : a + (t + 1) ≡ suc (a + t) = omega arith in
     rw (e, f, drop-cons l (a + t) 0 (omega arith))
 
-pub seg_three : (l : List ℕ) (a : ℕ) → a + 3 ≤ length l → seg l a 3 ≡ get_or l a 0 ∷ get_or l (a + 1) 0 ∷ get_or l (a + 2) 0 ∷ []
-unfolding seg
-seg_three l a h = ap (take 3) (drop_three 0 l a h)
-
 pub seg_two : (l : List ℕ) (a : ℕ) → a + 2 ≤ length l → seg l a 2 ≡ get_or l a 0 ∷ get_or l (a + 1) 0 ∷ []
 unfolding seg
 seg_two l a h =

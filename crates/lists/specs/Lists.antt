@@ -1,5 +1,7 @@
--- How the lists of a mesh are made: numbered pieces joined, keys without repeats in the order of first meeting, and words compared.
-use Rattle.std.specs.Prelude.{Bool, true, false, ◌&&◌, ◌||◌, cond, List, [], ◌∷◌, ◌++◌, ℕ, zero, suc, ◌+◌, eqb}
+-- How the lists of a mesh are made: numbered pieces joined, rows, keys without repeats in the order of first meeting, words compared, numbers all below one,
+-- and a list without one of its places.
+use Rattle.std.specs.Prelude.{Bool, true, false, ◌&&◌, ◌||◌, cond, List, [], ◌∷◌, ◌++◌, ℕ, zero, suc, ◌+◌, eqb, ltb}
+use Rattle.lists.specs.Loops.{tab}
 
 -- each element with its number, counted from n: faces by their number (FORMAT 6.2)
 module _ {A B : Type 0} where
@@ -47,3 +49,18 @@ same_words (x ∷ xs) (y ∷ ys) = eqb x y && same_words xs ys
 unfoldable pub flat : {A : Type 0} → List (List A) → List A
 flat [] = []
 flat (x ∷ xs) = x ++ flat xs
+
+-- FORMAT 8.3, 8.4, the double loops of elevation_grid and extrusion: f 0 0, f 0 1, .. : n rows of m
+unfoldable pub tabs : {A : Type 0} → (ℕ → ℕ → A) → ℕ → ℕ → List A
+tabs f n m = flat (tab (λ i. tab (f i) m 0) n 0)
+
+-- FORMAT 6.2: whether every entry is the number of one of p points
+unfoldable pub all_below : ℕ → List ℕ → Bool
+all_below p [] = true
+all_below p (w ∷ ws) = ltb w p && all_below p ws
+
+-- FORMAT 12.3, ear_clip (idx.remove): the list without its place i
+unfoldable pub remove : {A : Type 0} → ℕ → List A → List A
+remove i [] = []
+remove zero (x ∷ xs) = xs
+remove (suc i) (x ∷ xs) = x ∷ remove i xs

@@ -14,6 +14,7 @@ use lib.Ieee.Bits.{nan_bits_above}
 use lib.Ieee.Positive.{positive}
 use lib.Ieee.Digits.{size-le}
 use lib.Ieee.Fits.{up_pos, down_pos, kept-lt, and_r}
+use Rattle.lists.proofs.Tests.{and_both}
 use Rattle.math.specs.SquareRoot.{root_of, root_bits}
 use Rattle.math.specs.Vector.{zero_f}
 use Rattle.math.specs.Digit.{Plain, plain}
@@ -148,20 +149,16 @@ positive_root x p = subst (λ (y : Float). of_bits binary32 (root_bits (to_bits 
 
 -- ---- a value that is known to be plain
 
-both : (a b : Bool) → (a && b) ≡ true → (a ≡ true) × (b ≡ true)
-both true b h = (refl, h)
-both false b h = absurd (true≢false (sym h))
-
 pub plain_positive : (x : Float) → plain x ≡ true → Positive x
 unfolding plain
 plain_positive x h =
-    let k = both (lt zero_f x && lt x inf_f) (ltb 8388607 (to_bits binary32 x)) h in
-    let m = both (lt zero_f x) (lt x inf_f) k.0 in
+    let k = and_both (lt zero_f x && lt x inf_f) (ltb 8388607 (to_bits binary32 x)) h in
+    let m = and_both (lt zero_f x) (lt x inf_f) k.0 in
     above_finite x m.0 m.1
 
 pub plain_in : (x : Float) → plain x ≡ true → T (fits binary32 x) → Plain (to_bits binary32 x)
 unfolding plain
 plain_in x h f =
-    let k = both (lt zero_f x && lt x inf_f) (ltb 8388607 (to_bits binary32 x)) h in
+    let k = and_both (lt zero_f x && lt x inf_f) (ltb 8388607 (to_bits binary32 x)) h in
     let l = ltb-true 8388607 (to_bits binary32 x) k.1 in
     (omega (arith, l), (positive_in x (plain_positive x h) f).1)

@@ -101,7 +101,7 @@ module _ (ps is : List ℕ) (count : ℕ) where
       → w ≡ mend_by (unit_of (floats w)) w (first_normal (lent_frame ps) (lent_keys [] count) v is) → Mends ps is count v 1 ns ns
   unfolding point_words
   mends_kept {ns} v w room ew er =
-      mends_one v w w ew er (splice_own ns (v * 3) 3 room ∙ ap (spliced ns (v * 3)) (three_at ns (v * 3) room ∙ ap words3 (sym ew)))
+      mends_one v w w ew er (splice_own ns (v * 3) 3 room ∙ ap (spliced ns (v * 3)) (three_at 0 ns (v * 3) room ∙ ap words3 (sym ew)))
 
   -- the words of the vertices behind are as they were
   pub words_past : {ns ns' : List ℕ} (v n u : ℕ) → (v + n) * 3 ≤ length ns → v + n ≤ u → Mends ps is count v n ns ns' → point_words ns' u ≡ point_words ns u

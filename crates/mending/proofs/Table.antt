@@ -2,12 +2,12 @@
 use mathlib.Core.Path.{◌≡◌, refl, sym, ap, ◌∙◌, subst}
 use mathlib.Core.Bool.{Bool, true, false, ◌||◌, cond, true≢false}
 use mathlib.Core.List.{List, [], ◌∷◌}
-use Prim.Native.Nat.{ℕ, suc, ◌+◌, ◌*◌, ◌/◌, ◌≤◌, ◌<◌}
+use Prim.Native.Nat.{ℕ, ◌+◌, ◌*◌, ◌/◌, ◌≤◌, ◌<◌}
 use native.Mathlib.Omega.{arith}
 use lib.Dec.{eqb}
 use borrow.Author.Tests.{eqb-true, eqb-false}
 use lib.ListN.{length, get_or, drop, set, replicate, length-set, length-drop, length-replicate, get_or-replicate}
-use lib.Seq.{drop-cons, get_or-set_same, get_or-set_other}
+use lib.Seq.{get_or-set_same, get_or-set_other}
 use Rattle.math.specs.declared.vector.V3.{V3}
 use Rattle.std.specs.Prelude.{Option, is_some}
 use Rattle.std.specs.Prelude.{Some, None}
@@ -16,6 +16,7 @@ use Rattle.mesh.specs.Soup.{Frame}
 use Rattle.mesh.specs.Normals.{or_else}
 use Rattle.mesh.specs.Vertices.{Key}
 use Rattle.mesh.specs.Mend.{first_normal}
+use Rattle.lists.proofs.Lists.{drop_three}
 use Rattle.lists.proofs.Tests.{cond_same}
 use Rattle.lists.specs.Named.{named_by}
 use Rattle.lists.proofs.Named.{named_next}
@@ -153,22 +154,14 @@ module _ (F : Frame) (vs : List Key) (is : List ℕ) where
           let c = get_or is (n * 3 + 2) 0 in
           ap (λ (w : Option ℕ). found F vs is w rest) (marked_three t a b c v n h) ∙ found_new (uses n v) (named_by (get_or t v 0)) n u rest e
 
-  drop_three : (k l : ℕ) → k + 2 < length is → l ≡ k + 3 → drop k is ≡ get_or is (k + 0) 0 ∷ get_or is (k + 1) 0 ∷ get_or is (k + 2) 0 ∷ drop l is
-  drop_three k l h q =
-      let e0 : k ≡ k + 0 = omega arith in
-      let e1 : suc k ≡ k + 1 = omega arith in
-      let e2 : suc (k + 1) ≡ k + 2 = omega arith in
-      let e3 : suc (k + 2) ≡ l = omega arith in
-      drop-cons is k 0 (omega arith)
-      ∙ (λ i. get_or is (e0 i) 0 ∷ drop (e1 i) is)
-      ∙ ap (λ (r : List ℕ). get_or is (k + 0) 0 ∷ r)
-      (drop-cons is (k + 1) 0 (omega arith) ∙ ap (λ (r : List ℕ). get_or is (k + 1) 0 ∷ r) (ap (λ (j : ℕ). drop j is) e2 ∙ drop-cons is (k + 2) 0 h ∙ ap (λ (j : ℕ). get_or is (k + 2) 0 ∷ drop j is) e3))
-
   first_three : (v n : ℕ) → n * 3 + 2 < length is
       → first_normal F vs v (drop (n * 3) is)
       ≡ cond (uses n v) (or_else (triangle_normal F vs is n) (first_normal F vs v (drop ((n + 1) * 3) is))) (first_normal F vs v (drop ((n + 1) * 3) is))
   unfolding first_normal triangle_normal
-  first_three v n h = ap (first_normal F vs v) (drop_three (n * 3) ((n + 1) * 3) h (omega arith))
+  first_three v n h =
+      let a : n * 3 ≡ n * 3 + 0 = omega arith in
+      let b : n * 3 + 3 ≡ (n + 1) * 3 = omega arith in
+      ap (first_normal F vs v) (drop_three 0 is (n * 3) (omega arith) ∙ (λ i. get_or is (a i) 0 ∷ get_or is (n * 3 + 1) 0 ∷ get_or is (n * 3 + 2) 0 ∷ drop (b i) is))
 
   first_short : (v : ℕ) (l : List ℕ) → length l ≤ 2 → first_normal F vs v l ≡ y_axis
   unfolding first_normal

@@ -8,16 +8,17 @@ use borrow.Author.Tests.{eqb-true, not-true}
 use lib.Dec.{T, lit<, eqb}
 use lib.Ieee.{of_bits, add, mul, le, lt}
 use lib.Ieee.Fits.{and_l, and_r}
-use Rattle.bits.specs.Bits.{field, table, entries, bytes_of}
+use Rattle.lists.specs.Loops.{tab}
+use Rattle.bits.specs.Bits.{field, entries, bytes_of}
 use Rattle.math.specs.Vector.{vlen}
 use Rattle.math.specs.SquareRoot.{root_of}
 use Rattle.block.specs.Edition.{edition1, edition_of}
 use Rattle.block.specs.Header.{counts_of, header_of}
 use Rattle.block.specs.Extents.{widths, words_in, list_at, list_size, place_of}
-use Rattle.block.specs.Runs.{ends_run, runs_from, all_below, kept}
+use Rattle.block.specs.Runs.{ends_run, runs_from, kept}
 use Rattle.block.specs.Stream.{itself, chosen, number_in, number_at}
 use Rattle.block.specs.Value.{value_at}
-use Rattle.lists.specs.Lists.{map_n, flat}
+use Rattle.lists.specs.Lists.{map_n, flat, all_below}
 use Rattle.mesh.specs.Words.{no4}
 use Rattle.mesh.specs.Mesh.{slices_of, normal_at}
 use Rattle.mesh.specs.FaceSet.{rest_of, coord_in, runs_in, normal_of, corner_by, corner_of, face_of, faces_of, face_set_mesh}
@@ -85,7 +86,7 @@ supplied_block run = block furnished 0x3f49_0fdb 0x3f35_04f3 run (0 ∷ w1 ∷ 0
 -- ---- what is asked of each pair
 
 pub pairs : OneRun (flat_block beside) (flat_block beside') 1 × OneRun (smooth_block away) (smooth_block away') 1 × OneRun (supplied_block beside) (supplied_block beside') 1
-unfolding runs_in coord_in place_of list_at list_size widths words_in header_of counts_of edition_of edition1 field entries table runs_from ends_run byte_of flat
+unfolding runs_in coord_in place_of list_at list_size widths words_in header_of counts_of edition_of edition1 field entries tab runs_from ends_run byte_of flat
 pairs = (
   record { in_b = lit< tt; in_c = lit< tt; place = refl; long = refl; fore = refl; aft = refl },
   record { in_b = lit< tt; in_c = lit< tt; place = refl; long = refl; fore = refl; aft = refl },
@@ -95,7 +96,7 @@ pairs = (
 pub conditions : NormalsApart no4 (flat_block beside) (flat_block beside') 1 0
     × NormalsApart no4 (smooth_block away) (smooth_block away') 1 0
     × NormalsApart no4 (supplied_block beside) (supplied_block beside') 1 0
-unfolding runs_in coord_in place_of list_at list_size widths words_in header_of counts_of edition_of edition1 field entries table runs_from ends_run flat rest_of le of_bits names faces_of face_of corner_of corner_by normal_of number_at number_in chosen itself value_at kept all_below map_n vlen root_of add mul lt
+unfolding runs_in coord_in place_of list_at list_size widths words_in header_of counts_of edition_of edition1 field entries tab runs_from ends_run flat rest_of le of_bits names faces_of face_of corner_of corner_by normal_of number_at number_in chosen itself value_at kept all_below map_n vlen root_of add mul lt
 conditions = (
   own refl refl,
   apart refl (λ p h. (clear_apart (0 ∷ 1 ∷ 2 ∷ []) away tt p h, clear_apart (0 ∷ 1 ∷ 2 ∷ []) away' tt p h)),

@@ -4,7 +4,7 @@ use mathlib.Core.Logic.{◌≢◌}
 use mathlib.Core.Bool.{Bool, true, false, cond}
 use mathlib.Core.List.{List, [], ◌∷◌, ◌++◌, map, map-append, append_assoc}
 use Prim.Native.Nat.{ℕ, suc, ◌+◌, ◌≤◌, ◌<◌}
-use native.Mathlib.Nat.{zero-add, suc-ne-zero}
+use native.Mathlib.Nat.{zero-add}
 use native.Mathlib.Omega.{arith}
 use lib.Dec.{eqb}
 use lib.Ieee.{Float}
@@ -22,7 +22,7 @@ use Rattle.mesh.specs.Soup.{Corner, Face, dense, Frame}
 use Rattle.mesh.specs.Normals.{facing, Hit, hits, hits_of, incident, sum_all, is_near, sum_near, near_sum, crease_sum, or_else, generated, corner_normal}
 use Rattle.mesh.specs.Vertices.{Key, no_key, same_key, key_of, keys_of, vertices, locals, face_indices, indices_of, width}
 use Rattle.mesh.specs.Mesh.{mesh_of, mesh}
-use Rattle.lists.proofs.Lists.{All_map, All_append, join_n_append}
+use Rattle.lists.proofs.Lists.{All_map, All_append, join_n_append, no_elements}
 use Rattle.mesh.proofs.Sums.{near_append, step_own, step_other}
 use Rattle.mesh.proofs.Corners.{length_locals}
 
@@ -192,13 +192,9 @@ module _ (F : Frame) (fs : List Face) where
   unfolding vertices keys_of dense
   vertices_dense = ap (firsts same_key []) (walk fs (keys_of F fs) (keys_of F (dense fs)) (λ n. refl) keys_dense [] fs refl 0 0 refl refl)
 
-  none_there : (is : List ℕ) → length is ≡ 0 → is ≡ []
-  none_there [] e = refl
-  none_there (i ∷ is) e = absurd (suc-ne-zero (length is) e)
-
   locals_none : locals F [] ≡ []
   unfolding width
-  locals_none = none_there (locals F []) (length_locals F [])
+  locals_none = no_elements (locals F []) (length_locals F [])
 
   indices_dense : (vs : List Key) → indices_of F fs vs ≡ indices_of F (dense fs) vs
   unfolding indices_of face_indices dense

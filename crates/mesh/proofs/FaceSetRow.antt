@@ -4,7 +4,7 @@ use mathlib.Core.Path.{◌≡◌, refl}
 use mathlib.Core.List.{List, [], ◌∷◌, ◌++◌}
 use Prim.Native.Nat.{ℕ}
 use lib.Ieee.{of_bits, to_bits, add, sub, mul, div, neg, lt, le, is_nan}
-use Rattle.bits.specs.Bits.{field, table, entries, bytes_of}
+use Rattle.bits.specs.Bits.{field, entries, bytes_of}
 use Rattle.bits.specs.declared.Words2.{Words2}
 use Rattle.bits.specs.declared.Words4.{Words4}
 use Rattle.math.specs.Vector.{vlen, unit_of}
@@ -14,7 +14,7 @@ use Rattle.lists.specs.Loops.{any, tab, run, first}
 use Rattle.polygon.specs.Points.{spot, spots}
 use Rattle.polygon.specs.Facing.{newell_from, newell}
 use Rattle.polygon.specs.Plane.{handed, axis_of, flip_of, projected, projection}
-use Rattle.polygon.specs.Ears.{fan_from, fan, cross2, point_in_tri, blocks, is_ear, first_ear, remove, goes, clip, area_term, area, is_reversed, place as turned, order, turn, ear_clip_by, ear_clip}
+use Rattle.polygon.specs.Ears.{fan_from, fan, cross2, point_in_tri, blocks, is_ear, first_ear, goes, clip, area_term, area, is_reversed, place as turned, order, turn, ear_clip_by, ear_clip}
 use Rattle.polygon.specs.Face.{face_tris, triangles}
 use Rattle.block.specs.Edition.{edition1, edition_of}
 use Rattle.block.specs.Header.{counts_of, header_of}
@@ -22,10 +22,10 @@ use Rattle.block.specs.Extents.{widths, words_in, list_at, list_size, place_of}
 use Rattle.block.specs.Settings.{settings_of}
 use Rattle.block.specs.Crease.{crease_of}
 use Rattle.block.specs.Texture.{uv_words}
-use Rattle.block.specs.Runs.{ends_run, runs_from, all_below, kept}
+use Rattle.block.specs.Runs.{ends_run, runs_from, kept}
 use Rattle.block.specs.Stream.{itself, chosen, number_in, number_at}
 use Rattle.block.specs.Value.{value_at}
-use Rattle.lists.specs.Lists.{map_n, join_n, has, place, meet, firsts, same_words, flat}
+use Rattle.lists.specs.Lists.{map_n, join_n, has, place, meet, firsts, same_words, flat, all_below, remove}
 use Rattle.mesh.specs.Words.{point_words}
 use Rattle.mesh.specs.Normals.{outline, facing, hits, hits_of, incident, crease_sum, or_else, generated, corner_normal}
 use Rattle.mesh.specs.Vertices.{same_key, key_of, keys_of, vertices, wound, locals, face_indices, indices_of}
@@ -65,5 +65,5 @@ pub face_set_row : face_set_mesh white bytes ≡ record {
   textures = uv 0 w1 ∷ uv w1 w1 ∷ uv w1 0 ∷ uv 0 0 ∷ uv 0 w1 ∷ uv w1 0 ∷ uv w1 w1 ∷ [];
   indices = 3 ∷ 0 ∷ 1 ∷ 1 ∷ 2 ∷ 3 ∷ 4 ∷ 5 ∷ 6 ∷ [];
 }
-unfolding face_set_mesh rest_of coord_in header_of counts_of edition_of edition1 field entries table place_of list_at list_size widths words_in settings_of crease_of frame_of faces_of runs_from ends_run face_of kept all_below corner_of corner_by normal_of colour_of number_at number_in chosen itself value_at texture_by uv_words fit_of fitting fit_by sorted insert divisor axis_by span_of widened coord_of default_at min_of max_of choice is_zero negative magnitude is_nan mesh vertices keys_of key_of corner_normal generated or_else incident hits_of hits crease_sum facing outline spots spot newell newell_from handed indices_of face_indices locals wound triangles face_tris projection projected axis_of flip_of ear_clip ear_clip_by clip goes first_ear is_ear blocks point_in_tri cross2 remove fan fan_from order turned turn is_reversed area area_term any first run tab mesh_of mended mend_by or_words renorm point_words join_n map_n firsts meet has place same_key same_words flat unit_of vlen root_of of_bits to_bits add sub mul div neg lt le
+unfolding face_set_mesh rest_of coord_in header_of counts_of edition_of edition1 field entries tab place_of list_at list_size widths words_in settings_of crease_of frame_of faces_of runs_from ends_run face_of kept all_below corner_of corner_by normal_of colour_of number_at number_in chosen itself value_at texture_by uv_words fit_of fitting fit_by sorted insert divisor axis_by span_of widened coord_of default_at min_of max_of choice is_zero negative magnitude is_nan mesh vertices keys_of key_of corner_normal generated or_else incident hits_of hits crease_sum facing outline spots spot newell newell_from handed indices_of face_indices locals wound triangles face_tris projection projected axis_of flip_of ear_clip ear_clip_by clip goes first_ear is_ear blocks point_in_tri cross2 remove fan fan_from order turned turn is_reversed area area_term any first run mesh_of mended mend_by or_words renorm point_words join_n map_n firsts meet has place same_key same_words flat unit_of vlen root_of of_bits to_bits add sub mul div neg lt le
 face_set_row = refl

@@ -17,7 +17,6 @@ pub mod OneFace
 pub mod FaceSet
 pub mod OneRun
 pub mod Blocks
-pub mod Tabs
 pub mod SameFrames
 pub mod Sizes
 pub mod LineSoup

@@ -15,9 +15,9 @@ use Rattle.math.specs.Vector.{zero_f}
 use Rattle.block.specs.Crease.{π, crease_of}
 use Rattle.block.specs.Settings.{float_at, settings_of}
 use Rattle.block.specs.declared.crease.CreaseRule.TheVariants.{Own, Every, Bound}
-use Rattle.block.specs.Runs.{Run, all_below, kept, triangles, sum_over}
+use Rattle.block.specs.Runs.{Run, kept, triangles, sum_over}
 use Rattle.lists.specs.Loops.{All}
-use Rattle.lists.specs.Lists.{join_n, total}
+use Rattle.lists.specs.Lists.{join_n, total, all_below}
 use Rattle.mesh.specs.Soup.{Corner, Face}
 use Rattle.mesh.specs.Vertices.{Key, vertices, face_indices, indices_of, width}
 use Rattle.mesh.specs.Mesh.{Slices, mesh_of, mesh, slices_of, shown_at, normal_at, part_of}

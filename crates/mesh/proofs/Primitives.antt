@@ -9,12 +9,13 @@ use Rattle.bits.specs.Bits.{entries}
 use Rattle.bits.specs.declared.Words4.{Words4}
 use Rattle.bits.proofs.Entries.{entries_bytes}
 use Rattle.block.specs.declared.topology.Topology.{Topology}
-use Rattle.block.specs.Runs.{Run, runs, corners, triangles, sum_over, all_below}
+use Rattle.lists.specs.Lists.{all_below}
+use Rattle.block.specs.Runs.{Run, runs, corners, triangles, sum_over}
 use Rattle.block.proofs.EditionLaws.{count_narrow}
 use Rattle.lists.specs.Loops.{All, tab}
 use Rattle.lists.proofs.Lists.{All_of, All_map, All_append, All_get_or, All_of_map, All_by, All_flat}
 use Rattle.primitives.specs.Primitives.{stretches, primitive_count, primitive_of, primitive_run, stretch_runs, face_list}
-use Rattle.primitives.proofs.Closed.{all_below_lem}
+use Rattle.lists.proofs.Below.{all_below_lem}
 use Rattle.mesh.specs.FaceSet.{rest_of, coord_in, point_count, convex_frame}
 use Rattle.mesh.specs.Primitives.{listed_coord, primitive_mesh}
 use Rattle.mesh.proofs.Facts.{list_indices, list_vertices}

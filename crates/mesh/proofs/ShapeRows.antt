@@ -5,7 +5,7 @@ use mathlib.Core.Bool.{true, false}
 use mathlib.Core.List.{List, [], ◌∷◌, ◌++◌, map}
 use lib.ListN.{length}
 use lib.Ieee.{binary32, of_int, of_bits, to_bits, is_nan, add, sub, mul, div, neg, lt, le, eq}
-use Rattle.bits.specs.Bits.{field, table, entries, bytes_of}
+use Rattle.bits.specs.Bits.{field, entries, bytes_of}
 use Rattle.bits.specs.declared.Words2.{Words2}
 use Rattle.bits.specs.declared.Words4.{Words4}
 use Rattle.math.specs.declared.vector.V3.{V3}
@@ -27,7 +27,7 @@ use Rattle.block.specs.Texture.{pair_of, uv_words}
 use Rattle.block.specs.Value.{value_at}
 use Rattle.block.proofs.TableRows.{grid_header, grid_rest, grid}
 use Rattle.lists.specs.Loops.{tab}
-use Rattle.lists.specs.Lists.{map_n, join_n, has, place, meet, firsts, same_words, flat}
+use Rattle.lists.specs.Lists.{map_n, join_n, has, place, meet, firsts, same_words, flat, tabs}
 use Rattle.mesh.specs.Words.{words3, no2, no3, no4, floats, bits, point_words}
 use Rattle.mesh.specs.Soup.{Corner, gathered, points_of, Frame}
 use Rattle.mesh.specs.Vertices.{same_key}
@@ -35,7 +35,7 @@ use Rattle.mesh.specs.Normals.{or_else}
 use Rattle.mesh.specs.Mesh.{Mesh, slices_of}
 use Rattle.mesh.specs.Texture.{widened, span_of, divisor}
 use Rattle.mesh.specs.FaceSet.{rest_of, coord_in, normal_of, colour_of, texture_by, corner_by, convex_frame}
-use Rattle.mesh.specs.Quads.{tabs, quad}
+use Rattle.mesh.specs.Quads.{quad}
 use Rattle.mesh.specs.Grid.{grid_point, grid_points, grid_of, grid_default, grid_corner, grid_face, grid_faces, grid_mesh}
 use Rattle.mesh.specs.Frames.{Axes, at, first_of, last_of, closed, along_end, y_own, first_y, y_at, bend, z_end, z_own, first_z, pick_z, prev_z, upright, bent, straight, axes_at}
 use Rattle.mesh.specs.SourceFrames.{forward, backward, first, ys, z_raw, copy_ends, zs, walk, source_frames}
@@ -76,7 +76,7 @@ pub grid_soup : (convex_frame (grid_of bench) ≡ flat_frame)
     × (sizes_of bench (header_of bench) ≡ record { points = 4; corners = 4; indices = 6 })
     × (is_no_shape (header_of bench) ≡ false)
     × (is_over_corners bench (header_of bench) ≡ false)
-unfolding grid grid_header grid_rest convex_frame grid_of grid_points grid_point grid_faces grid_face grid_corner corner_by texture_by normal_of colour_of tabs tab flat quad header_of counts_of edition_of edition1 settings_of transform_of finite_transform pair_or crease_of place_of list_at list_size widths words_in entries table field of_int of_bits to_bits mul le sizes_of grid_sizes is_no_shape is_over_corners
+unfolding grid grid_header grid_rest convex_frame grid_of grid_points grid_point grid_faces grid_face grid_corner corner_by texture_by normal_of colour_of tabs tab flat quad header_of counts_of edition_of edition1 settings_of transform_of finite_transform pair_or crease_of place_of list_at list_size widths words_in entries field of_int of_bits to_bits mul le sizes_of grid_sizes is_no_shape is_over_corners
 grid_soup = (refl, refl, refl, refl, refl)
 
 abbrev bench_mesh : Mesh
@@ -116,7 +116,7 @@ pub slope_soup : ((grid_of slope).points
     ∷ (tinted white 1 (st half w1) ∷ tinted white 4 (st half 0) ∷ tinted white 5 (st w1 0) ∷ tinted white 2 (st w1 w1) ∷ [])
     ∷ [])
     × (sizes_of slope (header_of slope) ≡ record { points = 6; corners = 8; indices = 12 })
-unfolding grid_of grid_points grid_point grid_faces grid_face grid_corner grid_default corner_by texture_by normal_of colour_of uv_words number_at number_in itself value_at tabs tab flat quad header_of counts_of edition_of edition1 settings_of transform_of finite_transform pair_or crease_of place_of list_at list_size widths words_in entries table field of_int of_bits to_bits sub mul div le sizes_of grid_sizes
+unfolding grid_of grid_points grid_point grid_faces grid_face grid_corner grid_default corner_by texture_by normal_of colour_of uv_words number_at number_in itself value_at tabs tab flat quad header_of counts_of edition_of edition1 settings_of transform_of finite_transform pair_or crease_of place_of list_at list_size widths words_in entries field of_int of_bits to_bits sub mul div le sizes_of grid_sizes
 slope_soup = (refl, refl, refl)
 
 -- FORMAT 5: neither colours nor texture are made of the bench's grid
@@ -337,7 +337,7 @@ lined es = ((line_set_mesh white (line_block es)).sources, (line_set_mesh white 
 pub line_rows : (lined (0 ∷ 1 ∷ 9 ∷ 1 ∷ 0 ∷ []) ≡ (0 ∷ 1 ∷ [], 0 ∷ 1 ∷ 1 ∷ 0 ∷ [], record { points = 2; corners = 4; indices = 4 }))
     × (lined (1 ∷ 1 ∷ []) ≡ (1 ∷ [], 0 ∷ 0 ∷ [], record { points = 2; corners = 2; indices = 2 }))
     × (lined (1 ∷ []) ≡ (1 ∷ [], [], record { points = 2; corners = 1; indices = 0 }))
-unfolding line_set_mesh lines_of line_vertices line_indices line_keys line_ends items_of item_of somes joined rest_of coord_in colour_of join_n map_n firsts meet has place same_key same_words runs_from ends_run header_of counts_of edition_of edition1 place_of list_at list_size widths words_in entries table field sizes_of line_set_sizes named lines_after sum_over flat
+unfolding line_set_mesh lines_of line_vertices line_indices line_keys line_ends items_of item_of somes joined rest_of coord_in colour_of join_n map_n firsts meet has place same_key same_words runs_from ends_run header_of counts_of edition_of edition1 place_of list_at list_size widths words_in entries tab field sizes_of line_set_sizes named lines_after sum_over flat
 line_rows = (refl, refl, refl)
 
 -- a colour for each line: the empty run has number 0, so that the line has the second colour
@@ -349,5 +349,5 @@ green = record { r = 0; g = w1; b = 0; a = w1 }
 
 pub line_colours : line_set_mesh white coloured
     ≡ record { sources = 0 ∷ 1 ∷ []; positions = v 0 0 0 ∷ v 0 w1 0 ∷ []; normals = []; colours = green ∷ green ∷ []; textures = []; indices = 0 ∷ 1 ∷ [] }
-unfolding line_set_mesh lines_of line_vertices line_indices line_keys line_ends items_of item_of somes joined rest_of coord_in colour_of number_at number_in itself value_at point_words join_n map_n firsts meet has place same_key same_words runs_from ends_run header_of counts_of edition_of edition1 place_of list_at list_size widths words_in entries table field flat
+unfolding line_set_mesh lines_of line_vertices line_indices line_keys line_ends items_of item_of somes joined rest_of coord_in colour_of number_at number_in itself value_at point_words join_n map_n firsts meet has place same_key same_words runs_from ends_run header_of counts_of edition_of edition1 place_of list_at list_size widths words_in entries tab field flat
 line_colours = refl

@@ -11,7 +11,7 @@ use Rattle.mesh.specs.FaceSet.{Rest}
 use Rattle.mesh.specs.Quads.{quad}
 use Rattle.mesh.specs.Grid.{x_dimension, z_dimension, grid_corner, grid_face, grid_faces}
 use Rattle.mesh.specs.Extrusion.{Extrusion, side_corner, sides}
-use Rattle.mesh.proofs.Tabs.{tabs_tab}
+use Rattle.lists.proofs.Rows.{tabs_tab}
 
 pub grid_listed : (missing : Words4) (G : Rest) → 2 ≤ x_dimension G.head
     → grid_faces missing G

@@ -26,10 +26,11 @@ use Rattle.mesh.specs.Lines.{these, somes, line, joined, item_of, items_of, line
 use Rattle.mesh.specs.Quads.{quad}
 use Rattle.mesh.specs.Grid.{x_dimension, z_dimension, grid_point, grid_points, grid_of, grid_face, grid_faces}
 use Rattle.mesh.specs.Extrusion.{Extrusion, extrusion_of, section_of, spine_count, section_count, row_words, row_at, extrusion_points, side_corner, sides, cap_length, cap_corner, cap_face, face_if, has_cap, caps, extrusion_faces}
-use Rattle.mesh.specs.Sizes.{named, lines_after, line_set_sizes, quad_count, grid_sizes, one, cap_count, extrusion_sizes}
+use Rattle.std.specs.Int.{from_bool}
+use Rattle.mesh.specs.Sizes.{named, lines_after, line_set_sizes, quad_count, grid_sizes, cap_count, extrusion_sizes}
 use Rattle.lists.proofs.Lists.{length_join_n, length_words}
 use Rattle.lists.proofs.Totals.{flat_total, total_append, total_tab, total_map_n, times_total}
-use Rattle.mesh.proofs.Tabs.{total_tabs}
+use Rattle.lists.proofs.Rows.{total_tabs}
 
 -- what each run gives, added up
 sum_total : (f : List ℕ → ℕ) (rs : List Run) → total (λ (r : Run). f r.items) rs ≡ sum_over f rs
@@ -158,11 +159,11 @@ module _ (E : Extrusion) where
       e : Bool
       e = has_cap E.head.end_cap (cap_length E.section)
 
-      one_cap : (t : Bool) (f : Face) → length f ≡ cap_length E.section → total size (face_if t f) ≡ one t * by (cap_length E.section)
+      one_cap : (t : Bool) (f : Face) → length f ≡ cap_length E.section → total size (face_if t f) ≡ from_bool t * by (cap_length E.section)
       one_cap true f l = omega (arith, h f, ap by l)
       one_cap false f l = omega arith
 
-      two : (s t : Bool) → one s * by (cap_length E.section) + one t * by (cap_length E.section) ≡ (one s + one t) * by (cap_length E.section)
+      two : (s t : Bool) → from_bool s * by (cap_length E.section) + from_bool t * by (cap_length E.section) ≡ (from_bool s + from_bool t) * by (cap_length E.section)
       two true true = omega arith
       two true false = omega arith
       two false true = omega arith

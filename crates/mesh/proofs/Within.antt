@@ -13,16 +13,16 @@ use Rattle.bits.specs.Bits.{entries}
 use Rattle.bits.specs.declared.Words4.{Words4}
 use Rattle.block.specs.Header.{header_of}
 use Rattle.block.specs.Extents.{list_bytes}
-use Rattle.block.specs.Runs.{Run, runs, all_below, kept}
+use Rattle.block.specs.Runs.{Run, runs, kept}
 use Rattle.block.specs.Value.{words3}
 use Rattle.lists.specs.Loops.{tab, All}
 use Rattle.lists.proofs.Tabs.{tab_at}
-use Rattle.lists.specs.Lists.{map_n}
+use Rattle.lists.specs.Lists.{map_n, tabs, all_below}
 use Rattle.mesh.specs.Words.{no2, no3, floats}
 use Rattle.mesh.specs.Soup.{Corner, gathered, Face}
 use Rattle.mesh.specs.Vertices.{Key}
 use Rattle.mesh.specs.FaceSet.{Rest, point_count, colour_of, corner_by, corner_of, face_of, faces_of}
-use Rattle.mesh.specs.Quads.{tabs, quad}
+use Rattle.mesh.specs.Quads.{quad}
 use Rattle.mesh.specs.Grid.{x_dimension, z_dimension, grid_corner, grid_face, grid_faces}
 use Rattle.mesh.specs.Frames.{at}
 use Rattle.mesh.specs.Extrusion.{Extrusion, extrusion_of, spine_count, point_number, corner_at, side_corner, cap_corner, sides, closes, ring_of, cap_length, cap_face, face_if, has_cap, caps, extrusion_faces}

@@ -17,7 +17,7 @@ use Rattle.block.specs.Settings.{settings_of}
 use Rattle.block.specs.Value.{value_word, words2, words3}
 use Rattle.block.specs.Texture.{pair_of, uv_words}
 use Rattle.lists.specs.Loops.{tab}
-use Rattle.lists.specs.Lists.{flat}
+use Rattle.lists.specs.Lists.{flat, tabs}
 use Rattle.mesh.specs.Words.{words3 as words_of, no2, no3, no4, floats, bits}
 use Rattle.mesh.specs.Soup.{Corner, gathered, Face, Frame}
 use Rattle.mesh.specs.Mesh.{Mesh, mesh}
@@ -25,7 +25,7 @@ use Rattle.mesh.specs.declared.texture.Span.{Span}
 use Rattle.mesh.specs.declared.texture.AxisName.TheVariants.{X, Y}
 use Rattle.mesh.specs.declared.texture.Fit.{Fit}
 use Rattle.mesh.specs.Texture.{span_of, divisor, fitted_at}
-use Rattle.mesh.specs.Quads.{tabs, quad}
+use Rattle.mesh.specs.Quads.{quad}
 use Rattle.mesh.specs.Frames.{Axes, at, axes_at}
 use Rattle.mesh.specs.Arcs.{at2, arcs2, arcs3}
 

@@ -12,12 +12,12 @@ use Rattle.block.specs.Header.{header_of}
 use Rattle.block.specs.Extents.{list_bytes}
 use Rattle.block.specs.Settings.{settings_of}
 use Rattle.lists.specs.Loops.{tab}
-use Rattle.lists.specs.Lists.{flat}
+use Rattle.lists.specs.Lists.{flat, tabs}
 use Rattle.mesh.specs.Words.{words3}
 use Rattle.mesh.specs.Soup.{Corner, Face}
 use Rattle.mesh.specs.Mesh.{Mesh, mesh}
 use Rattle.mesh.specs.FaceSet.{Rest, corner_by, convex_frame}
-use Rattle.mesh.specs.Quads.{tabs, quad}
+use Rattle.mesh.specs.Quads.{quad}
 
 -- FORMAT 2.4: the sides, which are counts with no list
 abbrev pub x_dimension : Header → ℕ

@@ -1,5 +1,6 @@
 -- FORMAT 4: P, C and N of each kind, from the header and the bytes; and the refusals 6 and 7. FORMAT 3.
-use Rattle.std.specs.Prelude.{ℕ, suc, ◌+◌, ◌-◌, ◌*◌, Bool, true, false, ◌||◌, cond, List, [], ◌∷◌, ltb, get_or}
+use Rattle.std.specs.Prelude.{ℕ, suc, ◌+◌, ◌-◌, ◌*◌, Bool, false, ◌||◌, cond, List, [], ◌∷◌, ltb, get_or}
+use Rattle.std.specs.Int.{from_bool}
 use Rattle.bits.specs.Bits.{entries}
 use Rattle.block.specs.declared.header.Header.{Header}
 use Rattle.block.specs.declared.topology.Topology.{Topology}
@@ -73,13 +74,9 @@ grid_sizes h = record { points = x_dimension h * z_dimension h; corners = 4 * qu
 
 -- ---- extrusion
 
-abbrev pub one : Bool → ℕ
-one true = 1
-one false = 0
-
 -- FORMAT 8.4: how many caps of k corners there are
 abbrev pub cap_count : Header → ℕ → ℕ
-cap_count h k = one (has_cap h.begin_cap k) + one (has_cap h.end_cap k)
+cap_count h k = from_bool (has_cap h.begin_cap k) + from_bool (has_cap h.end_cap k)
 
 -- FORMAT 4, 8.4: 4 corners and 2 triangles a side's face; k corners and k - 2 triangles a cap
 unfoldable pub extrusion_sizes : List ℕ → Header → Sizes

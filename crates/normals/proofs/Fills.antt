@@ -3,7 +3,7 @@ use mathlib.Core.Path.{◌≡◌, refl, sym, ap, ◌∙◌}
 use mathlib.Core.List.{List, [], ◌∷◌, ◌++◌}
 use Prim.Native.Nat.{ℕ, zero, suc, ◌+◌, ◌*◌, ◌≤◌, ◌<◌}
 use native.Mathlib.Omega.{arith}
-use lib.ListN.{length, get_or, take, drop, length-append, length-drop}
+use lib.ListN.{length, take, drop, length-append, length-drop}
 use lib.Seq.{take_at, take-add}
 use lib.Ieee.{Float, nan}
 use Rattle.math.specs.declared.vector.V3.{V3}
@@ -11,7 +11,7 @@ use Rattle.lists.specs.Loops.{tab}
 use Rattle.lists.proofs.Tabs.{length_tab, tab_add}
 use Rattle.lists.specs.Lists.{flat}
 use Rattle.lists.specs.Parts.{spliced}
-use Rattle.lists.proofs.Lists.{drop_next}
+use Rattle.lists.proofs.Lists.{three_at}
 use Rattle.lists.proofs.Splices.{grow}
 use Rattle.normals.specs.Rows.{vector}
 use Rattle.normals.specs.Written.{three, spread}
@@ -27,13 +27,9 @@ length_spread [] = refl
 length_spread (v ∷ l) = omega (arith, length_spread l)
 
 -- the three floats from a
-three_at : (e : List Float) (a : ℕ) → a + 3 ≤ length e → take 3 (drop a e) ≡ three (vector e a)
+vector_at : (e : List Float) (a : ℕ) → a + 3 ≤ length e → take 3 (drop a e) ≡ three (vector e a)
 unfolding vector
-three_at e a h =
-    let q : a + 1 + 1 ≡ a + 2 = omega arith in
-    ap (take 3) (drop_next nan e a (omega arith)
-    ∙ ap (λ (r : List Float). get_or e a nan ∷ r) (drop_next nan e (a + 1) (omega arith)
-    ∙ ap (λ (r : List Float). get_or e (a + 1) nan ∷ r) (ap (λ (k : ℕ). drop k e) q ∙ drop_next nan e (a + 2) (omega arith))))
+vector_at e a h = three_at nan e a h
 
 module _ (f : ℕ → V3) where
   pub length_made : (n a : ℕ) → length (spread (tab f n a)) ≡ 3 * n
@@ -74,5 +70,5 @@ module _ (f : ℕ → V3) where
       let s : suc n ≡ n + 1 = omega arith in
       let z : n ≡ 0 + n = omega arith in
       ap (λ (j : ℕ). take j e) k ∙ take-add (3 * n) 3 e
-      ∙ (λ i. made_each e n (omega arith) (λ c b. is c (omega arith)) i ++ (three_at e (3 * n) (omega arith) ∙ ap three (is n (omega arith) ∙ ap f z)) i)
+      ∙ (λ i. made_each e n (omega arith) (λ c b. is c (omega arith)) i ++ (vector_at e (3 * n) (omega arith) ∙ ap three (is n (omega arith) ∙ ap f z)) i)
       ∙ sym (ap (λ (j : ℕ). spread (tab f j 0)) s ∙ spread_more n 0)

@@ -21,7 +21,8 @@ use Rattle.tables.specs.Soups.{gather_in, owner_in, start_in, corner_in, face_in
 use Rattle.tables.proofs.Stays.{start_le, face_kept, soup_kept}
 use Rattle.tables.proofs.Joins.{join_soup}
 use Rattle.lists.proofs.Lists.{cond_map}
-use Rattle.normals.specs.Group.{uses, uses_from, gathers_in}
+use Rattle.lists.specs.Counts.{uses, uses_from}
+use Rattle.normals.specs.Group.{gathers_in}
 use Rattle.normals.specs.Rows.{normal_in, facing_in, hit_in, hits_from, hits_at, Owned, Made}
 use Rattle.normals.specs.Written.{normal_at, corner_normal_in, face_normals, normals_of}
 

@@ -21,7 +21,8 @@ use Rattle.lists.proofs.Keep.{kept_then}
 use Rattle.lists.proofs.Tabs.{tab_same}
 use Rattle.tables.proofs.Stays.{start_le, gather_kept, owner_kept, start_kept, sound_kept}
 use Rattle.lists.proofs.Numbers.{last_or}
-use Rattle.normals.specs.Group.{uses, uses_from, gathers_in}
+use Rattle.lists.specs.Counts.{uses, uses_from}
+use Rattle.normals.specs.Group.{gathers_in}
 use Rattle.normals.specs.Rows.{unit_at, normal_in, hit_in, hits_from, hits_at, Ready, every_at, sum_in, is_every, is_bound, SummedTo, Mirrored, Summed, Made}
 use Rattle.normals.proofs.Counting.{grouped_by, grouped_kept}
 use Rattle.normals.proofs.Walks.{length_gathers}

@@ -19,10 +19,11 @@ use Rattle.lists.specs.Loops.{All}
 use Rattle.lists.specs.Parts.{seg}
 use Rattle.lists.proofs.Tabs.{length_tab, tab_at}
 use Rattle.lists.proofs.Lists.{drop_next, All_map, All_of_map, map_map}
-use Rattle.normals.specs.Group.{below, uses_from, gathers_in}
+use Rattle.lists.specs.Counts.{below, uses_from}
+use Rattle.normals.specs.Group.{gathers_in}
 use Rattle.normals.specs.Rows.{normal_in, unit_in, hit_of, hit_in, hits_from, hits_at, Ready, no_unit}
 use Rattle.normals.proofs.Floats.{near_mirrored}
-use Rattle.normals.proofs.Counting.{below_le, below_next, below_all, uses_within}
+use Rattle.lists.proofs.Counts.{below_le, below_next, below_all, uses_within}
 
 module _ {w : List ℕ} {t : Plan} (R : Ready w t) where
   pub length_gathers : length (gathers_in w t) ≡ t.count

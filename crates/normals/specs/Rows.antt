@@ -13,7 +13,8 @@ use Rattle.tables.specs.declared.layout.Plan.{Plan}
 use Rattle.lists.specs.Parts.{Kept}
 use Rattle.tables.specs.Layout.{Room}
 use Rattle.tables.specs.Soups.{gather_in, owner_in, face_in, frame_in, Sound, Spread}
-use Rattle.normals.specs.Group.{uses_from, gathers_in, Grouped}
+use Rattle.lists.specs.Counts.{uses_from}
+use Rattle.normals.specs.Group.{gathers_in, Grouped}
 
 -- three words from a, as a vector
 unfoldable pub at3 : List ℕ → ℕ → V3

@@ -4,7 +4,8 @@ ghost use Rattle.math.specs.Vector.{v3, zero_f, y_axis, unit_of};
 ghost use Rattle.lists.specs.Loops.{All};
 ghost use Rattle.mesh.specs.Normals.{sum_all, or_else};
 ghost use Rattle.tables.specs.Soups.{gather_in, owner_in};
-ghost use Rattle.normals.specs.Group.{below, gathers_in};
+ghost use Rattle.lists.specs.Counts.{below};
+ghost use Rattle.normals.specs.Group.{gathers_in};
 ghost use Rattle.normals.specs.Rows.{normal_in, hit_of, hits_at, Ready};
 
 use crate::vectors::{load, load_unit};

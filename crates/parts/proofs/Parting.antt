@@ -2,13 +2,13 @@
 use Rattle.block.proofs.Table.{number_some}
 use mathlib.Core.Path.{◌≡◌, refl, sym, ap, ◌∙◌, subst}
 use mathlib.Core.Bool.{Bool, true, false, ◌||◌, cond}
-use mathlib.Core.List.{List, [], ◌∷◌, ◌++◌}
+use mathlib.Core.List.{List, [], ◌∷◌}
 use Prim.Native.Nat.{ℕ, zero, suc, ◌+◌, ◌*◌, ◌/◌, ◌≤◌, ◌<◌, ◌^◌}
 use native.Mathlib.Nat.{zero-add, add-zero, mul-zero}
 use native.Mathlib.Omega.{arith}
 use borrow.Author.Tests.{ltb-false, le-ltb}
 use lib.Dec.{ltb}
-use lib.ListN.{length, drop, take, length-append}
+use lib.ListN.{length, length-append}
 use lib.Ieee.{Float}
 use Rattle.block.specs.declared.refusal.Refusal.{Refusal}
 use Rattle.block.specs.declared.refusal.Refusal.TheVariants.{Pairs, Buffer}
@@ -17,8 +17,8 @@ use Rattle.lists.proofs.Options.{then_some_or}
 use Rattle.lists.proofs.Tests.{or_none}
 use Rattle.lists.specs.Lists.{flat}
 use Rattle.lists.specs.Parts.{spliced}
-use Rattle.lists.proofs.Splices.{splice_more, put_size}
-use Rattle.mesh.specs.Mesh.{Slices, slices_of, over}
+use Rattle.lists.proofs.Splices.{splice_front, splice_more, put_size}
+use Rattle.mesh.specs.Mesh.{Slices, slices_of}
 use Rattle.lent.specs.declared.answer.Report.{Report}
 use Rattle.std.specs.Prelude.{Option, Some, None, Err, Ok, IfSome, MatchOption, unwrap_or}
 use Rattle.std.specs.Bool.{then_some}
@@ -245,11 +245,6 @@ module _ (c : GeomCtx) (ps : List Float) (p : Part) (b : Builder) {z : PartSizes
           places = omega (arith, w, Z.indices);
         }
 
-    -- what is put from the start on stands in front of what the slice held
-    over_is : (l m : List ℕ) (a : ℕ) (x : List ℕ) → a ≡ 0 → m ≡ spliced l a x → m ≡ over x l
-    unfolding spliced
-    over_is l m a x e q = q ∙ (λ j. take (e j) l ++ x ++ drop (e j + length x) l) ∙ ap (λ (k : ℕ). x ++ drop k l) (zero-add (length x))
-
     made_parted : {b' : Builder} → Written p 0 0 b b' → Parted c ps p lent (lent_to b'.positions.now b'.normals.now b'.textures.now b'.indices.now) (Ok (report_of z))
     unfolding part_result report_of made_for slices_of part_mesh pushed flat
     made_parted {b'} W =
@@ -258,11 +253,11 @@ module _ (c : GeomCtx) (ps : List Float) (p : Part) (b : Builder) {z : PartSizes
           answer = rw none (λ j. saying (Ok (record { vertices = Z.vertices j; indices = Z.indices j; solid = true; unlit = false; has_colors = false })));
           slices = rw none (λ j. record {
             sources = [];
-            positions = over_is b.positions.now b'.positions.now (3 * 0) (position_words p.verts) refl (λ k. (s k).positions) j;
-            normals = over_is b.normals.now b'.normals.now (3 * 0) (normal_words p.verts) refl (λ k. (s k).normals) j;
+            positions = ((λ k. (s k).positions) ∙ splice_front b.positions.now (position_words p.verts)) j;
+            normals = ((λ k. (s k).normals) ∙ splice_front b.normals.now (normal_words p.verts)) j;
             colours = [];
-            textures = over_is b.textures.now b'.textures.now (texture_width (finite_ctx c) * 0) (texture_words (finite_ctx c) p.verts) (mul-zero (texture_width (finite_ctx c))) (λ k. (s k).textures) j;
-            indices = over_is b.indices.now b'.indices.now 0 p.indices refl W.places j;
+            textures = ((λ k. (s k).textures) ∙ ap (λ (a : ℕ). spliced b.textures.now a (texture_words (finite_ctx c) p.verts)) (mul-zero (texture_width (finite_ctx c))) ∙ splice_front b.textures.now (texture_words (finite_ctx c) p.verts)) j;
+            indices = (W.places ∙ splice_front b.indices.now p.indices) j;
           });
         }
 

@@ -3,7 +3,6 @@ pub mod Calls
 pub mod Meaning
 pub mod Rows
 -- Laws behind them and behind the functions.
-mod Updates
 mod Passing
 mod Corners
 mod Hitting

@@ -9,6 +9,7 @@ use lib.Dec.{eqb, ltb}
 use lib.Ieee.{Float}
 use lib.ListN.{length, drop, replicate}
 use borrow.Author.Tests.{ne_eqb, lt-ltb, le-ltb}
+use Rattle.lists.specs.Updates.{updated}
 use Rattle.lists.specs.Loops.{pick, tab, run, first}
 use Rattle.lists.proofs.Lists.{beyond}
 use Rattle.lists.proofs.Tabs.{length_tab, tab_replicate}
@@ -18,8 +19,8 @@ use Rattle.std.specs.Prelude.{Ok, Err}
 use Rattle.paths.specs.declared.intersect.Triangle.{Triangle}
 use Rattle.paths.specs.Intersect.{hits}
 use Rattle.paths.specs.Paths.{paths_in, ray_in, triangle_in, blocks, lowest, answer_of, answers_of, is_refused, paths_number, answers_after, PathsCall}
-use Rattle.paths.specs.Pass.{Loaded, next_answer, step_at, updated, turn_of}
-use Rattle.paths.proofs.Updates.{passes, updated_same, updated_tab}
+use Rattle.paths.specs.Pass.{Loaded, next_answer, step_at, turn_of}
+use Rattle.lists.proofs.Updates.{passes, updated_same, updated_tab}
 
 -- ---- one path
 

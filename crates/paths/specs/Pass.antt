@@ -1,6 +1,8 @@
 -- FORMAT 19.4: what a pass carries, the rays by coordinate and the answers so far. For the proofs.
-use Rattle.std.specs.Prelude.{ℕ, zero, suc, ◌+◌, ◌<◌, ◌≡◌, Bool, ◌&&◌, cond, List, [], ◌∷◌, eqb, ltb, Float, get_or, set}
+use Rattle.std.specs.Prelude.{ℕ, ◌+◌, ◌<◌, ◌≡◌, Bool, ◌&&◌, cond, List, [], eqb, ltb, Float, get_or, set}
 use Rattle.std.specs.Float.{nan}
+use Rattle.std.specs.Int.{from_bool}
+use Rattle.lists.specs.Updates.{updated}
 use Rattle.lists.specs.Loops.{run, first}
 use Rattle.math.specs.declared.vector.V3.{V3}
 use Rattle.math.specs.Vector.{v3}
@@ -33,28 +35,14 @@ next_answer hit number answer = cond (hit && eqb answer 0) number answer
 unfoldable pub step_at : List Float → Triangle → ℕ → ℕ → ℕ → ℕ
 step_at rays tri number j answer = next_answer (hits (ray_at rays j) tri) number answer
 
--- the element at j changed by g
-abbrev pub put : (ℕ → ℕ → ℕ) → ℕ → List ℕ → List ℕ
-put g j l = set l j (g j (get_or l j 0))
-
--- the first k elements changed by g, each with its number
-unfoldable pub updated : (ℕ → ℕ → ℕ) → ℕ → List ℕ → List ℕ
-updated g zero l = l
-updated g (suc k) [] = []
-updated g (suc k) (x ∷ xs) = g 0 x ∷ updated (λ (i : ℕ). g (suc i)) k xs
-
 -- triangle t of the mesh for the first m paths
 unfoldable pub turn_of : List ℕ → List ℕ → List Float → ℕ → ℕ → List ℕ → List ℕ
 turn_of positions indices rays m t l =
     updated (step_at rays (triangle_in positions indices t) (t + 1)) m l
 
--- 1 where it is hit
-unfoldable pub one_where : Bool → ℕ
-one_where hit = cond hit 1 0
-
 -- how many of the first m rays hit a triangle
 unfoldable pub hit_count : List Float → Triangle → ℕ → ℕ
-hit_count rays tri m = run (λ (j s : ℕ). s + one_where (hits (ray_at rays j) tri)) m 0 0
+hit_count rays tri m = run (λ (j s : ℕ). s + from_bool (hits (ray_at rays j) tri)) m 0 0
 
 -- whether one of the first m answers is 0
 unfoldable pub any_clear : List ℕ → ℕ → Bool

@@ -1,7 +1,8 @@
 // FORMAT 19.4: the triangles one by one, each for all the paths.
 ghost use Rattle.std.specs.Prelude.{◌≡◌, false, ◌||◌, ◌/◌, ◌≤◌, ◌<◌, eqb, leb, length};
+ghost use Rattle.lists.specs.Updates.{updated};
 ghost use Rattle.lists.specs.Loops.{any, run};
-ghost use Rattle.paths.specs.Pass.{next_answer, step_at, updated, turn_of};
+ghost use Rattle.paths.specs.Pass.{next_answer, step_at, turn_of};
 ghost use Rattle.paths.specs.Pass.{hit_count, any_clear};
 
 use crate::intersect::{Triangle, hits};

@@ -2,13 +2,12 @@
 use Rattle.block.proofs.Table.{number_some}
 use mathlib.Core.Path.{◌≡◌, refl, sym, ap, ◌∙◌}
 use mathlib.Core.Bool.{Bool, true, false, ◌||◌, cond, or-false}
-use mathlib.Core.List.{List, [], ◌∷◌, ◌++◌, map}
+use mathlib.Core.List.{List, [], ◌∷◌, map}
 use Prim.Native.Nat.{ℕ, zero, suc, ◌*◌, ◌≤◌, ◌<◌, ◌^◌}
-use native.Mathlib.Nat.{zero-add}
 use native.Mathlib.Omega.{arith}
 use borrow.Author.Tests.{ltb-false, leb-true}
 use lib.Dec.{ltb}
-use lib.ListN.{length, take, drop}
+use lib.ListN.{length, take}
 use Rattle.lists.specs.Lists.{flat}
 use Rattle.lists.specs.Loops.{tab}
 use Rattle.lists.specs.Parts.{spliced}
@@ -21,21 +20,16 @@ use Rattle.block.specs.Edition.{edition1}
 use Rattle.block.specs.Refusal.{row, first_of, number_of}
 use Rattle.lists.proofs.Tests.{or_none}
 use Rattle.mesh.specs.Words.{words3, words4, point_words}
-use Rattle.mesh.specs.Mesh.{Slices, slices_of, over}
+use Rattle.mesh.specs.Mesh.{Slices, slices_of}
 use Rattle.std.specs.Prelude.{Option, Err, Ok, MatchOption}
 use Rattle.std.specs.Bool.{then_some}
-use Rattle.lists.proofs.Splices.{splice_start}
+use Rattle.lists.proofs.Splices.{splice_start, splice_front}
 use Rattle.pointset.specs.declared.copies.Listed.{Listed}
 use Rattle.lent.specs.Answer.{refused}
 use Rattle.parts.specs.Parted.{is_short_for}
 use Rattle.pointset.specs.Numbers.{is_short}
 use Rattle.pointset.specs.PointSet.{points_in, colours_in, makes_colours, colour_at, point_set_mesh, point_set_rows, point_set_number, point_set_result, PointSetCall, lent_to}
 use Rattle.pointset.proofs.Copied.{points_copied}
-
--- what is put at the start stands over what was there
-pub put_over : (l p : List ℕ) → spliced l 0 p ≡ over p l
-unfolding spliced
-put_over l p = ap (λ (k : ℕ). p ++ drop k l) (zero-add (length p))
 
 -- neither row
 no_rows : (b d : Bool) → ◌≡◌ {A = ℕ} (first_of (row Corners b ∷ row Buffer d ∷ [])) 0 → (b ≡ false) × (d ≡ false)
@@ -151,10 +145,10 @@ module _ (points : List ℕ) (has alpha : Bool) (listed : List ℕ) where
             record {
               answer = rw (none, eb) refl;
               slices = rw none (λ i. record {
-                sources = (es ∙ put_over s made.sources) i;
-                positions = (ep ∙ ap (spliced p 0) (sym (points_copied points (points_in points) q)) ∙ put_over p made.positions) i;
+                sources = (es ∙ splice_front s made.sources) i;
+                positions = (ep ∙ ap (spliced p 0) (sym (points_copied points (points_in points) q)) ∙ splice_front p made.positions) i;
                 normals = [];
-                colours = (rw eb at ec ∙ put_over c made.colours) i;
+                colours = (rw eb at ec ∙ splice_front c made.colours) i;
                 textures = [];
                 indices = [];
               });

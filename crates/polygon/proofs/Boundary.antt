@@ -12,7 +12,8 @@ use Rattle.lists.specs.Loops.{pick, tab}
 use Rattle.lists.proofs.Numbers.{before_suc}
 use Rattle.lists.proofs.Lists.{next_around}
 use Rattle.lists.proofs.Tests.{and_comm}
-use Rattle.polygon.specs.Ears.{Pt, Tri, remove, fan_from, fan, goes, first_ear, before, here, after, corner, clip, place, order, is_reversed, turn, ear_clip_by, ear_clip, outline}
+use Rattle.lists.specs.Lists.{remove}
+use Rattle.polygon.specs.Ears.{Pt, Tri, fan_from, fan, goes, first_ear, before, here, after, corner, clip, place, order, is_reversed, turn, ear_clip_by, ear_clip, outline}
 use Rattle.polygon.specs.Edges.{back, edge, named, tris, walk, around}
 use Rattle.polygon.specs.Face.{face_tris}
 use Rattle.polygon.proofs.Count.{goes_long, goes_ear, either}

@@ -9,7 +9,9 @@ use lib.ListN.{length, get_or}
 use lib.Ieee.{nan}
 use Rattle.lists.specs.Loops.{pick, All}
 use Rattle.lists.proofs.Lists.{All_get_or, All_by}
-use Rattle.polygon.specs.Ears.{Pt, Tri, remove, fan_from, fan, goes, first_ear, corner, clip, place, order, is_reversed, turn, ear_clip_by, ear_clip, outline, flat}
+use Rattle.lists.specs.Lists.{remove}
+use Rattle.lists.proofs.Removal.{all_remove}
+use Rattle.polygon.specs.Ears.{Pt, Tri, fan_from, fan, goes, first_ear, corner, clip, place, order, is_reversed, turn, ear_clip_by, ear_clip, outline, flat}
 use Rattle.polygon.specs.Edges.{Within}
 use Rattle.polygon.specs.Face.{face_tris}
 use Rattle.polygon.proofs.Keep.{place_in}
@@ -19,12 +21,6 @@ abbrev Each : (ℕ → Type 0) → List Tri → Type 0
 Each Q ts = All (λ (t : Tri). Q t.a × Q t.b × Q t.c) ts
 
 module _ (Q : ℕ → Type 0) where
-  all_remove : (i : ℕ) (l : List ℕ) → All Q l → All Q (remove i l)
-  unfolding remove
-  all_remove i [] a = tt
-  all_remove zero (x ∷ l) a = a.1
-  all_remove (suc i) (x ∷ l) a = (a.0, all_remove i l a.1)
-
   each_fan_from : (x : ℕ) (l : List ℕ) → Q x → All Q l → Each Q (fan_from x l)
   unfolding fan_from
   each_fan_from x [] q a = tt
@@ -39,7 +35,7 @@ module _ (Q : ℕ → Type 0) where
   each_clip : (P : ℕ → Pt) (k : ℕ) (l : List ℕ) → All Q l → Each Q (clip P k l)
   unfolding clip
   each_clip P zero l a = each_fan l a
-  each_clip P (suc k) l a = go (goes P l) refl (each_clip P k (remove (first_ear P l) l) (all_remove (first_ear P l) l a))
+  each_clip P (suc k) l a = go (goes P l) refl (each_clip P k (remove (first_ear P l) l) (all_remove Q (first_ear P l) l a))
     where
       go : (b : Bool) → goes P l ≡ b → Each Q (clip P k (remove (first_ear P l) l))
           → Each Q (pick b (corner l (first_ear P l) ∷ clip P k (remove (first_ear P l) l)) (fan l))

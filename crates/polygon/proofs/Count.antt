@@ -9,18 +9,13 @@ use lib.Dec.{eqb, leb, ltb}
 use lib.ListN.{length, get_or, length-map}
 use lib.Ieee.{nan}
 use Rattle.lists.specs.Loops.{pick, tab}
-use Rattle.polygon.specs.Ears.{Pt, Tri, triple, remove, fan_from, fan, goes, first_ear, corner, clip, place, order, is_reversed, turn, ear_clip_by, ear_clip, outline}
+use Rattle.lists.specs.Lists.{remove}
+use Rattle.lists.proofs.Removal.{length_remove}
+use Rattle.polygon.specs.Ears.{Pt, Tri, triple, fan_from, fan, goes, first_ear, corner, clip, place, order, is_reversed, turn, ear_clip_by, ear_clip, outline}
 use Rattle.polygon.specs.Face.{ear_clip_max, face_tris}
 use Rattle.polygon.specs.Fans.{is_fan}
 use Rattle.lists.proofs.Tabs.{length_tab}
 use Rattle.lists.proofs.Tests.{and_left, and_right}
-
-pub length_remove : (i : ℕ) (l : List ℕ) → i < length l → length (remove i l) ≡ length l - 1
-unfolding remove
-length_remove i [] h = let z : ⊥ = omega arith in absurd z
-length_remove zero (x ∷ l) h = omega arith
-length_remove (suc i) (x ∷ l) h =
-    let r : length (remove i l) ≡ length l - 1 = length_remove i l (omega arith) in omega arith
 
 pub length_order : (rev : Bool) (n : ℕ) → length (order rev n) ≡ n
 unfolding order

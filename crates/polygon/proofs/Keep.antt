@@ -14,53 +14,15 @@ use lib.Seq.{sets, get_or-set_same, get_or-set_other}
 use lib.Ieee.{le}
 use Rattle.lists.specs.Loops.{pick, any, tab, first}
 use Rattle.lists.proofs.Stores.{flag_gone}
-use Rattle.polygon.specs.Ears.{Pt, +0, cross2, point_in_tri, blocks, is_ear, before, here, after, remove, place, order}
-use Rattle.polygon.specs.Memo.{hits, hit, Tells, Once, ear_of, Clear, Stands, Known, word, finding, Sound, entry}
+use Rattle.lists.specs.Lists.{remove}
+use Rattle.lists.proofs.Removal.{any_remove, but}
+use Rattle.polygon.specs.Ears.{Pt, +0, cross2, point_in_tri, blocks, is_ear, before, here, after, place, order}
+use Rattle.lists.specs.Searches.{Once}
+use Rattle.polygon.specs.Memo.{hits, hit, Tells, ear_of, Clear, Stands, Known, word, finding, Sound, entry}
 use Rattle.polygon.specs.declared.memo.Finding.{Finding}
 use Rattle.polygon.specs.declared.memo.Finding.TheVariants.{Unknown, Bent, Blocked}
-use Rattle.lists.proofs.Tests.{both, never, and_yes, and_right, and_no, and_over, and_drop, none_head, none_tail, eqb_other}
-use Rattle.lists.proofs.Searches.{first_has, first_find, first_below, any_at, Found, any_tab_find, any_tab_has}
-
--- ---- a search in a list
-
-module _ (f : ℕ → Bool) where
-  any_remove_none : (i : ℕ) (l : List ℕ) → any f l ≡ false → any f (remove i l) ≡ false
-  unfolding any remove
-  any_remove_none i [] e = e
-  any_remove_none zero (x ∷ l) e = none_tail (f x) (any f l) e
-  any_remove_none (suc i) (x ∷ l) e =
-      let r : any f (remove i l) ≡ false = any_remove_none i l (none_tail (f x) (any f l) e) in
-      let q : f x ≡ false = none_head (f x) (any f l) e in
-      rw (q, r)
-
-pub once_remove : (i : ℕ) (l : List ℕ) → Once l → Once (remove i l)
-unfolding remove
-once_remove i [] o = tt
-once_remove zero (x ∷ l) o = o.1
-once_remove (suc i) (x ∷ l) o = (any_remove_none (eqb x) i l o.0, once_remove i l o.1)
-
--- the test g, of corners but x
-abbrev but : ℕ → (ℕ → Bool) → ℕ → Bool
-but x g k = not (eqb k x) && g k
-
-any_skip : (g : ℕ → Bool) (x : ℕ) (l : List ℕ) → any (eqb x) l ≡ false → any g l ≡ any (but x g) l
-unfolding any
-any_skip g x [] e = refl
-any_skip g x (y ∷ l) e =
-    let r : any g l ≡ any (but x g) l = any_skip g x l (none_tail (eqb x y) (any (eqb x) l) e) in
-    let q : eqb y x ≡ false = eqb_other x y (none_head (eqb x y) (any (eqb x) l) e) in
-    rw (q, r)
-
-any_remove : (g : ℕ → Bool) (l : List ℕ) (i : ℕ) → Once l → i < length l → any g (remove i l) ≡ any (but (get_or l i 0) g) l
-unfolding any remove
-any_remove g [] i o h = let z : ⊥ = omega arith in absurd z
-any_remove g (x ∷ l) zero o h =
-    let q : eqb x x ≡ true = eq-eqb x x refl in
-    any_skip g x l o.0 ∙ sym (ap (λ (b : Bool). pick (not b && g x) true (any (but x g) l)) q)
-any_remove g (y ∷ l) (suc i) o h =
-    let r : any g (remove i l) ≡ any (but (get_or l i 0) g) l = any_remove g l i o.1 (omega arith) in
-    let q : eqb y (get_or l i 0) ≡ false = any_at (eqb y) l i o.0 (omega arith) in
-    ap (λ (b : Bool). pick (g y) true b) r ∙ sym (ap (λ (b : Bool). pick (not b && g y) true (any (but (get_or l i 0) g) l)) q)
+use Rattle.lists.proofs.Tests.{both, never, and_yes, and_right, and_no, and_over, and_drop}
+use Rattle.lists.proofs.Searches.{first_has, first_find, first_below, Found, any_tab_find, any_tab_has}
 
 -- ---- a corner goes
 

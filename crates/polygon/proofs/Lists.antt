@@ -1,37 +1,18 @@
 -- Laws of the lists that the code holds: a removal, triangles in threes, a fan, the clip.
 use mathlib.Core.Path.{◌≡◌, refl, sym, ap, ◌∙◌, subst}
 use mathlib.Core.Bool.{Bool, true, false, ◌&&◌}
-use mathlib.Core.List.{List, [], ◌∷◌, ◌++◌, map}
+use mathlib.Core.List.{List, [], ◌∷◌, map}
 use Prim.Native.Nat.{ℕ, zero, suc, ◌+◌, ◌-◌, ◌*◌, ◌≤◌, ◌<◌}
 use native.Mathlib.Numerals.{add-one}
 use native.Mathlib.Omega.{arith}
 use borrow.Author.Tests.{le-ltb, lt-ltb}
 use lib.Dec.{ltb}
-use lib.ListN.{length, get_or, take, drop, length-drop}
-use lib.Seq.{drop-cons, sets, paste}
-use Rattle.std.proofs.lemmas.List.Edits.{take-paste}
-use Rattle.std.proofs.lemmas.List.{take_all}
+use lib.ListN.{length, get_or, drop, length-drop}
+use lib.Seq.{drop-cons, sets}
 use Rattle.lists.specs.Loops.{pick}
 use Rattle.lists.proofs.Tests.{and_no}
-use Rattle.polygon.specs.Ears.{Pt, Tri, triple, flat, turn, remove, fan, fan_from, clip, goes, first_ear, corner}
-
--- ---- a removal: what is behind moves down by one
-
-remove_is : (l : List ℕ) (i : ℕ) → i < length l → take i l ++ drop (suc i) l ≡ remove i l
-unfolding remove
-remove_is [] i h = let z : ⊥ = omega arith in absurd z
-remove_is (x ∷ l) zero h = refl
-remove_is (x ∷ l) (suc i) h = ap (λ (m : List ℕ). x ∷ m) (remove_is l i (omega arith))
-
-pub moved_down : (l : List ℕ) (i : ℕ) → i < length l → take (length l - 1) (paste l i (drop (i + 1) l) (length l - (i + 1))) ≡ remove i l
-moved_down l i h =
-    let e : length l - 1 ≡ i + (length l - (i + 1)) = omega arith in
-    let d : length (drop (i + 1) l) ≡ length l - (i + 1) = length-drop (i + 1) l in
-    ap (λ (k : ℕ). take k (paste l i (drop (i + 1) l) (length l - (i + 1)))) e
-    ∙ take-paste l i (drop (i + 1) l) (length l - (i + 1)) (omega arith) (omega arith)
-    ∙ ap (λ (m : List ℕ). take i l ++ m) (take_all _ _ (omega arith))
-    ∙ ap (λ (j : ℕ). take i l ++ drop j l) (add-one i)
-    ∙ remove_is l i h
+use Rattle.lists.specs.Lists.{remove}
+use Rattle.polygon.specs.Ears.{Pt, Tri, triple, flat, turn, fan, fan_from, clip, goes, first_ear, corner}
 
 -- ---- triangles
 

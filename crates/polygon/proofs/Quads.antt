@@ -10,7 +10,8 @@ use lib.ListN.{length}
 use lib.Seq.{sets}
 use lib.Ieee.{le}
 use Rattle.lists.specs.Loops.{pick, any, tab}
-use Rattle.polygon.specs.Ears.{Pt, Tri, triple, +0, cross2, point_in_tri, blocks, is_ear, first_ear, corner, remove, fan, fan_from, clip, place, order, turn, flat}
+use Rattle.lists.specs.Lists.{remove}
+use Rattle.polygon.specs.Ears.{Pt, Tri, triple, +0, cross2, point_in_tri, blocks, is_ear, first_ear, corner, fan, fan_from, clip, place, order, turn, flat}
 use Rattle.polygon.specs.Memo.{dot_of, spot_of}
 use Rattle.polygon.specs.declared.memo.Dot.{Dot}
 use Rattle.polygon.proofs.Lists.{sets_tri, clip_go, clip_short, clip_none, goes_on}

@@ -8,7 +8,8 @@ use Rattle.math.specs.Vector.{v3}
 use Rattle.math.specs.Order.{magnitude}
 use Rattle.lists.specs.Loops.{any, tab, run, first}
 use Rattle.polygon.specs.Facing.{newell_from, newell}
-use Rattle.polygon.specs.Ears.{triple, ear_clip, ear_clip_by, cross2, point_in_tri, blocks, is_ear, first_ear, remove, fan_from, fan, goes, clip, area_term, area, is_reversed, place, order, turn, outline}
+use Rattle.lists.specs.Lists.{remove}
+use Rattle.polygon.specs.Ears.{triple, ear_clip, ear_clip_by, cross2, point_in_tri, blocks, is_ear, first_ear, fan_from, fan, goes, clip, area_term, area, is_reversed, place, order, turn, outline}
 use Rattle.polygon.specs.Plane.{axis_of, flip_of, handed, projected, projection}
 use Rattle.polygon.specs.Face.{face_tris, triangles}
 

@@ -11,11 +11,14 @@ use Rattle.std.specs.Prelude.{Option}
 use Rattle.lists.specs.Loops.{first}
 use Rattle.lists.proofs.Stores.{put_back}
 use Rattle.lists.specs.Parts.{Full}
-use Rattle.polygon.specs.Ears.{Pt, Tri, triple, +0, cross2, blocks, is_ear, corner, remove, order}
-use Rattle.polygon.specs.Memo.{dot_of, inside, hits, hit, Tells, Once, ear_of, Known, word, Sound, Clear, found, Searched, Gone, Held}
+use Rattle.lists.specs.Lists.{remove}
+use Rattle.polygon.specs.Ears.{Pt, Tri, triple, +0, cross2, blocks, is_ear, corner, order}
+use Rattle.lists.specs.Searches.{Once, found}
+use Rattle.polygon.specs.Memo.{dot_of, inside, hits, hit, Tells, ear_of, Known, word, Sound, Clear, Searched, Gone, Held}
 use Rattle.polygon.specs.declared.memo.Dot.{Dot}
 use Rattle.polygon.specs.declared.memo.Finding.TheVariants.{Bent, Blocked}
-use Rattle.polygon.proofs.Keep.{stands_hit, sound_store, sound_start, sound_gone, tells_start, tells_gone, once_start, once_remove, hits_others, ear_bent, ear_found, ear_free, ear_is}
+use Rattle.lists.proofs.Removal.{once_remove}
+use Rattle.polygon.proofs.Keep.{stands_hit, sound_store, sound_start, sound_gone, tells_start, tells_gone, once_start, hits_others, ear_bent, ear_found, ear_free, ear_is}
 
 -- ---- the corners at a place of the order
 

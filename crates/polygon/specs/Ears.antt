@@ -2,6 +2,7 @@
 use Rattle.std.specs.Prelude.{ℕ, zero, suc, ◌+◌, ◌-◌, ◌*◌, ◌%◌, Bool, not, ◌&&◌, List, [], ◌∷◌, map, length, get_or, ltb, eqb, Float}
 use Rattle.std.specs.Float.{nan, binary32}
 use Rattle.std.specs.Float.Ieee.{add, sub, mul, lt, le, of_bits}
+use Rattle.lists.specs.Lists.{remove}
 use Rattle.lists.specs.Loops.{pick, any, tab, run, first}
 
 -- a point in the plane
@@ -58,12 +59,6 @@ is_ear P idx i =
 -- FORMAT 12.3, ear_clip: the place of the first ear; the length where there is none
 unfoldable pub first_ear : (ℕ → Pt) → List ℕ → ℕ
 first_ear P idx = first (is_ear P idx) (length idx) 0
-
--- FORMAT 12.3, ear_clip (idx.remove): the order without its place i
-unfoldable pub remove : ℕ → List ℕ → List ℕ
-remove i [] = []
-remove zero (x ∷ xs) = xs
-remove (suc i) (x ∷ xs) = x ∷ remove i xs
 
 -- FORMAT 12.1: x with each two neighbours of a list
 unfoldable pub fan_from : ℕ → List ℕ → List Tri

@@ -1,9 +1,11 @@
 -- FORMAT 12.3, how the code clips ears: the tables of its working slice, what it keeps of earlier searches, and what each thing that it keeps says.
-use Rattle.std.specs.Prelude.{ℕ, zero, suc, ◌+◌, ◌-◌, ◌*◌, ◌<◌, ◌≡◌, Bool, true, false, not, ◌&&◌, List, [], ◌∷◌, length, get_or, take, set, ltb, eqb, Option, Some, None, Float}
+use Rattle.std.specs.Prelude.{ℕ, zero, suc, ◌+◌, ◌-◌, ◌*◌, ◌<◌, ◌≡◌, Bool, true, false, not, ◌&&◌, List, [], length, get_or, take, set, ltb, eqb, Float}
 use Rattle.std.specs.Float.{nan}
 use Rattle.std.specs.Float.Ieee.{le}
+use Rattle.lists.specs.Searches.{Once}
 use Rattle.lists.specs.Loops.{pick, any, first}
-use Rattle.polygon.specs.Ears.{Pt, +0, cross2, point_in_tri, blocks, remove}
+use Rattle.lists.specs.Lists.{remove}
+use Rattle.polygon.specs.Ears.{Pt, +0, cross2, point_in_tri, blocks}
 use Rattle.polygon.specs.declared.memo.Dot.{Dot}
 use Rattle.polygon.specs.declared.memo.Finding.{Finding}
 use Rattle.polygon.specs.declared.memo.Finding.TheVariants.{Unknown, Bent, Blocked}
@@ -31,18 +33,9 @@ hits left g j = eqb (get_or left j 0) 1 && g j
 unfoldable pub hit : List ℕ → (ℕ → Bool) → ℕ
 hit left g = first (hits left g) (length left) 0
 
--- what a search of the numbers below n gives, where k is the first that passes; none where k is n
-unfoldable pub found : ℕ → ℕ → Option ℕ
-found n k = pick (ltb k n) (Some k) None
-
 -- `left` tells the corners of the order l: a test passes at some corner of l if it does at some corner that is left
 unfoldable pub Tells : List ℕ → List ℕ → Type 0
 Tells left l = (g : ℕ → Bool) → any g l ≡ ltb (hit left g) (length left)
-
--- no corner stands twice in an order
-abbrev pub Once : List ℕ → Type 0
-Once [] = Unit
-Once (x ∷ l) = (any (eqb x) l ≡ false) × Once l
 
 -- whether b is an ear between a and c, of the corners that are left
 unfoldable pub ear_of : (ℕ → Pt) → List ℕ → ℕ → ℕ → ℕ → Bool

@@ -1,7 +1,8 @@
 // FORMAT 12.3, ear_clip: the triangles of a polygon in the plane.
 ghost use Rattle.std.specs.Prelude.{◌≡◌, [], ◌∷◌, map, ◌+◌, ◌-◌, ◌*◌, ◌/◌, ◌^◌, ◌≤◌, ◌<◌, length, take};
 ghost use Rattle.std.proofs.lemmas.List.Edits.{sets};
-ghost use Rattle.polygon.specs.Ears.{triple, remove, corner, fan, clip, area, place, order, turn, ear_clip_by, flat};
+ghost use Rattle.lists.specs.Lists.{remove};
+ghost use Rattle.polygon.specs.Ears.{triple, corner, fan, clip, area, place, order, turn, ear_clip_by, flat};
 ghost use Rattle.polygon.specs.Memo.{xy, Gone, Held};
 
 use crate::four::{place_of_ear, put_both};

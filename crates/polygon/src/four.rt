@@ -2,7 +2,8 @@
 ghost use Rattle.std.specs.Prelude.{◌≡◌, ◌∷◌, map, ◌+◌, ◌<◌, ltb};
 ghost use Rattle.std.proofs.lemmas.List.Edits.{sets};
 ghost use Rattle.lists.specs.Loops.{pick};
-ghost use Rattle.polygon.specs.Ears.{is_ear, corner, remove, fan, clip, order, turn, flat};
+ghost use Rattle.lists.specs.Lists.{remove};
+ghost use Rattle.polygon.specs.Ears.{is_ear, corner, fan, clip, order, turn, flat};
 ghost use Rattle.polygon.specs.Memo.{xy};
 
 use crate::ears::{place_of, put_tri};

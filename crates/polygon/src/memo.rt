@@ -5,7 +5,8 @@ ghost use Rattle.std.proofs.lemmas.List.Edits.{sets};
 ghost use Rattle.std.specs.Float.Ieee.{le};
 ghost use Rattle.lists.specs.Loops.{pick, first};
 ghost use Rattle.polygon.specs.Ears.{+0, triple, corner, cross2, point_in_tri, blocks, is_ear, first_ear};
-ghost use Rattle.polygon.specs.Memo.{xy, dot_of, spot_of, inside, hits, hit, Clear, Tells, ear_of, finding, word, Known, Sound, entry, found, Searched};
+ghost use Rattle.lists.specs.Searches.{found};
+ghost use Rattle.polygon.specs.Memo.{xy, dot_of, spot_of, inside, hits, hit, Clear, Tells, ear_of, finding, word, Known, Sound, entry, Searched};
 
 use lists::{get, get_or, put};
 use std::simd::prelude::*;

@@ -5,19 +5,18 @@ use mathlib.Core.Bool.{Bool, true, false, cond}
 use mathlib.Core.List.{List, [], ◌∷◌, ◌++◌, map, map-append, map-map, append_assoc, append-nil}
 use native.Mathlib.Omega.{arith}
 use native.Mathlib.Nat.{mul-le-mul}
-use borrow.Author.Tests.{ltb-true}
-use lib.Dec.{eqb, ltb}
+use lib.Dec.{eqb}
 use lib.ListN.{length, length-map}
 use Rattle.lists.specs.Loops.{tab, All}
-use Rattle.lists.specs.Lists.{flat, total}
+use Rattle.lists.specs.Lists.{flat, total, all_below}
+use Rattle.lists.proofs.Below.{all_below_lem}
 use Rattle.lists.proofs.Lists.{All_map, All_of, All_of_map, All_by, All_flat, cond_long}
 use Rattle.lists.proofs.Pieces.{flat_append, map_flat}
 use Rattle.lists.proofs.Tabs.{map_tab}
 use Rattle.lists.proofs.Totals.{total_each}
-use Rattle.lists.proofs.Tests.{and_left, and_right}
 use Rattle.block.specs.declared.topology.Topology.{Topology}
 use Rattle.block.specs.declared.topology.Topology.TheVariants.{Triangles, Fans, Strips, Quads}
-use Rattle.block.specs.Runs.{ends_run, Run, run_of, runs_from, runs, all_below, kept, faces, corners, triangles, sum_over, totals}
+use Rattle.block.specs.Runs.{ends_run, Run, run_of, runs_from, runs, kept, faces, corners, triangles, sum_over, totals}
 use Rattle.block.proofs.Ends.{minus_one_ends, number_goes_on}
 use Rattle.block.proofs.RunLaws.{kept_all, face_kept}
 use Rattle.primitives.specs.Primitives.{stretches, primitive_count, places_of, primitive_of, primitive_run, stretch_runs, face_list}
@@ -145,11 +144,6 @@ width_four Triangles = omega arith
 width_four Fans = omega arith
 width_four Strips = omega arith
 width_four Quads = omega arith
-
-pub all_below_lem : (p : ℕ) (ws : List ℕ) → all_below p ws ≡ true → All (λ (w : ℕ). w < p) ws
-unfolding all_below
-all_below_lem p [] e = tt
-all_below_lem p (w ∷ ws) e = (ltb-true w p (and_left (ltb w p) (all_below p ws) e), all_below_lem p ws (and_right (ltb w p) (all_below p ws) e))
 
 -- a kept primitive: a face of the listing, whose entries end no run
 pub record Primitive (points : ℕ) (g : Topology) (ps : List ℕ) : Type 0 where

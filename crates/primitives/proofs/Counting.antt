@@ -10,13 +10,12 @@ use lib.Dec.{eqb, ltb}
 use lib.ListN.{length, get_or}
 use Rattle.std.specs.List.{filter, list_all, range_with_len}
 use Rattle.lists.specs.Loops.{tab, All}
-use Rattle.lists.specs.Lists.{flat}
+use Rattle.lists.specs.Lists.{flat, all_below}
 use Rattle.lists.proofs.Lists.{get_or_map_lt}
 use Rattle.lists.proofs.Pieces.{flat_go, flat_end}
 use Rattle.block.specs.declared.topology.Topology.{Topology}
 use Rattle.block.specs.declared.topology.Topology.TheVariants.{Triangles, Fans, Strips, Quads}
-use Rattle.block.specs.Runs.{all_below}
-use Rattle.block.proofs.RunLaws.{below_from}
+use Rattle.lists.proofs.Below.{below_from}
 use Rattle.primitives.specs.Primitives.{primitive_count, places_of, primitive_of}
 use Rattle.primitives.specs.Kept.{width_of, piece_of, kept_by}
 use Rattle.primitives.proofs.Closed.{places_long, primitive_long}

@@ -8,7 +8,7 @@ use lib.ListN.{length, take, drop, length-take, length-drop, length-append, drop
 use lib.Seq.{take_all}
 use Rattle.lists.specs.Loops.{tab}
 use Rattle.lists.specs.Lists.{flat}
-use Rattle.bits.specs.Bits.{table, entries}
+use Rattle.bits.specs.Bits.{entries}
 use Rattle.bits.proofs.Entries.{entries_length, entries_part}
 use Rattle.block.specs.declared.topology.Topology.{Topology}
 use Rattle.block.specs.declared.topology.Topology.TheVariants.{Triangles, Fans, Strips, Quads}
@@ -31,7 +31,7 @@ rest_part bs s h =
     }
 
 pub rest_past : (bs : List ℕ) (s : ℕ) → length bs / 4 ≤ s → StretchPart Triangles bs s []
-unfolding stretch_at entries table
+unfolding stretch_at entries tab
 rest_past bs s h = record { items = sym (drop_of_length-le (entries bs) {i = s} (omega (arith, entries_length bs))); within = omega arith }
 
 pub rest_quads : {bs r : List ℕ} {s : ℕ} → StretchPart Triangles bs s r → StretchPart Quads bs s r

@@ -2,9 +2,9 @@
 use mathlib.Core.Path.{◌≡◌, refl}
 use mathlib.Core.List.{[], ◌∷◌}
 use Rattle.block.specs.declared.topology.Topology.TheVariants.{Triangles, Fans, Strips, Quads}
-use Rattle.block.specs.Runs.{ends_run, runs_from, all_below}
+use Rattle.block.specs.Runs.{ends_run, runs_from}
 use Rattle.lists.specs.Loops.{tab}
-use Rattle.lists.specs.Lists.{flat}
+use Rattle.lists.specs.Lists.{flat, all_below}
 use Rattle.primitives.specs.Primitives.{stretches, primitive_count, places_of, primitive_of, primitive_run, stretch_runs, face_list}
 
 -- a last part that is not full gives nothing, and a bad triple does not realign the threes

@@ -1,10 +1,10 @@
 -- FORMAT 6.4: the primitives that name no point that is not there.
 use Rattle.std.specs.Prelude.{ℕ, cond, List, [], ◌∷◌, map, length}
 use Rattle.lists.specs.Loops.{tab}
-use Rattle.lists.specs.Lists.{flat}
+use Rattle.lists.specs.Lists.{flat, all_below}
 use Rattle.block.specs.declared.topology.Topology.{Topology}
 use Rattle.block.specs.declared.topology.Topology.TheVariants.{Triangles, Fans, Strips, Quads}
-use Rattle.block.specs.Runs.{Run, all_below}
+use Rattle.block.specs.Runs.{Run}
 use Rattle.primitives.specs.Primitives.{primitive_count, primitive_of, stretches}
 
 -- FORMAT 6.4: how many corners each has

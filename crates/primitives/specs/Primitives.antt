@@ -2,10 +2,10 @@
 -- IndexedTriangleSet, IndexedTriangleFanSet, IndexedTriangleStripSet, IndexedQuadSet.
 use Rattle.std.specs.Prelude.{ℕ, ◌+◌, ◌-◌, ◌*◌, ◌/◌, ◌%◌, cond, List, [], ◌∷◌, ◌++◌, map, eqb, length, get_or}
 use Rattle.lists.specs.Loops.{tab}
-use Rattle.lists.specs.Lists.{flat}
+use Rattle.lists.specs.Lists.{flat, all_below}
 use Rattle.block.specs.declared.topology.Topology.{Topology}
 use Rattle.block.specs.declared.topology.Topology.TheVariants.{Triangles, Fans, Strips, Quads}
-use Rattle.block.specs.Runs.{Run, run_of, runs, all_below}
+use Rattle.block.specs.Runs.{Run, run_of, runs}
 
 -- FORMAT 6.4: what primitives are taken from: the whole list of triangles or quads, where no entry separates; the runs of fans and strips
 unfoldable pub stretches : Topology → List ℕ → List Run

@@ -2,7 +2,7 @@
 ghost use Rattle.std.specs.Prelude.{◌≡◌, ◌-◌, ◌^◌, ◌<◌, get_or};
 ghost use Rattle.bits.specs.Bits.{entries};
 ghost use Rattle.block.specs.declared.topology.Topology.TheVariants.{Fans, Strips};
-ghost use Rattle.block.specs.Runs.{all_below};
+ghost use Rattle.lists.specs.Lists.{all_below};
 ghost use Rattle.primitives.specs.Primitives.{primitive_count, places_of, primitive_of};
 ghost use Rattle.primitives.specs.Kept.{width_of};
 

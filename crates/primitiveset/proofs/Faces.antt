@@ -6,13 +6,14 @@ use Prim.Native.Nat.{ℕ, suc, ◌+◌, ◌≤◌, ◌<◌}
 use native.Mathlib.Omega.{arith}
 use lib.ListN.{length, get_or, length-map}
 use Rattle.block.specs.declared.topology.Topology.{Topology}
-use Rattle.block.specs.Runs.{Run, all_below}
+use Rattle.block.specs.Runs.{Run}
 use Rattle.lists.specs.Loops.{All}
-use Rattle.lists.specs.Lists.{map_n}
+use Rattle.lists.specs.Lists.{map_n, all_below}
 use Rattle.lists.proofs.Lists.{All_of, All_map, All_get_or, length_map_n, get_or_map_n, get_or_map_lt}
 use Rattle.primitives.specs.Primitives.{stretches, places_of, primitive_of}
 use Rattle.primitives.specs.Kept.{width_of, kept_over, kept_primitives}
-use Rattle.primitives.proofs.Closed.{map_over, all_over, places_long, primitive_long, width_three, all_below_lem}
+use Rattle.lists.proofs.Below.{all_below_lem}
+use Rattle.primitives.proofs.Closed.{map_over, all_over, places_long, primitive_long, width_three}
 use Rattle.tables.specs.Listed.{Use, no_use, no_listing, Listing}
 use Rattle.faceset.specs.Listings.{use_of}
 use Rattle.faceset.specs.Adding.{points_used}

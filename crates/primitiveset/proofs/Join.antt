@@ -8,25 +8,26 @@ use borrow.Author.Tests.{ltb-true, ltb-false}
 use lib.Dec.{ltb}
 use lib.ListN.{length, get_or, take, drop, length-drop}
 use lib.Seq.{drop-drop, drop-append-add}
-use Rattle.bits.specs.Bits.{table, entries}
+use Rattle.bits.specs.Bits.{entries}
 use Rattle.bits.specs.declared.Words4.{Words4}
 use Rattle.bits.proofs.Entries.{entries_length}
 use Rattle.block.specs.declared.topology.Topology.{Topology}
 use Rattle.block.specs.declared.topology.Topology.TheVariants.{Triangles, Fans, Strips, Quads}
-use Rattle.block.specs.Runs.{Run, run_of, runs_from, runs, run_length, RunPart, next_start, all_below}
+use Rattle.block.specs.Runs.{Run, run_of, runs_from, runs, run_length, RunPart, next_start}
 use Rattle.block.specs.Stream.{number_at, stream_index, found_of, Corner, indexed}
 use Rattle.block.specs.Value.{value2_at, value3_at, value4_at}
 use Rattle.block.specs.Texture.{uv_words}
 use Rattle.block.proofs.Ends.{not_negative}
 use Rattle.block.proofs.RunLaws.{run_part_lem, run_le}
 use Rattle.block.proofs.StreamLaws.{stream_number}
-use Rattle.lists.specs.Loops.{All}
-use Rattle.lists.specs.Lists.{map_n, join_n, flat}
+use Rattle.lists.specs.Loops.{All, tab}
+use Rattle.lists.specs.Lists.{map_n, join_n, flat, all_below}
 use Rattle.lists.proofs.Lists.{All_map, All_of_map, All_at_map, All_both, head_left, in_drop, in_part}
 use Rattle.primitives.specs.Primitives.{primitive_count, places_of, primitive_of, face_list}
 use Rattle.primitives.specs.Kept.{kept_primitives}
 use Rattle.primitives.specs.Stretches.{stretch_at, stretches_left, StretchPart}
-use Rattle.primitives.proofs.Closed.{closed, closed_first, list_closed, all_over, all_below_lem, Primitive, primitives_are, goes_on}
+use Rattle.lists.proofs.Below.{all_below_lem}
+use Rattle.primitives.proofs.Closed.{closed, closed_first, list_closed, all_over, Primitive, primitives_are, goes_on}
 use Rattle.primitives.proofs.Counting.{places_within}
 use Rattle.primitives.proofs.Meeting.{rest_part, rest_quads, fan_part, strip_part, stretches_step, stretches_over, kept_start}
 use Rattle.mesh.specs.Words.{no2, no3, no4}
@@ -108,7 +109,7 @@ module _ (g : Topology) (bs : List ℕ) where
 
 module _ (own : List ℕ) (none : own ≡ []) {c c' : List ℕ} {k k' p : ℕ} (at : Corner c k p) (at' : Corner c' k' p) where
   number_same : (per_vertex : Bool) (num : ℕ) → number_at own c per_vertex k num ≡ number_at own c' per_vertex k' num
-  unfolding stream_index entries table
+  unfolding stream_index entries tab
   number_same per_vertex num =
       stream_number own c per_vertex k num p at ∙ rw none (go per_vertex) ∙ sym (stream_number own c' per_vertex k' num p at')
     where

@@ -2,9 +2,9 @@
 use mathlib.Core.Path.{◌≡◌, refl}
 use mathlib.Core.List.{[], ◌∷◌}
 use Rattle.block.specs.declared.topology.Topology.TheVariants.{Triangles, Strips}
-use Rattle.block.specs.Runs.{ends_run, runs_from, all_below}
+use Rattle.block.specs.Runs.{ends_run, runs_from}
 use Rattle.lists.specs.Loops.{tab}
-use Rattle.lists.specs.Lists.{map_n, flat}
+use Rattle.lists.specs.Lists.{map_n, flat, all_below}
 use Rattle.primitives.specs.Primitives.{stretches, primitive_count, places_of, primitive_of}
 use Rattle.primitives.specs.Kept.{piece_of, kept_by, kept_over}
 use Rattle.faceset.specs.Listings.{use_of}

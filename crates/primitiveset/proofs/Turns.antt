@@ -10,7 +10,8 @@ use lib.ListN.{length, get_or, set, drop, length-drop}
 use Rattle.bits.specs.Bits.{entries}
 use Rattle.bits.proofs.Entries.{entries_length}
 use Rattle.block.specs.declared.topology.Topology.{Topology}
-use Rattle.block.specs.Runs.{run_of, next_start, all_below}
+use Rattle.lists.specs.Lists.{all_below}
+use Rattle.block.specs.Runs.{run_of, next_start}
 use Rattle.lists.proofs.Lists.{head_left}
 use Rattle.primitives.specs.Primitives.{primitive_count, primitive_of}
 use Rattle.primitives.specs.Kept.{width_of}

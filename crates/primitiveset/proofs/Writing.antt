@@ -8,11 +8,12 @@ use lib.ListN.{length, get_or}
 use Rattle.bits.specs.Bits.{entries}
 use Rattle.bits.proofs.Entries.{entries_length}
 use Rattle.block.specs.declared.topology.Topology.{Topology}
-use Rattle.block.specs.Runs.{all_below}
+use Rattle.lists.specs.Lists.{all_below}
 use Rattle.lists.proofs.Lists.{All_get_or}
 use Rattle.primitives.specs.Primitives.{primitive_count, places_of, primitive_of}
 use Rattle.primitives.specs.Kept.{width_of}
-use Rattle.primitives.proofs.Closed.{places_long, primitive_long, all_below_lem}
+use Rattle.lists.proofs.Below.{all_below_lem}
+use Rattle.primitives.proofs.Closed.{places_long, primitive_long}
 use Rattle.primitives.proofs.Counting.{count_most, places_within, entry_at}
 
 -- the point of corner i is below the points of a kept primitive

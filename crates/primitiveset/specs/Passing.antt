@@ -3,7 +3,7 @@ use Rattle.std.specs.Prelude.{◌≡◌, true, List, ℕ, ◌+◌, ◌*◌, ◌/
 use Rattle.bits.specs.Bits.{entries}
 use Rattle.block.specs.Edition.{most}
 use Rattle.block.specs.declared.topology.Topology.{Topology}
-use Rattle.block.specs.Runs.{all_below}
+use Rattle.lists.specs.Lists.{all_below}
 use Rattle.primitives.specs.Primitives.{primitive_count, primitive_of}
 use Rattle.primitives.specs.Kept.{width_of, kept_over, kept_primitives}
 use Rattle.primitives.specs.Stretches.{stretches_left}

@@ -1,7 +1,8 @@
 // The kept primitives of a triangle, fan, strip or quad set, listed in one pass over the stretches of coordIndex (FORMAT 6.4).
 ghost use Rattle.std.specs.Prelude.{◌≡◌, ◌+◌, ◌/◌, ◌<◌, length};
 ghost use Rattle.bits.specs.Bits.{entries};
-ghost use Rattle.block.specs.Runs.{run_of, all_below};
+ghost use Rattle.lists.specs.Lists.{all_below};
+ghost use Rattle.block.specs.Runs.{run_of};
 ghost use Rattle.primitives.specs.Primitives.{primitive_of};
 ghost use Rattle.primitives.specs.Kept.{width_of};
 ghost use Rattle.primitives.specs.Stretches.{StretchPart};

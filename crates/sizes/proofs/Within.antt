@@ -8,9 +8,9 @@ use lib.Dec.{ltb}
 use lib.ListN.{length, length-append}
 use Rattle.block.specs.declared.topology.Topology.{Topology}
 use Rattle.block.specs.declared.topology.Topology.TheVariants.{Triangles, Fans, Strips, Quads}
-use Rattle.block.specs.Runs.{Run, ends_run, before, runs_from, runs, all_below, kept, triangles, sum_over}
+use Rattle.block.specs.Runs.{Run, ends_run, before, runs_from, runs, kept, triangles, sum_over}
 use Rattle.lists.specs.Loops.{tab}
-use Rattle.lists.specs.Lists.{flat}
+use Rattle.lists.specs.Lists.{flat, all_below}
 use Rattle.primitives.specs.Primitives.{stretches, primitive_count, primitive_of, face_list}
 use Rattle.primitives.specs.Kept.{width_of, piece_of, kept_by, kept_over, kept_primitives}
 use Rattle.primitives.proofs.Closed.{listing_triangles}

@@ -15,7 +15,8 @@ use Rattle.text.specs.declared.lines.Parts.{Parts}
 use Rattle.text.specs.Digits.{hexadecimal, decimal}
 use Rattle.text.specs.Fields.{word_field, number_field, fields, attribute}
 use Rattle.text.specs.Lines.{place_text, made_text, vertex_line, element_line, element_lines}
-use Rattle.text.specs.Answer.{one_if, counts_text, flags_text, head_line, mesh_text, refusal_text, long_text, text_room}
+use Rattle.std.specs.Int.{from_bool}
+use Rattle.text.specs.Answer.{counts_text, flags_text, head_line, mesh_text, refusal_text, long_text, text_room}
 use Rattle.text.proofs.ReadBack.{digits_most, digits_short}
 
 -- ---- pieces
@@ -91,7 +92,7 @@ elements_most w false n l b h =
     (flat_most (element_line 116 3 l) (2 + w * 3) (n / 3) 0 (λ i q. element_most w 116 3 l (0 + i) (λ j r. h (3 * (0 + i) + j) (omega arith))))
     (le_trans few all)
 
-flag_most : (b : Bool) → length (number_field (one_if b)) ≤ 2
+flag_most : (b : Bool) → length (number_field (from_bool b)) ≤ 2
 flag_most true = number_most 0 1 (omega arith)
 flag_most false = number_most 0 0 (omega arith)
 
@@ -101,9 +102,9 @@ head_most head v i =
     let counts =
     join_most (number_field head.vertices) (number_field head.indices) (number_most 2 head.vertices (omega arith)) (number_most 2 head.indices (omega arith)) in
     let flags : length (flags_text head) ≤ 7 =
-    join_most (number_field (one_if head.solid)) _ (flag_most head.solid)
-    (join_most (number_field (one_if head.unlit)) _ (flag_most head.unlit)
-    (join_most (number_field (one_if head.has_colors)) (10 ∷ []) {k = 1} (flag_most head.has_colors) (omega arith))) in
+    join_most (number_field (from_bool head.solid)) _ (flag_most head.solid)
+    (join_most (number_field (from_bool head.unlit)) _ (flag_most head.unlit)
+    (join_most (number_field (from_bool head.has_colors)) (10 ∷ []) {k = 1} (flag_most head.has_colors) (omega arith))) in
     let c : length (counts_text head) ≤ 12 = omega (arith, counts) in
     join_most (counts_text head) (flags_text head) c flags
 

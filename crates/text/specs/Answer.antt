@@ -1,5 +1,6 @@
 -- FORMAT 14: the text of a mesh, of a refusal, and of an input that is too long.
-use Rattle.std.specs.Prelude.{ℕ, Bool, true, false, List, [], ◌∷◌, ◌++◌}
+use Rattle.std.specs.Prelude.{ℕ, List, [], ◌∷◌, ◌++◌}
+use Rattle.std.specs.Int.{from_bool}
 use Rattle.lists.specs.Loops.{tab}
 use Rattle.lists.specs.Lists.{flat}
 use Rattle.mesh.specs.Mesh.{Slices}
@@ -8,19 +9,14 @@ use Rattle.text.specs.declared.lines.Parts.{Parts}
 use Rattle.text.specs.Fields.{number_field}
 use Rattle.text.specs.Lines.{vertex_line, element_lines}
 
--- FORMAT 14: solid, unlit and has_colors are 1 or 0
-abbrev pub one_if : Bool → ℕ
-one_if true = 1
-one_if false = 0
-
 -- FORMAT 14: "mesh" (109 101 115 104), vertices and indices
 unfoldable pub counts_text : Report → List ℕ
 counts_text head = 109 ∷ 101 ∷ 115 ∷ 104 ∷ (number_field head.vertices ++ number_field head.indices)
 
--- FORMAT 14: solid, unlit and has_colors, and the line feed
+-- FORMAT 14: solid, unlit and has_colors, each 1 or 0, and the line feed
 unfoldable pub flags_text : Report → List ℕ
 flags_text head =
-    number_field (one_if head.solid) ++ (number_field (one_if head.unlit) ++ (number_field (one_if head.has_colors) ++ (10 ∷ [])))
+    number_field (from_bool head.solid) ++ (number_field (from_bool head.unlit) ++ (number_field (from_bool head.has_colors) ++ (10 ∷ [])))
 
 -- FORMAT 14: the first line of a mesh
 unfoldable pub head_line : Report → List ℕ

@@ -9,7 +9,7 @@ use lib.Seq.{drop-cons, set_at, append_snoc, take-append_seam, take-length, leng
 use Rattle.lists.specs.Lists.{flat}
 use Rattle.mesh.specs.Words.{words2, words3, words4, point_words}
 use Rattle.mesh.specs.Vertices.{Key}
-use Rattle.lists.proofs.Lists.{All_of, All_of_map, middle, length_flat, in_flat, length_filled, three_at}
+use Rattle.lists.proofs.Lists.{middle, in_flat, length_words, length_filled, three_at}
 use Rattle.lists.proofs.Splices.{grow}
 use Rattle.vertices.specs.declared.places.Widths.{Widths}
 use Rattle.lists.specs.Parts.{seg, spliced}
@@ -20,10 +20,6 @@ use Rattle.vertices.specs.Adding.{position_of}
 -- ---- rows of n words, one for each key
 
 module _ (g : Key → List ℕ) (n : ℕ) (wide : (k : Key) → length (g k) ≡ n) where
-  rows_length : (ks : List Key) → length (flat (map g ks)) ≡ n * length ks
-  rows_length ks =
-      length_flat n (map g ks) (All_of_map (λ (x : List ℕ). length x ≡ n) g ks (All_of wide ks)) ∙ ap (λ (j : ℕ). n * j) (length-map ks g)
-
   rows_snoc : (ks : List Key) (k : Key) → flat (map g (ks ++ (k ∷ []))) ≡ flat (map g ks) ++ g k
   unfolding flat
   rows_snoc [] k = append-nil (g k)
@@ -31,14 +27,14 @@ module _ (g : Key → List ℕ) (n : ℕ) (wide : (k : Key) → length (g k) ≡
 
   -- a slice with room for m rows keeps its length
   pub rows_stay : (z l : List ℕ) (ks : List Key) (m : ℕ) → l ≡ flat (map g ks) ++ drop (n * length ks) z → length ks ≤ m → n * m ≤ length z → length l ≡ length z
-  rows_stay z l ks m e h r = ap length e ∙ length_filled z (flat (map g ks)) (n * length ks) (rows_length ks) (le_trans (mul-le-mul_left n h) r)
+  rows_stay z l ks m e h r = ap length e ∙ length_filled z (flat (map g ks)) (n * length ks) (length_words g n wide ks) (le_trans (mul-le-mul_left n h) r)
 
   -- row i is the i-th key's
   pub row_at : (l r : List ℕ) (ks : List Key) (i : ℕ) (d : Key) → l ≡ flat (map g ks) ++ r → i < length ks → seg l (n * i) n ≡ g (get_or ks i d)
   unfolding seg
   row_at l r ks i d e h =
       let p = flat (map g ks) in
-      let b : n * i + n ≤ length p = rw (rows_length ks, ← mul-suc n i) (mul-le-mul_left n h) in
+      let b : n * i + n ≤ length p = rw (length_words g n wide ks, ← mul-suc n i) (mul-le-mul_left n h) in
       ap (λ (x : List ℕ). take n (drop (n * i) x)) e
       ∙ middle (n * i) n (length p) (p ++ r) p b (take-append_seam p r ∙ sym (take-length p))
       ∙ in_flat g n wide ks i d h
@@ -48,7 +44,7 @@ module _ (g : Key → List ℕ) (n : ℕ) (wide : (k : Key) → length (g k) ≡
       → spliced l (n * m) (g k) ≡ flat (map g (ks ++ (k ∷ []))) ++ drop (n * length (ks ++ (k ∷ []))) z
   row_grow z l ks k m q e =
       let p = flat (map g ks) in
-      let a : length p ≡ n * m = rows_length ks ∙ ap (λ (j : ℕ). n * j) q in
+      let a : length p ≡ n * m = length_words g n wide ks ∙ ap (λ (j : ℕ). n * j) q in
       let b : length (ks ++ (k ∷ [])) ≡ suc m = length-append ks (k ∷ []) ∙ omega arith in
       grow p z l (g k) (n * m) (e ∙ ap (λ (j : ℕ). p ++ drop (n * j) z) q) a ∙ rw (wide k, b, mul-suc n m, rows_snoc ks k) refl
 
@@ -105,5 +101,5 @@ point_words_lem m p n v h l =
     let e : v * 3 ≡ 3 * v = omega arith in
     let e1 : p + (3 * v + 1) ≡ p + 3 * v + 1 = omega arith in
     let e2 : p + (3 * v + 2) ≡ p + 3 * v + 2 = omega arith in
-    three_at m (p + 3 * v) (omega arith)
+    three_at 0 m (p + 3 * v) (omega arith)
     ∙ rw (e, at (3 * v) (omega arith), at (3 * v + 1) (omega arith), at (3 * v + 2) (omega arith), e1, e2)

@@ -1,15 +1,15 @@
 -- A loop over corners: what holds after c of them, one corner more, and the number that each corner gets.
 use mathlib.Core.Path.{◌≡◌, refl, sym, ap, ap₂, ◌∙◌, subst}
 use mathlib.Core.Logic.{⊎_elim}
-use mathlib.Core.List.{List, [], ◌∷◌, ◌++◌, map}
+use mathlib.Core.List.{List, [], ◌∷◌, map}
 use Prim.Native.Nat.{ℕ, ◌+◌, ◌*◌, ◌-◌, ◌≤◌, ◌<◌}
-use native.Mathlib.Nat.{not-suc-le-zero, mul-zero, zero-add}
+use native.Mathlib.Nat.{not-suc-le-zero, mul-zero}
 use native.Mathlib.Omega.{arith}
 use lib.Dec.{T}
 use lib.ListN.{length, get_or, set, length-append, length-map, length-set}
 use lib.Seq.{take-set-le}
 use Rattle.lists.specs.Loops.{tab}
-use Rattle.lists.proofs.Tabs.{length_tab, tab_add}
+use Rattle.lists.proofs.Tabs.{length_tab, tab_add, tab_snoc}
 use Rattle.lists.specs.Lists.{has, place, meet, firsts, flat}
 use Rattle.mesh.specs.Vertices.{Key, same_key}
 use Rattle.lists.proofs.Lists.{meet_old, meet_new, T_true, middle, place_lt, length_firsts, firsts_append, has_firsts_new, length_filled}
@@ -32,10 +32,6 @@ use Rattle.vertices.proofs.Held.{laid_le, place_new, count_same, count_more}
 -- ---- the vertices of the first corners
 
 module _ (f : ℕ → Key) where
-  tab_more : (c : ℕ) → tab f (c + 1) 0 ≡ tab f c 0 ++ (f c ∷ [])
-  unfolding tab
-  tab_more c = tab_add f c 1 0 ∙ rw (zero-add c)
-
   pub made_none : made_of f 0 ≡ []
   unfolding made_of tab firsts
   made_none = refl
@@ -43,7 +39,7 @@ module _ (f : ℕ → Key) where
   -- one corner more is one key met
   pub made_more : (c : ℕ) → made_of f (c + 1) ≡ meet same_key (made_of f c) (f c)
   unfolding made_of firsts
-  made_more c = ap (firsts same_key []) (tab_more c) ∙ firsts_append same_key [] (tab f c 0) (f c ∷ [])
+  made_more c = ap (firsts same_key []) (tab_snoc f c) ∙ firsts_append same_key [] (tab f c 0) (f c ∷ [])
 
   -- at most one vertex a corner
   pub made_few : (c : ℕ) → length (made_of f c) ≤ c
@@ -54,7 +50,7 @@ module _ (f : ℕ → Key) where
 
   made_has : (c : ℕ) → T (has same_key (f c) (made_of f (c + 1)))
   unfolding made_of has
-  made_has c = rw (tab_more c, firsts_append) (has_firsts_new same_key same_key_sound same_key_self (f c) (firsts same_key [] (tab f c 0)) (f c ∷ []) self)
+  made_has c = rw (tab_snoc f c, firsts_append) (has_firsts_new same_key same_key_sound same_key_self (f c) (firsts same_key [] (tab f c 0)) (f c ∷ []) self)
     where
       self : T (has same_key (f c) (f c ∷ []))
       self = rw (T_true (same_key (f c) (f c)) (same_key_self (f c))) tt

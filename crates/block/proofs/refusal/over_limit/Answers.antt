@@ -1,7 +1,7 @@
 use Rattle.std.proofs.Common.{rules, tests, nat_lt, ◌∙◌}
 use Rattle.std.proofs.lemmas.Iterator.{YieldsList-from_slice}
 use Rattle.std.proofs.lemmas.Iterator.Search.{any_from_yields_List}
-use Rattle.block.proofs.RunLaws.{any_above}
+use Rattle.lists.proofs.Below.{any_above}
 use Rattle.block.proofs.refusal.over_limit.Goals as goal
 
 pub returns : goal.returns

@@ -5,7 +5,8 @@ use Rattle.std.proofs.lemmas.Iterator.Search.{all_from_yields_List}
 use Rattle.bits.specs.Bits.{entries}
 use Rattle.bits.proofs.Entries.{entries_length}
 use Rattle.bits.proofs.Chunks.{YieldsList-from_entries}
-use Rattle.block.proofs.RunLaws.{below_each, kept_short, kept_below_all}
+use Rattle.lists.proofs.Below.{below_each}
+use Rattle.block.proofs.RunLaws.{kept_short, kept_below_all}
 use Rattle.block.proofs.runs.is_kept.Goals as goal
 
 pub returns-then-run-ge3 : goal.returns-then-run-ge3

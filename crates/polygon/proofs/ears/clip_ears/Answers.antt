@@ -9,7 +9,7 @@ use Rattle.polygon.specs.Ears.{Tri, flat, turn, fan, clip, first_ear}
 use Rattle.polygon.specs.Memo.{xy}
 use Rattle.polygon.proofs.Lists.{clip_write, clip_short, clip_none}
 use Rattle.polygon.proofs.Turns.{held_turn}
-use Rattle.polygon.proofs.Blocks.{some_found, none_found}
+use Rattle.lists.proofs.Found.{some_found, none_found}
 use Rattle.polygon.proofs.ears.clip_ears.Goals as goal
 
 pub loop-t-init : goal.loop-t-init

@@ -2,7 +2,7 @@ use mathlib.Core.List.{List}
 use mathlib.Core.Path.{ap, ◌∙◌}
 use Prim.Native.Nat.{ℕ, ◌-◌}
 use lib.ListN.{length, take}
-use Rattle.polygon.proofs.Lists.{moved_down}
+use Rattle.lists.proofs.Removal.{moved_down}
 use Rattle.polygon.proofs.ears.take_out.Goals as goal
 
 pub returns : goal.returns

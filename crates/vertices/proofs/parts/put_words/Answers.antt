@@ -1,14 +1,17 @@
 use mathlib.Core.Path.{◌≡◌, refl, sym, ◌∙◌}
 use Prim.Native.Nat.{◌+◌, ◌-◌}
 use native.Mathlib.Omega.{arith}
+use Rattle.lists.specs.Parts.{seg}
+use Rattle.lists.proofs.Lists.{three_at}
 use Rattle.lists.proofs.Keep.{length_seg, part_seg}
 use Rattle.lists.proofs.Splices.{mid_spliced}
-use Rattle.lists.proofs.Words.{seg_two, seg_three, seg_four}
+use Rattle.lists.proofs.Words.{seg_two, seg_four}
 use Rattle.vertices.proofs.parts.put_words.Goals as goal
 
 pub returns-then-n-eq3 : goal.returns-then-n-eq3
+unfolding seg
 returns-then-n-eq3 c =
-    rw (c.if-n-eq3.true, seg_three c.args.src.now c.args.j (omega (arith, c.requires.1, c.if-n-eq3.true)))
+    rw (c.if-n-eq3.true, three_at 0 c.args.src.now c.args.j (omega (arith, c.requires.1, c.if-n-eq3.true)))
     c.put_all.ensures
 
 pub returns-then-n-eq4 : goal.returns-then-n-eq4

@@ -1,5 +1,5 @@
 use native.Mathlib.Omega.{arith}
-use Rattle.polygon.proofs.Blocks.{found_some, found_none}
+use Rattle.lists.proofs.Found.{found_some, found_none}
 use Rattle.polygon.proofs.memo.Field.block_hit.Goals as goal
 
 pub returns-then-k-lt-BLOCK : goal.returns-then-k-lt-BLOCK

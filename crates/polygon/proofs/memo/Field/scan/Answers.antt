@@ -1,7 +1,7 @@
 use Rattle.std.proofs.Common.{◌≡◌, true, false, rules, tests}
 use Rattle.std.proofs.lemmas.Iterator.{first_from_Range, serves_from_Range}
 use Rattle.polygon.specs.Memo.{xy, inside, hits}
-use Rattle.polygon.proofs.Blocks.{found_by}
+use Rattle.lists.proofs.Found.{found_by}
 use Rattle.polygon.proofs.memo.Field.scan.Goals as goal
 
 pub find-requires : goal.find-requires

@@ -4,7 +4,7 @@ use Prim.Native.Nat.{◌≤◌, ◌<◌}
 use native.Mathlib.Omega.{arith}
 use Rattle.lists.proofs.Numbers.{le_or_lt}
 use Rattle.polygon.specs.Memo.{xy, inside, hits}
-use Rattle.polygon.proofs.Blocks.{none_here, last_block}
+use Rattle.lists.proofs.Found.{none_here, last_block}
 use Rattle.polygon.proofs.memo.Field.scan_block.Goals as goal
 
 pub returns-then-not-is_block_near : goal.returns-then-not-is_block_near
@@ -15,5 +15,5 @@ returns-then-not-is_block_near c =
 pub returns : goal.returns
 returns c =
     c.block_hit.ensures
-    ∙ last_block (hits c.args.self.now.left.now (inside (xy c.args.self.now.p.now) c.args.self.now.t.a c.args.self.now.t.b c.args.self.now.t.c)) c.args.to (omega arith)
+    ∙ last_block (hits c.args.self.now.left.now (inside (xy c.args.self.now.p.now) c.args.self.now.t.a c.args.self.now.t.b c.args.self.now.t.c)) c.args.to 16 (omega arith)
     (λ j l. c.requires.3 j (omega arith))

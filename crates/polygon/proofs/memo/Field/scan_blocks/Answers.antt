@@ -1,7 +1,7 @@
 use mathlib.Core.Path.{sym, ◌∙◌}
 use native.Mathlib.Omega.{arith}
 use Rattle.polygon.specs.Memo.{hit}
-use Rattle.polygon.proofs.Blocks.{none_here, first_all, clear_to}
+use Rattle.lists.proofs.Found.{none_here, first_all, clear_to}
 use Rattle.polygon.proofs.memo.Field.scan_blocks.Goals as goal
 
 pub returns-in-Some : goal.returns-in-Some

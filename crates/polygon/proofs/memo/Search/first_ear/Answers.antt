@@ -4,7 +4,7 @@ use native.Mathlib.Omega.{arith}
 use Rattle.polygon.specs.Ears.{first_ear}
 use Rattle.lists.proofs.Loops.{first_go, first_stop, first_end}
 use Rattle.polygon.proofs.Turns.{searched_tells, searched_sound, searched_then}
-use Rattle.polygon.proofs.Blocks.{found_some, found_none}
+use Rattle.lists.proofs.Found.{found_some, found_none}
 use Rattle.polygon.proofs.memo.Search.first_ear.Goals as goal
 
 pub loop-i-init : goal.loop-i-init

@@ -1,7 +1,7 @@
 use mathlib.Core.Path.{refl, sym, ◌∙◌}
 use native.Mathlib.Omega.{arith}
 use Rattle.polygon.specs.Memo.{word}
-use Rattle.polygon.proofs.Blocks.{some_found, none_found}
+use Rattle.lists.proofs.Found.{some_found, none_found}
 use Rattle.polygon.proofs.Turns.{search_free, search_hit}
 use Rattle.polygon.proofs.memo.Search.search.Goals as goal
 

@@ -5,7 +5,7 @@ use Rattle.std.proofs.lemmas.Iterator.{YieldsList-from_range, serves_from_Range}
 use Rattle.std.proofs.lemmas.Iterator.Consumers.{YieldsList-from_filter, count_from_yields_List}
 use Rattle.bits.specs.Bits.{entries}
 use Rattle.bits.proofs.Entries.{entries_length}
-use Rattle.block.specs.Runs.{all_below}
+use Rattle.lists.specs.Lists.{all_below}
 use Rattle.primitives.specs.Primitives.{primitive_count, primitive_of}
 use Rattle.primitives.proofs.Counting.{count_most, count_kept}
 use Rattle.primitives.proofs.source.Source.kept_here.Goals as goal

@@ -1,13 +1,13 @@
--- Rows of one length, made by number.
-use mathlib.Core.Path.{◌≡◌, refl, ◌∙◌}
+-- Rows of one length, made by number: `tabs`.
+use mathlib.Core.Path.{◌≡◌, refl, ap, ◌∙◌}
+use mathlib.Core.List.{map}
 use Prim.Native.Nat.{ℕ, ◌*◌, ◌/◌, ◌%◌, ◌<◌}
 use native.Mathlib.Nat.{zero-add, add_comm}
 use Rattle.lists.specs.Loops.{tab}
 use Rattle.lists.proofs.Numbers.{column_of, row_of}
-use Rattle.lists.proofs.Pieces.{flat_table}
-use Rattle.lists.proofs.Tabs.{tab_shift}
-use Rattle.lists.specs.Lists.{total}
-use Rattle.mesh.specs.Quads.{tabs}
+use Rattle.lists.proofs.Pieces.{flat_table, map_flat}
+use Rattle.lists.proofs.Tabs.{tab_shift, map_tab}
+use Rattle.lists.specs.Lists.{total, flat, tabs}
 use Rattle.lists.proofs.Totals.{total_tab, total_flat}
 
 module _ {A : Type 0} where
@@ -22,3 +22,9 @@ pub total_tabs : {A : Type 0} (size : A → ℕ) (f : ℕ → ℕ → A) (w : �
 unfolding tabs
 total_tabs size f w h n m =
     total_flat size (tab (λ i. tab (f i) m 0) n 0) ∙ total_tab (total size) (λ i. tab (f i) m 0) (m * w) (λ i. total_tab size (f i) w (h i) m 0) n 0
+
+pub map_tabs : {A B : Type 0} (g : A → B) (f : ℕ → ℕ → A) (n m : ℕ) → map g (tabs f n m) ≡ tabs (λ (i j : ℕ). g (f i j)) n m
+unfolding tabs
+map_tabs g f n m =
+    map_flat g (tab (λ i. tab (f i) m 0) n 0)
+    ∙ ap flat (map_tab (λ i. tab (f i) m 0) (map g) n 0 ∙ (λ t. tab (λ i. map_tab (f i) g m 0 t) n 0))
