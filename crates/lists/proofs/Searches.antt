@@ -113,9 +113,6 @@ module _ (f : ℕ → Bool) where
         let t : f h ≡ true = ap f is ∙ first_find f (e - k) k (omega arith) in
         sym (past_to n k h (omega (arith, first_least (e - k) k)) (omega arith) before ∙ first_stop f n h (omega arith) t)
 
-    pub block_past : e ≤ h → first f (n - k) k ≡ first f (n - e) e
-    block_past l = past_to n k e up within (λ (j : ℕ) (a : k ≤ j) (b : j < e). before j a (omega arith))
-
 -- ---- a search in a list
 
 module _ (f : ℕ → Bool) where

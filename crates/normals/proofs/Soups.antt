@@ -120,8 +120,3 @@ generated_all {v} {w} {t} {ccw} S M rule =
     let E : (g : ℕ) → g < t.faces → normal_in w t g ≡ facing F (face_in w t g)
     = λ g h. M.normals g h ∙ facing_rule v t ccw rule g ∙ ap (facing F) (sym (face_kept M.kept t (omega arith) S g h)) in
     corners_all M.sound M.owned F E ∙ ap (normals_of F) (soup_kept M.kept t (omega arith) S)
-
--- corner c, by its face and its number, as the code reads them
-pub corner_is : (w : List ℕ) (t : Plan) (rule : CreaseRule) (c own p : ℕ) {v : V3} → v ≡ normal_at w t rule own p → own ≡ owner_in w t c → p ≡ gather_in w t c → v ≡ corner_normal_in w t rule c
-unfolding corner_normal_in
-corner_is w t rule c own p e eo ep = e ∙ (λ i. normal_at w t rule (eo i) (ep i))

@@ -35,13 +35,6 @@ module _ {w : List ℕ} {t : Plan} {b : Float} (k : Known) where
     alone = a;
   }
 
-  -- of no face
-  pub told_none : Ready w t → k.face ≡ t.faces → k.sum.alone ≡ false → Told w t b k
-  told_none R e f = record {
-    sum = λ c h eg eo. let o = R.owned c h in absurd (omega arith);
-    alone = λ q. absurd (true≢false (sym q ∙ f));
-  }
-
 -- ---- normals
 
 module _ {d e : List Float} {w : List ℕ} {t : Plan} {rule : CreaseRule} where
@@ -86,6 +79,3 @@ module _ {d e : List Float} {w : List ℕ} {t : Plan} {rule : CreaseRule} where
   part_all n P l r =
       let s = P.size in
       sym (take-append-drop (3 * t.count) e) ∙ λ i. made_each (corner_normal_in w t rule) e t.count (omega arith) (λ c b. P.made c (omega arith) b tt) i ++ P.behind i
-
-pub part_start : {d : List Float} {w : List ℕ} {t : Plan} {rule : CreaseRule} → Summed w t rule d → Partly d d w t rule 0 []
-part_start S = record { size = refl; behind = refl; made = λ c b. absurd (not-suc-le-zero b); summed = S }
