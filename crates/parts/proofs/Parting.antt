@@ -24,11 +24,12 @@ use Rattle.std.specs.Prelude.{Option, Some, None, Err, Ok, IfSome, MatchOption, 
 use Rattle.std.specs.Bool.{then_some}
 use Rattle.lent.specs.Answer.{refused, saying}
 use Rattle.parts.specs.declared.sizes.PartSizes.{PartSizes}
+use Rattle.parts.specs.declared.sizes.PartLengths.{PartLengths}
 use Rattle.parts.specs.declared.marks.Marks.{Marks}
 use Rattle.parts.specs.Round.{marks_of}
 use Rattle.parts.specs.declared.builder.Builder.{Builder}
 use Rattle.parts.specs.declared.vert.GeomCtx.{GeomCtx}
-use Rattle.parts.specs.Sizes.{is_short_texture, is_short_part, report_of, sum_of, no_sizes, sizes_where, Small, piece_most}
+use Rattle.parts.specs.Sizes.{is_short_texture, is_short_by, is_short_part, lengths_of, report_of, sum_of, no_sizes, sizes_where, Small, piece_most}
 use Rattle.parts.specs.Part.{Part, no_part, followed, finite_ctx, textures_of, part_mesh}
 use Rattle.parts.specs.Pushed.{position_words, normal_words, texture_words, texture_width, pushed, RoomFor}
 use Rattle.parts.specs.Cap.{cap_sizes}
@@ -176,11 +177,14 @@ module _ (c : GeomCtx) (ps : List Float) (p : Part) (b : Builder) {z : PartSizes
   abbrev lent : Slices
   lent = lent_to b.positions.now b.normals.now b.textures.now b.indices.now
 
+  abbrev lengths : PartLengths
+  lengths = lengths_of b 0
+
   wants : b.ctx.need_uvs ≡ c.need_uvs
   unfolding finite_ctx
   wants = ap (λ (x : GeomCtx). x.need_uvs) ec
 
-  texture_test : (w : Bool) → c.need_uvs ≡ w → ltb (length b.textures.now) (length (texture_words (finite_ctx c) p.verts)) ≡ is_short_texture b z
+  texture_test : (w : Bool) → c.need_uvs ≡ w → ltb (length b.textures.now) (length (texture_words (finite_ctx c) p.verts)) ≡ is_short_texture b.ctx z lengths
   unfolding is_short_texture finite_ctx textures_of flat
   texture_test true e =
       let q = textures_length (finite_ctx c) p.verts in
@@ -188,7 +192,7 @@ module _ (c : GeomCtx) (ps : List Float) (p : Part) (b : Builder) {z : PartSizes
   texture_test false e = rw (wants, e) (le-ltb (length b.textures.now) 0 (omega arith))
 
   short_is : is_short_for (made_for c p) lent ≡ is_short_part b z
-  unfolding is_short_for made_for slices_of part_mesh is_short_part flat
+  unfolding is_short_for made_for slices_of part_mesh is_short_part is_short_by flat
   short_is =
       let e : 3 * length p.verts ≡ 3 * z.vertices = ap (λ (k : ℕ). 3 * k) (sym Z.vertices) in
       let x = positions_length p.verts ∙ e in
@@ -196,7 +200,7 @@ module _ (c : GeomCtx) (ps : List Float) (p : Part) (b : Builder) {z : PartSizes
       let t = texture_test c.need_uvs refl in
       λ j. ltb (length b.positions.now) (x j) || (ltb (length b.normals.now) (y j) || (t j || ltb (length b.indices.now) (sym Z.indices j)))
 
-  number_is : asks b z (length ps) ≡ part_number c ps p lent
+  pub number_is : asks b z (length ps) ≡ part_number c ps p lent
   unfolding part_number part_rows first_of
   number_is = λ j. first_of (row Pairs (ltb (length ps / 2) (Z.pairs j)) ∷ row Buffer (sym short_is j) ∷ [])
 
@@ -224,7 +228,7 @@ module _ (c : GeomCtx) (ps : List Float) (p : Part) (b : Builder) {z : PartSizes
     not_short : is_short_part b z ≡ false
     not_short = no_pairs _ _ (sym e)
 
-    texture_room : (w : Bool) → b.ctx.need_uvs ≡ w → is_short_texture b z ≡ false → texture_width b.ctx * (0 + length p.verts) ≤ length b.textures.now
+    texture_room : (w : Bool) → b.ctx.need_uvs ≡ w → is_short_texture b.ctx z lengths ≡ false → texture_width b.ctx * (0 + length p.verts) ≤ length b.textures.now
     unfolding is_short_texture
     texture_room true e h =
         let q : 2 * z.vertices ≤ length b.textures.now = ltb-false _ _ (rw e at h) in
@@ -232,11 +236,11 @@ module _ (c : GeomCtx) (ps : List Float) (p : Part) (b : Builder) {z : PartSizes
     texture_room false e h = rw e (omega arith)
 
     pub call_roomy : Roomy p 0 0 b
-    unfolding is_short_part
+    unfolding is_short_part is_short_by
     call_roomy =
         let f = or_none (ltb (length b.positions.now) (3 * z.vertices)) _ not_short in
         let g = or_none (ltb (length b.normals.now) (3 * z.vertices)) _ f.1 in
-        let d = or_none (is_short_texture b z) _ g.1 in
+        let d = or_none (is_short_texture b.ctx z lengths) _ g.1 in
         let x : 3 * z.vertices ≤ length b.positions.now = ltb-false _ _ f.0 in
         let y : 3 * z.vertices ≤ length b.normals.now = ltb-false _ _ g.0 in
         let w : z.indices ≤ length b.indices.now = ltb-false _ _ d.1 in
@@ -245,7 +249,7 @@ module _ (c : GeomCtx) (ps : List Float) (p : Part) (b : Builder) {z : PartSizes
           places = omega (arith, w, Z.indices);
         }
 
-    made_parted : {b' : Builder} → Written p 0 0 b b' → Parted c ps p lent (lent_to b'.positions.now b'.normals.now b'.textures.now b'.indices.now) (Ok (report_of z))
+    pub made_parted : {b' : Builder} → Written p 0 0 b b' → Parted c ps p lent (lent_to b'.positions.now b'.normals.now b'.textures.now b'.indices.now) (Ok (report_of z))
     unfolding part_result report_of made_for slices_of part_mesh pushed flat
     made_parted {b'} W =
         let s : streams_in b' ≡ pushed (finite_ctx c) 0 p.verts (streams_in b) = W.streams ∙ ap (λ (x : GeomCtx). pushed x 0 p.verts (streams_in b)) ec in

@@ -5,7 +5,9 @@ use Rattle.std.specs.Float.Ieee.Scale.{finite}
 use Rattle.math.specs.Vector.{zero_f}
 use Rattle.lent.specs.declared.answer.Report.{Report}
 use Rattle.parts.specs.declared.builder.Builder.{Builder}
+use Rattle.parts.specs.declared.sizes.PartLengths.{PartLengths}
 use Rattle.parts.specs.declared.sizes.PartSizes.{PartSizes}
+use Rattle.parts.specs.declared.vert.GeomCtx.{GeomCtx}
 
 -- FORMAT 17.2, dim: positive and finite, or the default
 unfoldable pub dim_of : Float → Float → Float
@@ -16,16 +18,31 @@ unfoldable pub held_to : ℕ → ℕ → ℕ
 held_to n least = cond (ltb n least) least (cond (ltb 1024 n) 1024 n)
 
 -- FORMAT 17.10: texture that is not wanted asks for nothing
-unfoldable pub is_short_texture : Builder → PartSizes → Bool
-is_short_texture b z = b.ctx.need_uvs && ltb (length b.textures.now) (2 * z.vertices)
+unfoldable pub is_short_texture : GeomCtx → PartSizes → PartLengths → Bool
+is_short_texture c z l = c.need_uvs && ltb l.textures (2 * z.vertices)
 
 -- FORMAT 17.10, 8, by numbers: a lent slice is shorter than what is to be written to it
+unfoldable pub is_short_by : GeomCtx → PartSizes → PartLengths → Bool
+is_short_by c z l =
+    ltb l.positions (3 * z.vertices)
+    || (ltb l.normals (3 * z.vertices)
+    || (is_short_texture c z l
+    || ltb l.indices z.indices))
+
+-- FORMAT 17.1: the lengths of the slices that b holds, and a list of so many floats as pairs
+abbrev pub lengths_of : Builder → ℕ → PartLengths
+lengths_of b floats =
+    record {
+      positions = length b.positions.now;
+      normals = length b.normals.now;
+      textures = length b.textures.now;
+      indices = length b.indices.now;
+      floats = floats;
+    }
+
+-- FORMAT 17.10, 8: a slice that b holds is shorter; the number of floats is not asked
 unfoldable pub is_short_part : Builder → PartSizes → Bool
-is_short_part b z =
-    ltb (length b.positions.now) (3 * z.vertices)
-    || (ltb (length b.normals.now) (3 * z.vertices)
-    || (is_short_texture b z
-    || ltb (length b.indices.now) z.indices))
+is_short_part b z = is_short_by b.ctx z (lengths_of b 0)
 
 -- FORMAT 17.11: solid, lit and without colours
 unfoldable pub report_of : PartSizes → Report

@@ -15,6 +15,6 @@ pub use cap::{Cap, MINUS_Y, cap_sizes};
 pub use marks::{Marks, marks_of};
 pub use ring::{Ring, cosine_at, float_at, ring_at, share, sine_at};
 pub use round::{Round, round_of};
-pub use sizes::{NO_PART, PartSizes, dim, held, part_report, sum_sizes};
+pub use sizes::{NO_PART, PartLengths, PartSizes, dim, held, part_refusal, part_report, sum_sizes};
 pub use turns::put_words;
 pub use vert::{GeomCtx, Vert, finite_ctx};

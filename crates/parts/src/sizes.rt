@@ -2,9 +2,10 @@
 ghost use Rattle.std.specs.Prelude.{◌≡◌, [], ◌∷◌, ◌/◌, ◌≤◌, ◌<◌, ◌^◌, ltb};
 ghost use Rattle.block.specs.declared.refusal.Refusal.TheVariants.{Pairs, Buffer};
 ghost use Rattle.block.specs.Refusal.{refused_as, row, first_of};
-ghost use Rattle.parts.specs.Sizes.{dim_of, held_to, is_short_texture, is_short_part, report_of, sum_of};
+ghost use Rattle.parts.specs.Sizes.{dim_of, held_to, is_short_texture, is_short_by, is_short_part, report_of, sum_of};
 
 use crate::builder::Builder;
+use crate::vert::GeomCtx;
 use block::Refusal;
 use lent::Report;
 
@@ -15,6 +16,16 @@ pub struct PartSizes {
     pub vertices: usize,
     pub indices: usize,
     pub pairs: usize,
+}
+
+// The lengths of the lent slices, and of the list of pairs in floats.
+#[derive(Clone, Copy)]
+pub struct PartLengths {
+    pub positions: usize,
+    pub normals: usize,
+    pub textures: usize,
+    pub indices: usize,
+    pub floats: usize,
 }
 
 // Those of no part. A constant and no Default: the name says what three zeros would not, and the definitions have it as `no_sizes`.
@@ -51,36 +62,50 @@ pub fn held(n: u32, least: u32) -> usize
 }
 
 // Each length is divided, and no number of vertices multiplied: so nothing is asked of it.
+#[tactic(auto, unfolding(crate::specs::Sizes::is_short_texture))]
+fn is_short_texture(c: GeomCtx, z: PartSizes, l: PartLengths) -> bool
+    ensures { result ≡ is_short_texture c z l }
+{
+    c.need_uvs && l.textures / 2 < z.vertices
+}
+
+#[tactic(auto, unfolding(crate::specs::Sizes::is_short_by))]
+fn is_short_by(c: GeomCtx, z: PartSizes, l: PartLengths) -> bool
+    ensures { result ≡ is_short_by c z l }
+{
+    l.positions / 3 < z.vertices
+        || l.normals / 3 < z.vertices
+        || is_short_texture(c, z, l)
+        || l.indices < z.indices
+}
+
+// Of a part of these sizes, by the lengths of what is lent, or is to be: 10, and then 8.
+#[tactic(auto, unfolding(block::specs::Refusal::first_of))]
+pub fn part_refusal(c: GeomCtx, z: PartSizes, l: PartLengths) -> Result<(), Refusal>
+    ensures { refused_as result ≡ first_of (row Pairs (ltb (l.floats / 2) z.pairs) ∷ row Buffer (is_short_by c z l) ∷ []) }
+{
+    if l.floats / 2 < z.pairs {
+        return Err(Refusal::Pairs);
+    }
+    if is_short_by(c, z, l) {
+        return Err(Refusal::Buffer);
+    }
+    Ok(())
+}
+
 impl Builder<'_> {
-    #[tactic(auto, unfolding(crate::specs::Sizes::is_short_texture))]
-    fn is_short_texture(&self, z: PartSizes) -> bool
-        ensures { result ≡ is_short_texture self.now z }
-    {
-        self.ctx.need_uvs && self.textures.len() / 2 < z.vertices
-    }
-
-    #[tactic(auto, unfolding(crate::specs::Sizes::is_short_part))]
-    fn is_short(&self, z: PartSizes) -> bool
-        ensures { result ≡ is_short_part self.now z }
-    {
-        self.positions.len() / 3 < z.vertices
-            || self.normals.len() / 3 < z.vertices
-            || self.is_short_texture(z)
-            || self.indices.len() < z.indices
-    }
-
-    // Of a part of these sizes, with a list of so many floats as pairs: 10, and then 8.
-    #[tactic(auto, unfolding(block::specs::Refusal::first_of))]
+    // Of a part of these sizes, with a list of so many floats as pairs.
     pub fn refusal(&self, z: PartSizes, floats: usize) -> Result<(), Refusal>
         ensures { refused_as result ≡ first_of (row Pairs (ltb (floats / 2) z.pairs) ∷ row Buffer (is_short_part self.now z) ∷ []) }
     {
-        if floats / 2 < z.pairs {
-            return Err(Refusal::Pairs);
-        }
-        if self.is_short(z) {
-            return Err(Refusal::Buffer);
-        }
-        Ok(())
+        let l = PartLengths {
+            positions: self.positions.len(),
+            normals: self.normals.len(),
+            textures: self.textures.len(),
+            indices: self.indices.len(),
+            floats,
+        };
+        part_refusal(self.ctx, z, l)
     }
 }
 

@@ -9,5 +9,5 @@ mod refusal;
 mod triangles;
 mod whole;
 
-pub use answer::{PathsAnswer, PathsRefusal};
+pub use answer::{PathsAnswer, PathsRefusal, number_of};
 pub use whole::test_paths;
