@@ -1,6 +1,6 @@
 /*
  * The converter for C and C++ (docs/FORMAT.md 15): link target/staticlib/libhost.a, on x86-64 Linux. Of the host's C
- * library it uses memcpy and memset. hosts/example.c is a program that calls it.
+ * library it uses memcpy and memset at most. hosts/example.c is a program that calls it.
  *
  * What is promised (docs/PROMISES.md) is proved of a host that keeps to this:
  *
@@ -12,7 +12,7 @@
  *   changes that for the whole program, and so did, with gcc 12.2, a shared library linked with it. Then the mesh
  *   may be another: a duct whose cross-section is (0, 0), (1, 0), (1, 1), (0, 1), (1e-40, 0) lost two of its fourteen
  *   triangles. A host that cannot be sure puts _mm_setcsr(0x1f80) before the call and its own mode back after it.
- * - Stack. Some 3.6 KiB: 3,672 bytes were the most in 1.3 million fuzzed calls, arguments included, and there is no
+ * - Stack. Some 4.1 KiB: 4,112 bytes were the most in 1.3 million fuzzed calls, arguments included, and there is no
  *   recursion. Leave 8 KiB, which is all that the fuzzing gives a call (compare/README.md).
  *
  * There is no state outside the arguments, so threads may call at the same time, each with slices of its own; they may
@@ -116,7 +116,7 @@ sitemesh_sincos sitemesh_sin_cos(float angle);
 
 /*
  * Parts (docs/FORMAT.md 17): PointSet, Box, Sphere, Cylinder and Cone of VRML97, of numbers in place of a block. What is
- * said above of slices, floats, stack and threads holds here too, for what is read as for the block; 872 bytes of stack were
+ * said above of slices, floats, stack and threads holds here too, for what is read as for the block; 1,240 bytes of stack were
  * the most in 2.2 million fuzzed calls, and filling pairs by sitemesh_sin_cos takes its 4.1 KiB. A call returns
  * SITEMESH_OK and writes `result` as above; or SITEMESH_CORNERS, SITEMESH_PAIRS or SITEMESH_BUFFER, tried in this order,
  * and then every lent element is what it was. hosts/part.c is a program that calls them.

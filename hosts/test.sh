@@ -9,6 +9,12 @@ source tests/tally.sh
 
 rm -rf "$out" target/example_c target/example_rs
 mkdir -p "$out"
+# What hosts/sitemesh.h says that a host's C library has to have.
+if have 'the names from outside' nm; then
+    nm -u "$archive" > "$out/outside" && ! sed -n 's/^ *U //p' "$out/outside" | grep -vE '^(memcpy|memset)$'
+    tally 'the archive needs no name from outside but memcpy and memset' $?
+fi
+
 callers=()
 cc -std=c99 -O2 -Wall -Wextra -Wpedantic -Werror hosts/call.c "$archive" -o "$out/call_c"
 tally 'hosts/call.c compiles' $?

@@ -8,15 +8,16 @@ ghost use Rattle.mesh.specs.Words.{words4, point_words};
 ghost use Rattle.pointset.specs.PointSet.{colours_in, colour_at};
 
 use block::ONE;
+use lists::put_all;
 use parts::put_words;
 use tables::{narrow, put_each};
 
-// The first n words. Kept beside the library's `copy_from_slice`, as its contract says once what that leaves of the other words.
+// The first n words. Not by the library's `copy_from_slice`, for which the archive for C would need `memmove` from outside.
 pub fn copy_words(from: &[u32], to: &mut [u32], n: usize)
     requires { (n ≤ length from.now) × (n ≤ length to.old) }
     ensures { to.new ≡ spliced to.old 0 (take n from.now) }
 {
-    to[..n].copy_from_slice(&from[..n]);
+    put_all(to, 0, &from[..n]);
 }
 
 // Source k is k.

@@ -64,7 +64,7 @@ fn put_words(dst: &mut [u32], at: usize, src: &[u32], j: usize, n: usize)
         put_all(dst, at, &[src[j], src[j + 1]]);
         return;
     }
-    dst[at..at + n].copy_from_slice(&src[j..j + n]);
+    put_all(dst, at, &src[j..j + n]);
 }
 
 // Row i of dst, of another width, as with `is_other_row`.

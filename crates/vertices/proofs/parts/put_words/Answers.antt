@@ -1,10 +1,9 @@
-use mathlib.Core.Path.{◌≡◌, refl, sym, ◌∙◌}
-use Prim.Native.Nat.{◌+◌, ◌-◌}
+use mathlib.Core.Path.{refl, sym}
+use Prim.Native.Nat.{◌+◌}
 use native.Mathlib.Omega.{arith}
 use Rattle.lists.specs.Parts.{seg}
 use Rattle.lists.proofs.Lists.{three_at}
-use Rattle.lists.proofs.Keep.{length_seg, part_seg}
-use Rattle.lists.proofs.Splices.{mid_spliced}
+use Rattle.lists.proofs.Keep.{part_seg}
 use Rattle.lists.proofs.Words.{seg_two, seg_four}
 use Rattle.vertices.proofs.parts.put_words.Goals as goal
 
@@ -25,7 +24,4 @@ returns-then-n-eq2 c =
     c.put_all-then-n-eq2.ensures
 
 pub returns : goal.returns
-returns c =
-    let k : c.args.at + c.args.n - c.args.at ≡ c.args.n = omega arith in
-    let s = length_seg c.args.src.now c.args.j c.args.n c.requires.1 in
-    mid_spliced _ _ _ (c.copy_from_slice.ensures.after ∙ part_seg _ _ _ c.args.n refl) (s ∙ sym k)
+returns c = rw (sym (part_seg c.args.src.now c.args.j (c.args.j + c.args.n) c.args.n refl)) c.put_all-2.ensures
