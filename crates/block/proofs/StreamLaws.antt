@@ -40,11 +40,11 @@ given_or false w = refl
 
 module _ (list : List ℕ) (k : ℕ) where
   module _ (e : length list / 4 ≡ 0) where
-    itself_fits : k < 2 ^ 32 → Some k ≡ number_in list k
+    pub itself_fits : k < 2 ^ 32 → Some k ≡ number_in list k
     unfolding number_in itself
     itself_fits h = rw (entries_length, eq-eqb _ _ e, lt-ltb k (2 ^ 32) h)
 
-    itself_large : 2 ^ 32 ≤ k → None ≡ number_in list k
+    pub itself_large : 2 ^ 32 ≤ k → None ≡ number_in list k
     unfolding number_in itself
     itself_large h = rw (entries_length, eq-eqb _ _ e, le-ltb k (2 ^ 32) h)
 

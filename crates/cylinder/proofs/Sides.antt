@@ -75,12 +75,12 @@ module _ (ps : List Float) (r h : Float) (n : ℕ) where
     small_a : Small piece_most z
     small_a = rw ez (where_small piece_most side (side_sizes n) (side_small n low))
 
-    upper_numbered : Numbered (cap_of h true z)
+    pub upper_numbered : Numbered (cap_of h true z)
     upper_numbered = record { few = low; first_low = omega (arith, small_a.vertices); pair_low = omega (arith, small_a.pairs) }
 
   -- and the bottom
   module _ (side top bottom : Bool) {m : Marks} (low : n ≤ 1024) (em : m ≡ marks_of (a side) n top bottom) where
-    top_is : m.top ≡ a side
+    pub top_is : m.top ≡ a side
     unfolding marks_of
     top_is = λ t. (em t).top
 

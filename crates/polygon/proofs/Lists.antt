@@ -40,7 +40,7 @@ fan_step : (x y z : ℕ) (r m : List ℕ) → m ≡ z ∷ r → fan_from x (y �
 unfolding fan_from
 fan_step x y z r m e = subst (λ (m : List ℕ). fan_from x (y ∷ m) ≡ triple x y z ∷ fan_from x m) (sym e) refl
 
-fan_go : (x : ℕ) (l : List ℕ) (k : ℕ) → k + 1 < length l → fan_from x (drop k l) ≡ triple x (get_or l k 0) (get_or l (k + 1) 0) ∷ fan_from x (drop (k + 1) l)
+pub fan_go : (x : ℕ) (l : List ℕ) (k : ℕ) → k + 1 < length l → fan_from x (drop k l) ≡ triple x (get_or l k 0) (get_or l (k + 1) 0) ∷ fan_from x (drop (k + 1) l)
 fan_go x l k h =
     ap (λ (m : List ℕ). fan_from x m) (drop-cons l k 0 (omega arith))
     ∙ fan_step x (get_or l k 0) (get_or l (suc k) 0) (drop (suc (suc k)) l) (drop (suc k) l) (drop-cons l (suc k) 0 (omega arith))

@@ -104,7 +104,7 @@ places_within Strips n k h = go (eqb (k % 2) 1)
 places_within Quads n k h = (omega arith, (omega arith, (omega arith, (omega arith, tt))))
 
 -- the entry of corner i
-primitive_at : (g : Topology) (es : List ℕ) (k i : ℕ) → i < width_of g → get_or (primitive_of g es k) i 0 ≡ get_or es (get_or (places_of g k) i 0) 0
+pub primitive_at : (g : Topology) (es : List ℕ) (k i : ℕ) → i < width_of g → get_or (primitive_of g es k) i 0 ≡ get_or es (get_or (places_of g k) i 0) 0
 unfolding primitive_of
 primitive_at g es k i h = get_or_map_lt (λ (j : ℕ). get_or es j 0) (places_of g k) i 0 0 (let l = places_long g k in omega arith)
 
