@@ -41,14 +41,21 @@ fn is_short(z: Sizes, l: Lengths) -> bool
     l.floats < working
 }
 
-// All rows. The sizes are counted once, where the rows 1 to 6 and 9 let the block pass, and handed on.
+// All rows. The sizes are counted once, where the rows 1 to 6 and 9 let the block pass, and handed on. A match and not `?` (tried): what is answered in
+// place of an earlier row's refusal is then held against `Judged` (edit buffer_before_corners), where with `?` a change that means the same is refused too.
 pub fn verdict_for(block: &[u8], h: Header, l: Lengths) -> Result<Sizes, Refusal>
     requires { h ≡ header_of block.now }
     ensures { Judged block.now h (refusal block.now l) result }
 {
-    let z = sizes::verdict_to_7(block, h)?;
-    if is_short(z, l) {
-        return Err(Refusal::Buffer);
+    match sizes::verdict_to_7(block, h) {
+        Err(no) => {
+            return Err(no);
+        }
+        Ok(z) => {
+            if is_short(z, l) {
+                return Err(Refusal::Buffer);
+            }
+            return Ok(z);
+        }
     }
-    Ok(z)
 }
